@@ -1,0 +1,36 @@
+-- The code's answers, case by case, as the definitions' answers: document 01's numbers and values.
+use Prim.Native.Nat.{ℕ, _<_}
+use mathlib.Core.Path.{_≡_}
+use mathlib.Core.List.{List}
+use mathlib.Core.Option.{Option, none, some}
+use Rattle.tokens.specs.Tokens.{Toks, toks, Next, found, nothing, refused, first}
+use Rattle.tokens.specs.declared.Step.{Step}
+use Rattle.tokens.specs.declared.Step.the-variants.{Token, Nothing, Refused}
+use Rattle.tokens.specs.declared.Fault.{Fault}
+use Rattle.tokens.specs.declared.Fault.the-variants.{Clean, Faulty}
+use Rattle.tokens.specs.declared.Lead.{Lead}
+use Rattle.tokens.specs.declared.Lead.the-variants.{On, To}
+
+abbrev pub nextOf : Step → Next
+nextOf (Token p l) = found p l
+nextOf Nothing = nothing
+nextOf (Refused n p) = refused n p
+
+abbrev pub faultTold : Fault → Option (ℕ × ℕ)
+faultTold Clean = none
+faultTold (Faulty n p) = some (n, p)
+
+-- the next token, where reading is led on to a place or to an answer
+abbrev pub ledTo : List ℕ → Lead → Next
+ledTo text (On i) = first (toks text i)
+ledTo text (To s) = nextOf s
+
+-- on is further on
+abbrev pub Ahead : ℕ → Lead → Type 0
+Ahead at (On i) = at < i
+Ahead at (To s) = Unit {0}
+
+-- from the place `at`, where the tokens ts stand, reading is led to r
+pub record Leads (text : List ℕ) (at : ℕ) (ts : Toks) (r : Lead) : Type 0 where
+  pub led : first ts ≡ ledTo text r
+  pub ahead : Ahead at r

@@ -1,0 +1,6 @@
+pub mod Written
+pub mod Bytes
+pub mod Classes
+pub mod Refusals
+pub mod Tokens
+pub mod Answers

@@ -1,0 +1,432 @@
+// The token rules: the next token from a place, and what is wrong with a whole text as bytes.
+ghost use mathlib.Core.Path.{_≡_};
+ghost use Prim.Native.Nat.{_+_, _<_};
+ghost use lib.ListN.{getD, length, drop};
+ghost use Rattle.tokens.specs.Tokens.{run, line, block, lex, toks, nextToken, faultOf};
+ghost use Rattle.tokens.specs.Classes.{classOf};
+ghost use Rattle.tokens.specs.Answers.{nextOf, faultTold, Leads};
+
+pub enum Step {
+    // its place in the whole text and its length
+    Token(usize, usize),
+    Nothing,
+    // the number of the refusal, and the place
+    Refused(u8, usize),
+}
+
+pub enum Fault {
+    Clean,
+    // the number of the refusal, and the place
+    Faulty(u8, usize),
+}
+
+// Where reading is led: on to a place outside comments, or to an answer.
+pub enum Lead {
+    On(usize),
+    To(Step),
+}
+
+// What each byte is, by its number: 0 not allowed, 1 a blank, 2 a token alone, 3 a byte of a word.
+const CLASS: [u8; 256] = [
+    0,
+    0,
+    0,
+    0,
+    0,
+    0,
+    0,
+    0,
+    0,
+    1,
+    1,
+    0,
+    0,
+    1,
+    0,
+    0,
+    0,
+    0,
+    0,
+    0,
+    0,
+    0,
+    0,
+    0,
+    0,
+    0,
+    0,
+    0,
+    0,
+    0,
+    0,
+    0,
+    1,
+    2,
+    2,
+    2,
+    2,
+    2,
+    2,
+    2,
+    2,
+    2,
+    2,
+    2,
+    2,
+    2,
+    3,
+    2,
+    3,
+    3,
+    3,
+    3,
+    3,
+    3,
+    3,
+    3,
+    3,
+    3,
+    2,
+    2,
+    2,
+    2,
+    2,
+    2,
+    2,
+    3,
+    3,
+    3,
+    3,
+    3,
+    3,
+    3,
+    3,
+    3,
+    3,
+    3,
+    3,
+    3,
+    3,
+    3,
+    3,
+    3,
+    3,
+    3,
+    3,
+    3,
+    3,
+    3,
+    3,
+    3,
+    3,
+    2,
+    2,
+    2,
+    2,
+    3,
+    2,
+    3,
+    3,
+    3,
+    3,
+    3,
+    3,
+    3,
+    3,
+    3,
+    3,
+    3,
+    3,
+    3,
+    3,
+    3,
+    3,
+    3,
+    3,
+    3,
+    3,
+    3,
+    3,
+    3,
+    3,
+    3,
+    3,
+    2,
+    2,
+    2,
+    2,
+    0,
+    0,
+    0,
+    0,
+    0,
+    0,
+    0,
+    0,
+    0,
+    0,
+    0,
+    0,
+    0,
+    0,
+    0,
+    0,
+    0,
+    0,
+    0,
+    0,
+    0,
+    0,
+    0,
+    0,
+    0,
+    0,
+    0,
+    0,
+    0,
+    0,
+    0,
+    0,
+    0,
+    0,
+    0,
+    0,
+    0,
+    0,
+    0,
+    0,
+    0,
+    0,
+    0,
+    0,
+    0,
+    0,
+    0,
+    0,
+    0,
+    0,
+    0,
+    0,
+    0,
+    0,
+    0,
+    0,
+    0,
+    0,
+    0,
+    0,
+    0,
+    0,
+    0,
+    0,
+    0,
+    0,
+    0,
+    0,
+    0,
+    0,
+    0,
+    0,
+    0,
+    0,
+    0,
+    0,
+    0,
+    0,
+    0,
+    0,
+    0,
+    0,
+    0,
+    0,
+    0,
+    0,
+    0,
+    0,
+    0,
+    0,
+    0,
+    0,
+    0,
+    0,
+    0,
+    0,
+    0,
+    0,
+    0,
+    0,
+    0,
+    0,
+    0,
+    0,
+    0,
+    0,
+    0,
+    0,
+    0,
+    0,
+    0,
+    0,
+    0,
+    0,
+    0,
+    0,
+    0,
+    0,
+    0,
+    0,
+    0,
+    0,
+    0,
+    0,
+    0,
+    0,
+    0,
+    0,
+    0,
+];
+
+fn class(b: u8) -> u8
+    ensures { λ r. ⌜ r ≡ classOf b ⌝ }
+{
+    CLASS[b as usize]
+}
+
+// The byte at a place, or 0 past the end.
+fn byte_at(text: &[u8], at: usize) -> u8
+    ensures { λ r. ⌜ r ≡ getD (now (text .entry)) at 0 ⌝ }
+{
+    if at < text.len() { text[at] } else { 0 }
+}
+
+// Where the word bytes from a place on end.
+fn word_end(text: &[u8], at: usize) -> usize
+    ensures { λ r. ⌜ r ≡ at + length (run (drop at (now (text .entry)))) ⌝ }
+{
+    let mut i = at;
+    while i < text.len() {
+        if class(text[i]) != 3 {
+            return i;
+        }
+        i += 1;
+    }
+    i
+}
+
+// In a `//`, from a place behind the two bytes on.
+fn behind_line(text: &[u8], at: usize) -> Lead
+    ensures { λ r. ⌜ Leads (now (text .entry)) at (lex line at (drop at (now (text .entry)))) r ⌝ }
+{
+    let mut i = at;
+    while i < text.len() {
+        let b = text[i];
+        if b == 10 {
+            return Lead::On(i + 1);
+        }
+        if class(b) == 0 {
+            return Lead::To(Step::Refused(2, i));
+        }
+        i += 1;
+    }
+    Lead::To(Step::Nothing)
+}
+
+// In a `/*` that opens at `open`, from a place behind the two bytes on.
+fn behind_block(text: &[u8], open: usize, at: usize) -> Lead
+    ensures { λ r. ⌜ Leads (now (text .entry)) at (lex (block «open») at (drop at (now (text .entry)))) r ⌝ }
+{
+    let mut i = at;
+    while i < text.len() {
+        let b = text[i];
+        if class(b) == 0 {
+            return Lead::To(Step::Refused(2, i));
+        }
+        if b == 42 {
+            if byte_at(text, i + 1) == 47 {
+                return Lead::On(i + 2);
+            }
+        }
+        i += 1;
+    }
+    Lead::To(Step::Refused(3, open))
+}
+
+// At a `/`: a comment, or a token alone.
+fn at_slash(text: &[u8], at: usize) -> Lead
+    requires { ⌜ at < length (now text) ⌝ }
+    requires { ⌜ getD (now text) at 0 ≡ 47 ⌝ }
+    ensures { λ r. ⌜ Leads (now (text .entry)) at (toks (now (text .entry)) at) r ⌝ }
+{
+    let b = byte_at(text, at + 1);
+    if b == 47 {
+        return behind_line(text, at + 2);
+    }
+    if b == 42 {
+        return behind_block(text, at, at + 2);
+    }
+    Lead::To(Step::Token(at, 1))
+}
+
+// At a byte outside comments.
+fn at_byte(text: &[u8], at: usize) -> Lead
+    requires { ⌜ at < length (now text) ⌝ }
+    ensures { λ r. ⌜ Leads (now (text .entry)) at (toks (now (text .entry)) at) r ⌝ }
+{
+    let b = text[at];
+    let c = class(b);
+    if c == 3 {
+        let e = word_end(text, at + 1);
+        return Lead::To(Step::Token(at, e - at));
+    }
+    if c == 1 {
+        return Lead::On(at + 1);
+    }
+    if c == 0 {
+        return Lead::To(Step::Refused(2, at));
+    }
+    if b == 47 {
+        return at_slash(text, at);
+    }
+    Lead::To(Step::Token(at, 1))
+}
+
+// The next token from a place on, as if reading began there.
+pub fn next_token(text: &[u8], at: usize) -> Step
+    ensures { λ r. ⌜ nextOf r ≡ nextToken (now (text .entry)) at ⌝ }
+{
+    if 65536 < text.len() {
+        return Step::Refused(1, 0);
+    }
+    let mut i = at;
+    while i < text.len() {
+        match at_byte(text, i) {
+            Lead::On(k) => {
+                i = k;
+            }
+            Lead::To(s) => {
+                return s;
+            }
+        }
+    }
+    Step::Nothing
+}
+
+// What is wrong with the whole text as bytes: too long, a byte that is not allowed, a comment that is not closed.
+pub fn fault_in(text: &[u8]) -> Fault
+    ensures { λ r. ⌜ faultTold r ≡ faultOf (now (text .entry)) ⌝ }
+{
+    let mut at = 0;
+    loop {
+        match next_token(text, at) {
+            Step::Token(p, l) => {
+                at = p + l;
+            }
+            Step::Nothing => {
+                return Fault::Clean;
+            }
+            Step::Refused(n, p) => {
+                return Fault::Faulty(n, p);
+            }
+        }
+    }
+}
