@@ -1,0 +1,17 @@
+pub mod Refusals
+pub mod Bounds
+pub mod Lists
+pub mod Reader
+pub mod Names
+pub mod Signals
+pub mod Groups
+pub mod Timing
+pub mod Body
+pub mod Data
+pub mod Statements
+pub mod Document
+pub mod Run
+pub mod Meaning
+pub mod Services
+pub mod Open
+pub mod Samples

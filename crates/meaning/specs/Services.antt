@@ -1,0 +1,143 @@
+-- The services as functions of the text, the numbers and the lent bytes (document 01, "The services"). The token service is that of `tokens`.
+use Prim.Native.Nat.{ℕ, zero, suc, _+_, _*_, _-_, min}
+use mathlib.Core.Bool.{Bool, true, false, _&&_}
+use mathlib.Core.Option.{Option, none, some}
+use mathlib.Core.List.{List, [], _∷_, _++_}
+use lib.ListN.{length, take, drop}
+use lib.Dec.{leb, eqb}
+use Rattle.tokens.specs.Tokens.{Tok}
+use Rattle.meaning.specs.Refusals.{noSuch, noRoom}
+use Rattle.meaning.specs.Timing.{Event, Wave, Tables}
+use Rattle.meaning.specs.Run.{Cycle, unassigned, size, cycles, cyclesOf, visits}
+use Rattle.meaning.specs.Meaning.{Answer, given, refused, answering, tableAt, Meaning, meaning, firsts}
+
+-- ---- Check: five numbers
+
+pub record Counts : Type 0 where
+  pub signals : ℕ
+  pub tables : ℕ
+  pub listed : ℕ
+  pub cycles : ℕ
+  pub size : ℕ
+
+unfoldable pub counts : Meaning → Counts
+counts m = record {
+  signals = length (m .signals);
+  tables = length (m .tables);
+  listed = m .listed;
+  cycles = cycles 0 (m .run);
+  size = size (m .run);
+}
+
+unfoldable pub check : List ℕ → Answer Counts
+check text = answering (meaning text) λ m. given (counts m)
+
+-- ---- Name: the place and length of a signal's name, or a table's, by its number
+
+pub data Which : Type 0 where
+  signal table : Which
+
+unfoldable pub namesOf : Which → Meaning → List Tok
+namesOf signal m = m .signals
+namesOf table m = firsts (m .tables)
+
+unfoldable pub nameAt : List Tok → ℕ → Answer (ℕ × ℕ)
+nameAt [] k = refused noSuch 0
+nameAt (t ∷ ts) zero = given (t .at, length (t .word))
+nameAt (t ∷ ts) (suc k) = nameAt ts k
+
+unfoldable pub nameOf : List ℕ → Which → ℕ → Answer (ℕ × ℕ)
+nameOf text w k = answering (meaning text) λ m. nameAt (namesOf w m) k
+
+-- ---- Window: rows, and the visits
+
+-- what stands in a row for a signal: its character, or `.`
+unfoldable pub shown : ℕ → ℕ
+shown c = elim (eqb c unassigned) [ true ↦ 46 | false ↦ c ]
+
+unfoldable pub shownAll : List ℕ → List ℕ
+shownAll [] = []
+shownAll (c ∷ cs) = shown c ∷ shownAll cs
+
+-- the table's number as a digit (a cycle without one is refused 17)
+unfoldable pub digitOf : Option ℕ → ℕ
+digitOf none = 48
+digitOf (some k) = 48 + k
+
+unfoldable pub row : Cycle → List ℕ
+row c = shownAll (c .pins) ++ digitOf (c .table) ∷ 10 ∷ []
+
+unfoldable pub rows : List Cycle → List ℕ
+rows [] = []
+rows (c ∷ cs) = row c ++ rows cs
+
+-- the bytes of a row over n signals
+unfoldable pub rowWidth : ℕ → ℕ
+rowWidth n = n + 2
+
+pub record Window : Type 0 where
+  pub count : ℕ
+  pub visits : ℕ
+  pub buffer : List ℕ
+
+-- min(wanted, cycles left)
+unfoldable pub rowsDue : Meaning → ℕ → ℕ → ℕ
+rowsDue m first wanted = min wanted (cycles 0 (m .run) - first)
+
+unfoldable pub widthOf : Meaning → ℕ
+widthOf m = rowWidth (length (m .signals))
+
+unfoldable pub windowRows : Meaning → ℕ → ℕ → List ℕ
+windowRows m first wanted = rows (take (rowsDue m first wanted) (drop first (cyclesOf (length (m .signals)) (m .run))))
+
+unfoldable pub windowOf : Meaning → ℕ → ℕ → List ℕ → Answer Window
+windowOf m first wanted buffer =
+    let bytes = rowsDue m first wanted * widthOf m in
+    elim (leb bytes (length buffer)) [
+      | false ↦ refused noRoom 0
+      | true ↦ given (record {
+        count = rowsDue m first wanted;
+        visits = visits 0 (m .run) first;
+        buffer = windowRows m first wanted ++ drop bytes buffer;
+      })
+    ]
+
+unfoldable pub window : List ℕ → ℕ → ℕ → List ℕ → Answer Window
+window text first wanted buffer = answering (meaning text) λ m. windowOf m first wanted buffer
+
+-- ---- Waveform: the events of a table, signal and character
+
+unfoldable pub waveOf : ℕ → ℕ → List Wave → Option (List Event)
+waveOf s c [] = none
+waveOf s c (w ∷ ws) = elim (eqb (w .signal) s && eqb (w .char) c) [ true ↦ some (w .events) | false ↦ waveOf s c ws ]
+
+unfoldable pub timesOf : List Event → List ℕ
+timesOf [] = []
+timesOf (e ∷ es) = e .time ∷ timesOf es
+
+unfoldable pub lettersOf : List Event → List ℕ
+lettersOf [] = []
+lettersOf (e ∷ es) = e .letter ∷ lettersOf es
+
+pub record Waveform : Type 0 where
+  pub count : ℕ
+  pub times : List ℕ
+  pub letters : List ℕ
+
+unfoldable pub eventsOut : List Event → List ℕ → List ℕ → Answer Waveform
+eventsOut es times letters =
+    elim (leb (length es) (length times) && leb (length es) (length letters)) [
+      | false ↦ refused noRoom 0
+      | true ↦ given (record {
+        count = length es;
+        times = timesOf es ++ drop (length es) times;
+        letters = lettersOf es ++ drop (length es) letters;
+      })
+    ]
+
+unfoldable pub waveform : List ℕ → ℕ → ℕ → ℕ → List ℕ → List ℕ → Answer Waveform
+waveform text k s c times letters = answering (meaning text) λ m.
+    elim (waveOf s c (tableAt (m .tables) k)) [
+      | none ↦ refused noSuch 0
+      | some es ↦ eventsOut es times letters
+    ]
