@@ -13,5 +13,6 @@ pub mod Document
 pub mod Run
 pub mod Meaning
 pub mod Services
+pub mod Windows
 pub mod Open
 pub mod Samples
