@@ -331,9 +331,9 @@ fn behind_line(text: &[u8], at: usize) -> Lead
     Lead::To(Step::Nothing)
 }
 
-// In a `/*` that opens at `open`, from a place behind the two bytes on.
-fn behind_block(text: &[u8], open: usize, at: usize) -> Lead
-    ensures { λ r. ⌜ Leads (now (text .entry)) at (lex (block «open») at (drop at (now (text .entry)))) r ⌝ }
+// In a `/*` that opens at `opening`, from a place behind the two bytes on.
+fn behind_block(text: &[u8], opening: usize, at: usize) -> Lead
+    ensures { λ r. ⌜ Leads (now (text .entry)) at (lex (block opening) at (drop at (now (text .entry)))) r ⌝ }
 {
     let mut i = at;
     while i < text.len() {
@@ -348,7 +348,7 @@ fn behind_block(text: &[u8], open: usize, at: usize) -> Lead
         }
         i += 1;
     }
-    Lead::To(Step::Refused(3, open))
+    Lead::To(Step::Refused(3, opening))
 }
 
 // At a `/`: a comment, or a token alone.
