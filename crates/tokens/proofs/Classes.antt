@@ -50,7 +50,7 @@ within b a z h k e =
 single : (b a : ℕ) → allowed a ≡ true → eqb b a ≡ true → allowed b ≡ true
 single b a h e = ap allowed (eqb-true b a e) ∙ h
 
-wordy-allowed : (b : ℕ) → wordy b ≡ true → allowed b ≡ true
+pub wordy-allowed : (b : ℕ) → wordy b ≡ true → allowed b ≡ true
 unfolding wordy letter digit allowed blank between
 wordy-allowed b =
     either (letter b || digit b || eqb b 95) (eqb b 46)

@@ -1,2 +1,5 @@
 mod Classes
 mod Reading
+mod Stream
+pub mod Laws
+pub mod Faults
