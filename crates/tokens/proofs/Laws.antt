@@ -37,9 +37,9 @@ unfolds text at t ts e =
     record {
       bytes = w .begins .bytes ∙ ap (λ (l : List ℕ). take (length (t .word)) l) d;
       rest =
-        w .begins .rest
-        ∙ ap (lex plain (t .at + length (t .word)))
-        (ap (drop (length (t .word))) d ∙ drop-drop (length (t .word)) (t .at) text);
+          w .begins .rest
+          ∙ ap (lex plain (t .at + length (t .word)))
+          (ap (drop (length (t .word))) d ∙ drop-drop (length (t .word)) (t .at) text);
       from = omega (arith, w .place);
       some = w .begins .some;
       within = omega (arith, w .begins .short, w .begins .some);
@@ -95,9 +95,9 @@ at-token text at p l e = by (toks text at) refl (read text at (found p l) (λ z.
         let b : length (t .word) ≡ l = cc in
         record {
           stream =
-            h ∙ ap (λ (w : List ℕ). tok (record { at = t .at; word = w }) ts) (u .bytes)
-            ∙ ap (tok (record { at = t .at; word = take (length (t .word)) (drop (t .at) text) })) (u .rest)
-            ∙ rw (a, b);
+              h ∙ ap (λ (w : List ℕ). tok (record { at = t .at; word = w }) ts) (u .bytes)
+              ∙ ap (tok (record { at = t .at; word = take (length (t .word)) (drop (t .at) text) })) (u .rest)
+              ∙ rw (a, b);
           from = omega (arith, u .from);
           some = omega (arith, u .some);
           within = omega (arith, u .within);

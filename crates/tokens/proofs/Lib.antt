@@ -3,3 +3,4 @@ mod Reading
 mod Stream
 pub mod Laws
 pub mod Faults
+mod Samples

@@ -1,3 +1,4 @@
+-- `at_byte` meets its contract: the class of the byte says what it does.
 use mathlib.Core.Path.{refl}
 use native.Mathlib.Omega.{arith}
 use Rattle.tokens.specs.Tokens.{plain, toks}
@@ -6,66 +7,60 @@ use Rattle.tokens.proofs.Reading.{led-to, led-on, bad-stops, blank-goes
 use borrow.Author.Needs.{needs}
 use Rattle.tokens.proofs.at_byte.Statement.{statement}
 use Rattle.tokens.proofs.at_byte.Tie as tie
-use Rattle.tokens.proofs.at_byte.Reads as reads
-use Rattle.tokens.proofs.at_byte.Lts as lts
-use Rattle.tokens.proofs.at_slash.Reads as at-slash-reads
-use Rattle.tokens.proofs.class.Reads as class-reads
-use Rattle.tokens.proofs.word_end.Reads as word-end-reads
 
--- src/lib.rt:375:13
 shared-slice-read-b : tie.Need-shared-slice-read-b
 shared-slice-read-b c = search needs
 
--- src/lib.rt:376:9
 class-requires : tie.Need-class-requires
 class-requires c κs = search needs
 
--- src/lib.rt:378:32
 add-word-end : tie.Need-add-word-end
 add-word-end c = search needs
 
--- src/lib.rt:378:13
 word-end-requires : tie.Need-word-end-requires
 word-end-requires c κs = search needs
 
--- src/lib.rt:379:41
 sub-t9 : tie.Need-sub-t9
 sub-t9 c = search needs
 
--- src/lib.rt:379:9
 returns : tie.Need-returns
-returns c = 
+returns c =
+    let inside = c .before .before .before .before .before .pre in
     let e = c .before .before .class .ensures in
-    led-to refl (word-found _ _ _ (c .before .before .before .before .before .pre) (is-allowed _ _ e (λ z. omega arith)) (is-word _ _ e (c .before .if1 .taken)) (c .word-end .ensures))
+    led-to refl
+    (word-found _ _ _ inside (is-allowed _ _ e (λ z. omega arith)) (is-word _ _ e (c .before .if1 .taken)) (c .word-end .ensures))
 
--- src/lib.rt:382:25
 add-t11 : tie.Need-add-t11
 add-t11 c = search needs
 
--- src/lib.rt:382:9
 returns-2 : tie.Need-returns-2
-returns-2 c = 
+returns-2 c =
+    let inside = c .before .before .before .before .before .pre in
     let e = c .before .before .class .ensures in
-    led-on refl (omega arith) (blank-goes _ _ (c .before .before .before .before .before .pre) (is-allowed _ _ e (λ z. omega arith)) (no-word _ _ e (c .before .if1 .left)) (is-blank _ _ e (c .before .if1 .left) (c .if2 .taken)))
+    let other = c .before .if1 .left in
+    led-on refl (omega arith)
+    (blank-goes _ _ inside (is-allowed _ _ e (λ z. omega arith)) (no-word _ _ e other) (is-blank _ _ e other (c .if2 .taken)))
 
--- src/lib.rt:385:9
 returns-3 : tie.Need-returns-3
 unfolding toks
-returns-3 c = led-to refl (bad-stops _ _ plain (c .before .before .before .before .before .before .pre) (is-bad _ _ (c .before .before .before .class .ensures) (c .if3 .taken)))
+returns-3 c =
+    let inside = c .before .before .before .before .before .before .pre in
+    led-to refl (bad-stops _ _ plain inside (is-bad _ _ (c .before .before .before .class .ensures) (c .if3 .taken)))
 
--- src/lib.rt:388:9
 at-slash-requires : tie.Need-at-slash-requires
 at-slash-requires c κs = search needs
 
--- src/lib.rt:388:9
 returns-4 : tie.Need-returns-4
 returns-4 c = search needs
 
--- src/lib.rt:371:1
 returns-5 : tie.Need-returns-5
-returns-5 c = 
+returns-5 c =
+    let inside = c .before .before .before .before .before .before .before .pre in
     let e = c .before .before .before .before .class .ensures in
-    led-to refl (sign-found _ _ (c .before .before .before .before .before .before .before .pre) (is-allowed _ _ e (c .before .if3 .left)) (no-word _ _ e (c .before .before .before .if1 .left)) (no-blank _ _ e (c .before .before .before .if1 .left) (c .before .before .if2 .left)) (c .if4 .left))
+    let other = c .before .before .before .if1 .left in
+    led-to refl
+    (sign-found _ _ inside (is-allowed _ _ e (c .before .if3 .left)) (no-word _ _ e other)
+    (no-blank _ _ e other (c .before .before .if2 .left)) (c .if4 .left))
 
 pub at-byte-spec : {M : Type 1} → statement M
 at-byte-spec =

@@ -1,3 +1,4 @@
+-- `next_token` meets its contract. The invariant: the next token from here is the next token from `at`.
 use Prim.Native.Nat.{_-_}
 use mathlib.Core.Path.{_≡_, _∙_, sym}
 use native.Mathlib.Omega.{arith}
@@ -7,9 +8,6 @@ use Rattle.tokens.specs.Tokens.{toks, first, nextToken}
 use Rattle.tokens.proofs.Reading.{on-led, to-led, over, too-long, short-enough}
 use Rattle.tokens.proofs.next_token.Statement.{statement}
 use Rattle.tokens.proofs.next_token.Tie as tie
-use Rattle.tokens.proofs.next_token.Reads as reads
-use Rattle.tokens.proofs.next_token.Lts as lts
-use Rattle.tokens.proofs.at_byte.Reads as at-byte-reads
 
 abbrev Inv-loop : tie.InvT-loop
 Inv-loop text at i₀ i = nextToken text at ≡ first (toks text i)
@@ -17,39 +15,34 @@ Inv-loop text at i₀ i = nextToken text at ≡ first (toks text i)
 abbrev μ-loop : tie.MeasureT-loop
 μ-loop text at i₀ i = length text - i
 
--- src/lib.rt:398:9
 returns : tie.Need-returns Inv-loop μ-loop
 returns c = sym (too-long _ _ (c .if1 .taken))
 
--- src/lib.rt:401:5
 loop-holds : tie.Need-loop-holds Inv-loop μ-loop
 loop-holds c = short-enough _ _ (c .if1 .left)
 
--- src/lib.rt:402:15
 at-byte-requires : tie.Need-at-byte-requires Inv-loop μ-loop
 at-byte-requires c κs = search needs
 
--- src/lib.rt:403:22
 enum-known-k : tie.Need-enum-known-k Inv-loop μ-loop
 enum-known-k c = search needs
 
--- src/lib.rt:401:5
 loop-less : tie.Need-loop-less Inv-loop μ-loop
 loop-less c = omega (arith, on-led (c .before .k .given .1) (c .before .before .before .at-byte .ensures) .ahead)
 
--- src/lib.rt:401:5
 loop-again : tie.Need-loop-again Inv-loop μ-loop
-loop-again c = c .before .before .before .before .before .loop .inv ∙ on-led (c .before .k .given .1) (c .before .before .before .at-byte .ensures) .led
+loop-again c =
+    let byte = c .before .before .before in
+    byte .before .before .loop .inv ∙ on-led (c .before .k .given .1) (byte .at-byte .ensures) .led
 
--- src/lib.rt:406:22
 enum-known-s : tie.Need-enum-known-s Inv-loop μ-loop
 enum-known-s c = search needs
 
--- src/lib.rt:407:17
 returns-2 : tie.Need-returns-2 Inv-loop μ-loop
-returns-2 c = sym (c .before .before .before .before .before .loop .inv ∙ to-led (c .before .s .given .1) (c .before .before .before .at-byte .ensures))
+returns-2 c =
+    let byte = c .before .before .before in
+    sym (byte .before .before .loop .inv ∙ to-led (c .before .s .given .1) (byte .at-byte .ensures))
 
--- src/lib.rt:394:1
 returns-3 : tie.Need-returns-3 Inv-loop μ-loop
 returns-3 c = sym (c .before .loop .inv ∙ over _ _ (c .loop-test .left))
 
