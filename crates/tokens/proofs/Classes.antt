@@ -53,13 +53,13 @@ single b a h e = ap allowed (eqb-true b a e) ∙ h
 pub wordy-allowed : (b : ℕ) → wordy b ≡ true → allowed b ≡ true
 unfolding wordy letter digit allowed blank between
 wordy-allowed b =
-    either (letter b || digit b || eqb b 95) (eqb b 46)
-    (either (letter b || digit b) (eqb b 95)
-    (either (letter b) (digit b)
-    (either (between 65 90 b) (between 97 122 b) (within b 65 90 (omega arith) (omega arith)) (within b 97 122 (omega arith) (omega arith)))
-    (within b 48 57 (omega arith) (omega arith)))
-    (single b 95 refl))
-    (single b 46 refl)
+    either _ _
+    (either _ _
+    (either _ _
+    (either _ _ (within b _ _ (omega arith) (omega arith)) (within b _ _ (omega arith) (omega arith)))
+    (within b _ _ (omega arith) (omega arith)))
+    (single b _ refl))
+    (single b _ refl)
 
 blank-allowed : (b : ℕ) → blank b ≡ true → allowed b ≡ true
 unfolding allowed

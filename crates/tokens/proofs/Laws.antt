@@ -60,7 +60,7 @@ left-most text at = omega (arith, few plain at (drop at text), length-drop at te
 -- ---- the next token
 
 -- a text that is read is short enough, and its next token is the stream's first
-pub read : (text : List ℕ) (at : ℕ) (x : Next) → (refused tooLong 0 ≡ x → ⊥) → nextToken text at ≡ x → first (toks text at) ≡ x
+read : (text : List ℕ) (at : ℕ) (x : Next) → (refused tooLong 0 ≡ x → ⊥) → nextToken text at ≡ x → first (toks text at) ≡ x
 unfolding nextToken
 read text at x k e = by (leb (length text) textMost) e
   where

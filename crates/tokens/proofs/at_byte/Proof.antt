@@ -14,14 +14,14 @@ shared-slice-read-b c = search needs
 class-requires : tie.Need-class-requires
 class-requires c κs = search needs
 
-add-word-end : tie.Need-add-word-end
-add-word-end c = search needs
+add-behind : tie.Need-add-behind
+add-behind c = search needs
 
 word-end-requires : tie.Need-word-end-requires
 word-end-requires c κs = search needs
 
-sub-t9 : tie.Need-sub-t9
-sub-t9 c = search needs
+sub-t10 : tie.Need-sub-t10
+sub-t10 c = search needs
 
 returns : tie.Need-returns
 returns c =
@@ -30,8 +30,8 @@ returns c =
     led-to refl
     (word-found _ _ _ inside (is-allowed _ _ e (λ z. omega arith)) (is-word _ _ e (c .before .if1 .taken)) (c .word-end .ensures))
 
-add-t11 : tie.Need-add-t11
-add-t11 c = search needs
+add-t12 : tie.Need-add-t12
+add-t12 c = search needs
 
 returns-2 : tie.Need-returns-2
 returns-2 c =
@@ -68,11 +68,11 @@ at-byte-spec =
     (tie.spec
     shared-slice-read-b
     class-requires
-    add-word-end
+    add-behind
     word-end-requires
-    sub-t9
+    sub-t10
     returns
-    add-t11
+    add-t12
     returns-2
     returns-3
     at-slash-requires

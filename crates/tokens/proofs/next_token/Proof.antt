@@ -16,10 +16,10 @@ abbrev μ-loop : tie.MeasureT-loop
 μ-loop text at i₀ i = length text - i
 
 returns : tie.Need-returns Inv-loop μ-loop
-returns c = sym (too-long _ _ (c .if1 .taken))
+returns c = sym (too-long _ _ (omega arith))
 
 loop-holds : tie.Need-loop-holds Inv-loop μ-loop
-loop-holds c = short-enough _ _ (c .if1 .left)
+loop-holds c = short-enough _ _ (omega arith)
 
 at-byte-requires : tie.Need-at-byte-requires Inv-loop μ-loop
 at-byte-requires c κs = search needs
