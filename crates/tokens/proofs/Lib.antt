@@ -1,0 +1,6 @@
+mod Classes
+mod Reading
+mod Stream
+pub mod Laws
+pub mod Faults
+mod Samples
