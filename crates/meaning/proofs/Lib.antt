@@ -1,3 +1,4 @@
 pub mod Samples
 pub mod Gives
 pub mod Turns
+pub mod Everywhere
