@@ -2,7 +2,7 @@
 -- sets, having no `#` of its own, does not depend on the state before. So the first cycle that cannot be played lies in no later turn
 -- than the second of any Loop.
 use mathlib.Core.Path.{_≡_, refl, sym, ap, ap₂, _∙_, subst}
-use Prim.Native.Nat.{ℕ, zero, suc, _<_}
+use Prim.Native.Nat.{ℕ, zero, suc, _<_, min}
 use mathlib.Core.Bool.{Bool, true, false}
 use mathlib.Core.Option.{Option, none, some}
 use mathlib.Core.List.{List, [], _∷_, _++_}
@@ -12,8 +12,8 @@ use lib.ListN.{length, set, getD, length-set}
 use lib.Seq.{getD-set-same, getD-set-other, ext-getD}
 use lib.Dec.{eqb}
 use Rattle.meaning.specs.Timing.{Tables}
-use Rattle.meaning.specs.Body.{Assigns, Args, mark, Setting, assigning, choosing, Kind, macro, procedure, listed, Way, looped, shifted, entered, Body, done, vec, set′, inner, marked, argOf}
-use Rattle.meaning.specs.Run.{shiftOf, State, Cycle, Played, next, taken, put, puts, changed, cycleAt, follow, again, entering, playing, play}
+use Rattle.meaning.specs.Body.{Assigns, Args, mark, Setting, assigning, choosing, macro, procedure, listed, Way, looped, shifted, entered, Body, done, vec, set′, inner, marked, argOf}
+use Rattle.meaning.specs.Run.{shiftOf, State, Cycle, Played, next, taken, put, puts, changed, follow, again, entering, playing, play}
 use Rattle.meaning.specs.Meaning.{playable, firstFailing}
 
 -- ---- characters set, whatever stood there
@@ -247,7 +247,7 @@ copies (suc n) l = l ++ copies n l
 
 module _ (f : State → Played) where
   -- turns from a state that a turn leaves as it is
-  steady : (s : State) → f s .0 ≡ s → (n : ℕ) → again n f s ≡ (s, copies n (f s .1))
+  pub steady : (s : State) → f s .0 ≡ s → (n : ℕ) → again n f s ≡ (s, copies n (f s .1))
   unfolding again follow copies
   steady s e zero = refl
   steady s e (suc n) = ap (λ (u : State). follow (u, f s .1) (again n f)) e ∙ ap (λ (y : Played). (y .0, f s .1 ++ y .1)) (steady s e n)
@@ -264,9 +264,7 @@ loop-turns t b h = turns-repeat (play t b) (plain-twice t b h)
 -- ---- at most two turns of each Loop
 
 unfoldable pub twice : ℕ → ℕ
-twice zero = 0
-twice (suc zero) = 1
-twice (suc (suc n)) = 2
+twice n = min n 2
 
 unfoldable pub fewer : Way → Way
 fewer (looped n) = looped (twice n)
@@ -351,10 +349,12 @@ module _ (tabs : Tables) where
   alike-twice f h zero s = (refl, refl)
   alike-twice f h (suc zero) s = (refl, refl)
   alike-twice f h (suc (suc n)) s =
+      let least : min (suc (suc n)) 2 ≡ 2 = omega arith in
       let many = turns-repeat f h (suc n) s in
       let two = turns-repeat f h 1 s in
       let l = f s .1 in
-      let m = f (f s .0) .1 in (
+      let m = f (f s .0) .1 in
+      rw least (
         ap (λ (y : Played). y .0) many ∙ sym (ap (λ (y : Played). y .0) two),
         ap (λ (y : Played). firstFailing tabs (y .1)) many
             ∙ fails-++ l (copies (suc n) m)
@@ -364,7 +364,8 @@ module _ (tabs : Tables) where
       )
 
   -- fewer turns of a Loop that is plain
-  alike-fewer : (t : ℕ) (w : Way) (b : Body) → IfLoop w (Plain b) → (s : State) → Alike (playing t w (play (shiftOf t w) b) s) (playing t (fewer w) (play (shiftOf t (fewer w)) b) s)
+  alike-fewer : (t : ℕ) (w : Way) (b : Body) → IfLoop w (Plain b) → (s : State)
+      → Alike (playing t w (play (shiftOf t w) b) s) (playing t (fewer w) (play (shiftOf t (fewer w)) b) s)
   unfolding playing fewer shiftOf
   alike-fewer t (looped n) b h s = alike-twice (play t b) (plain-twice t b h) n s
   alike-fewer t shifted b h s = (refl, refl)
