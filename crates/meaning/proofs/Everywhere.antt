@@ -1,21 +1,22 @@
 -- What every body has that is read where all declared ones have it, every pattern of a text has, and every part of its run.
-use mathlib.Core.Path.{_≡_, refl, sym, subst}
+use mathlib.Core.Path.{_≡_, refl, subst}
 use Prim.Native.Nat.{ℕ}
 use native.Mathlib.Omega.{arith}
 use mathlib.Core.Bool.{Bool, true, false}
 use mathlib.Core.Option.{Option, none, some}
 use mathlib.Core.List.{List, [], _∷_, _++_}
 use Rattle.tokens.specs.Written.{same}
-use Rattle.tokens.specs.Tokens.{Tok, Toks}
+use Rattle.tokens.specs.Tokens.{Tok}
 use Rattle.meaning.specs.Bounds.{depthMost}
 use Rattle.meaning.specs.Refusals.{notDefined}
-use Rattle.meaning.specs.Reader.{Res, Reader, ok, _>>=_, ahead, option}
+use Rattle.meaning.specs.Reader.{ahead, option}
 use Rattle.meaning.specs.Names.{find, oldName}
 use Rattle.meaning.specs.Body.{Body, done, inner, entered, listed}
 use Rattle.meaning.specs.Statements.{Decl, Decls, Env, statements, declared}
 use Rattle.meaning.specs.Document.{oneBody, oneMacro, oneProcedure, macroDefs, procedures, bodies, pattern, patterns, Read, document}
 use Rattle.meaning.specs.Meaning.{Answer, given, refused, answering, runOf}
 use Rattle.meaning.proofs.Gives.{known-ok, Gives, gives-bind, gives-after, gives-give, gives-option, gives-while, gives-until}
+use Rattle.meaning.proofs.Choices.{gives-either}
 
 -- P of each declared body
 unfoldable pub Every : (Body → Type 0) → Decls → Type 0
@@ -66,7 +67,10 @@ module _ (P : Body → Type 0) where
       on d p (refused n q) e ih = let z : _≡_ {A = ℕ} 0 1 = cc in absurd (omega arith)
 
       by : (o : Option Decl) → find ps (t .word) ≡ o
-          → _≡_ {A = Answer Body} (elim o [ none ↦ refused notDefined (t .at) | some d ↦ answering (runOf ps l) λ r. given (inner (entered listed 0 []) (d .body) r) ]) (given r)
+          → _≡_ {A = Answer Body} (elim o [
+            | none ↦ refused notDefined (t .at)
+            | some d ↦ answering (runOf ps l) λ r. given (inner (entered listed 0 []) (d .body) r)
+          ]) (given r)
           → ((s : Body) → runOf ps l ≡ given s → Runs P s) → Runs P r
       by none f e ih = let z : _≡_ {A = ℕ} 0 1 = cc in absurd (omega arith)
       by (some d) f e ih = on d (every-found ps h (t .word) d f) (runOf ps l) e ih
@@ -103,18 +107,16 @@ module _ (P : Body → Type 0) where
 
     known-bodies : (e : Env) → Known P e → Gives (Known P) (bodies e)
     unfolding bodies
-    known-bodies e k = record { all = λ ts a us q. by ts a us (ahead "MacroDefs" ts) q }
+    known-bodies e k = record { all = λ ts. gives-either K (ahead "MacroDefs" ts) _ _ (gives-bind K K _ _ (known-macros e k) ps) (gives-bind K K _ _ (ps e k) ms) .all ts }
       where
-        by : (ts : Toks) (a : Env) (us : Toks) (b : Bool)
-            → _≡_ {A = Res Env} (elim b [
-              | true ↦ (macroDefs e >>= option "Procedures" procedures) ts
-              | false ↦ (option "Procedures" procedures e >>= option "MacroDefs" macroDefs) ts
-            ]) (ok a us)
-            → Known P a
-        by ts a us true q = gives-bind (Known P) (Known P) _ _ (known-macros e k) (gives-option (Known P) "Procedures" procedures known-procedures) .all ts a us q
-        by ts a us false q =
-            gives-bind (Known P) (Known P) _ _ (gives-option (Known P) "Procedures" procedures known-procedures e k)
-            (gives-option (Known P) "MacroDefs" macroDefs known-macros) .all ts a us q
+        K : Env → Type 0
+        K = Known P
+
+        ms : (e : Env) → K e → Gives K (option "MacroDefs" macroDefs e)
+        ms = gives-option K "MacroDefs" macroDefs known-macros
+
+        ps : (e : Env) → K e → Gives K (option "Procedures" procedures e)
+        ps = gives-option K "Procedures" procedures known-procedures
 
     every-pattern : (e : Env) → Known P e → (b : Tok) (l : Decls) → Every P l → Gives (Every P) (pattern e b l)
     unfolding pattern

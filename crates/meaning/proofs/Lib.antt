@@ -1,4 +1,6 @@
 pub mod Samples
 pub mod Gives
+pub mod Choices
 pub mod Turns
 pub mod Everywhere
+pub mod Statements
