@@ -4,3 +4,4 @@ pub mod Choices
 pub mod Turns
 pub mod Everywhere
 pub mod Statements
+pub mod Plain
