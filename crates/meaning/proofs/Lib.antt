@@ -5,3 +5,4 @@ pub mod Turns
 pub mod Everywhere
 pub mod Statements
 pub mod Plain
+pub mod TwoTurns
