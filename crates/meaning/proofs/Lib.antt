@@ -6,3 +6,4 @@ pub mod Everywhere
 pub mod Statements
 pub mod Plain
 pub mod TwoTurns
+pub mod Depth
