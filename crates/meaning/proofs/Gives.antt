@@ -53,10 +53,6 @@ gives-after P m k h = gives-bind (λ a. Unit {0}) P m k (record { all = λ ts a 
 pub gives-give : {A : Type 0} (P : A → Type 0) (a : A) → P a → Gives P (give a)
 gives-give P a h = record { all = λ ts b us e. subst P (give-ok e .0) h }
 
--- a reader that always refuses gives nothing
-pub gives-never : {A : Type 0} (P : A → Type 0) (n p : ℕ) → Gives P (λ ts. refuse n p)
-gives-never P n p = record { all = λ ts a us e. (let z : _≡_ {A = ℕ} 0 1 = cc in absurd (omega arith)) }
-
 pub gives-ahead : {A : Type 0} (P : A → Type 0) (w : String) (m k : Reader A) → Gives P m → Gives P k → Gives P (ifAhead w m k)
 unfolding ifAhead
 gives-ahead {A} P w m k f g = record { all = λ ts a us e. by ts a us (ahead w ts) e }

@@ -1,7 +1,14 @@
 pub mod Samples
+pub mod Determined
 pub mod Gives
+pub mod Choices
+pub mod Statements
+pub mod Everywhere
 pub mod Depth
+pub mod Plain
+pub mod Turns
+pub mod TwoTurns
 pub mod Rows
 pub mod Visits
 pub mod Windows
-pub mod Determined
+pub mod Accepted
