@@ -5,7 +5,7 @@ use native.Mathlib.Omega.{arith}
 use mathlib.Core.Path.{_≡_, refl, sym, ap, _∙_}
 use mathlib.Core.Bool.{Bool, true, false, not, _&&_, _||_, false≢true}
 use mathlib.Core.List.{List, [], _∷_}
-use lib.ListN.{length, getD}
+use lib.ListN.{getD}
 use lib.Dec.{eqb, leb}
 use borrow.Author.Tests.{leb-true, le-leb, eqb-true, eq-eqb, ne-eqb, not-true, not-false}
 use Rattle.tokens.specs.Written.{cases}
@@ -90,7 +90,8 @@ bad-class : (b : ℕ) → eqb (classOf b) 0 ≡ not (allowed b)
 unfolding classOf cases
 bad-class b = by (wordy b) (blank b) (allowed b) (wordy-allowed b) (blank-allowed b)
   where
-    by : (w k a : Bool) → (w ≡ true → a ≡ true) → (k ≡ true → a ≡ true) → eqb (cases ((w, 3) ∷ (k, 1) ∷ (a, 2) ∷ []) 0) 0 ≡ not a
+    by : (w k a : Bool) → (w ≡ true → a ≡ true) → (k ≡ true → a ≡ true)
+        → eqb (cases ((w, 3) ∷ (k, 1) ∷ (a, 2) ∷ []) 0) 0 ≡ not a
     by true k a f g = rw (f refl)
     by false true a f g = rw (g refl)
     by false false true f g = refl

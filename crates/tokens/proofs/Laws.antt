@@ -1,5 +1,5 @@
 -- What the layers above go by: the tokens of a text as a stream, one token after the other, and what the next token tells of it.
-use Prim.Native.Nat.{ℕ, suc, _+_, _-_, _≤_, _<_}
+use Prim.Native.Nat.{ℕ, _+_, _-_, _≤_, _<_}
 use native.Mathlib.Omega.{arith}
 use mathlib.Core.Path.{_≡_, refl, sym, ap, _∙_, subst}
 use mathlib.Core.Bool.{Bool, true, false}
@@ -52,6 +52,11 @@ unfolding toks
 stops text at n q e =
     subst (λ (k : ℕ). Stops (at + k) n q) (length-drop at text) (subst (Closes (at + length (drop at text))) e (closes plain at (drop at text)))
 
+-- a fault is neither 0, by which readers say that all is well, nor 4, the text's end
+pub fault-real : {n : ℕ} → (n ≡ badByte) ⊎ (n ≡ openComment) → (n ≡ 0 → ⊥) × (n ≡ notHere → ⊥)
+fault-real (inl e) = (λ z. omega arith, λ z. omega arith)
+fault-real (inr e) = (λ z. omega arith, λ z. omega arith)
+
 -- there are at most as many tokens as bytes
 pub left-most : (text : List ℕ) (at : ℕ) → left (toks text at) ≤ length text - at
 unfolding toks
@@ -78,7 +83,7 @@ pub record Seen (text : List ℕ) (at p l : ℕ) : Type 0 where
 -- where a token is found, the stream is that token and the stream from its end
 pub at-token : (text : List ℕ) (at p l : ℕ) → nextToken text at ≡ found p l → Seen text at p l
 unfolding first
-at-token text at p l e = by (toks text at) refl (read text at (found p l) (λ z. never z) e)
+at-token text at p l e = by (toks text at) refl (read text at (found p l) never e)
   where
     never : refused tooLong 0 ≡ found p l → ⊥
     never z = let o : _≡_ {A = ℕ} 0 1 = cc in omega arith
@@ -114,11 +119,12 @@ unfolding first
 at-end text at e = by (toks text at) refl (read text at nothing (λ z. let o : _≡_ {A = ℕ} 0 1 = cc in omega arith) e)
   where
     halt : (b : Bool) (n q : ℕ) → eqb n notHere ≡ b → toks text at ≡ stop n q
-        → _≡_ {A = Next} (elim b [ true ↦ nothing | false ↦ refused n q ]) nothing → toks text at ≡ stop notHere (at + (length text - at))
+        → _≡_ {A = Next} (elim b [ true ↦ nothing | false ↦ refused n q ]) nothing
+        → toks text at ≡ stop notHere (at + (length text - at))
     halt false n q k h e = let z : _≡_ {A = ℕ} 0 1 = cc in absurd (omega arith)
     halt true n q k h e =
         let a : n ≡ notHere = eqb-true n notHere k in
-        ⊎-elim (λ w. h ∙ rw (a, w .1)) (λ w. absurd (⊎-elim (λ z. omega arith) (λ z. omega arith) w)) (stops text at n q h)
+        ⊎-elim (λ w. h ∙ rw (a, w .1)) (λ w. absurd (fault-real w .1 a)) (stops text at n q h)
 
     by : (ts : Toks) → toks text at ≡ ts → first ts ≡ nothing → toks text at ≡ stop notHere (at + (length text - at))
     by (tok t ts) h e = let z : _≡_ {A = ℕ} 0 1 = cc in absurd (omega arith)
@@ -152,8 +158,3 @@ at-fault text at n q s e = by (toks text at) refl (sym (short-enough text at s) 
     by : (ts : Toks) → toks text at ≡ ts → first ts ≡ refused n q → Halted text at n q
     by (tok t ts) h e = let z : _≡_ {A = ℕ} 0 1 = cc in absurd (omega arith)
     by (stop m o) h e = halt (eqb m notHere) m o refl h e
-
--- a fault is neither 0, by which readers say that all is well, nor 4, the text's end
-pub fault-real : {n : ℕ} → (n ≡ badByte) ⊎ (n ≡ openComment) → (n ≡ 0 → ⊥) × (n ≡ notHere → ⊥)
-fault-real (inl e) = (λ z. omega arith, λ z. omega arith)
-fault-real (inr e) = (λ z. omega arith, λ z. omega arith)

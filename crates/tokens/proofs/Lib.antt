@@ -2,5 +2,6 @@ mod Classes
 mod Reading
 mod Stream
 pub mod Laws
-pub mod Faults
+mod Faults
+pub mod Clean
 mod Samples

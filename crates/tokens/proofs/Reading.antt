@@ -3,7 +3,7 @@ use Prim.Native.Nat.{ℕ, zero, suc, _+_, _-_, _≤_, _<_}
 use native.Mathlib.Omega.{arith}
 use native.Mathlib.Numerals.{add-one}
 use mathlib.Core.Path.{_≡_, refl, sym, ap, _∙_}
-use mathlib.Core.Bool.{Bool, true, false, _&&_, and-false}
+use mathlib.Core.Bool.{true, false, _&&_, and-false}
 use mathlib.Core.List.{List, [], _∷_}
 use lib.ListN.{length, getD, drop, drop-of-length-le}
 use lib.Seq.{drop-cons}
@@ -11,14 +11,14 @@ use lib.Dec.{eqb}
 use borrow.Author.Tests.{eq-eqb, ne-eqb, le-leb, lt-leb}
 use Rattle.tokens.specs.Written.{starts, cases}
 use Rattle.tokens.specs.Bytes.{between, allowed, blank, letter, digit, wordy}
-use Rattle.tokens.specs.Refusals.{textMost, tooLong}
-use Rattle.tokens.specs.Tokens.{Tok, Toks, stop, tok, Mode, plain, inword, line, closing, opened, block, Act, go, token, bad, run, outside, inMode, act, ended, done, lex, toks, found, nothing, refused, first, nextToken}
+use Rattle.tokens.specs.Refusals.{textMost, tooLong, badByte, openComment}
+use Rattle.tokens.specs.Tokens.{Toks, Mode, plain, inword, line, closing, opened, block, Act, go, token, bad, run, outside, inMode, act, ended, done, lex, toks, found, nothing, refused, first, nextToken}
 use Rattle.tokens.specs.Answers.{nextOf, Leads}
 use Rattle.tokens.specs.declared.Step.{Step}
 use Rattle.tokens.specs.declared.Lead.{Lead}
 use Rattle.tokens.specs.declared.Lead.the-variants.{On, To}
 
--- ---- what an allowed byte b does, with s behind it
+-- ---- what a byte b does, with s behind it, by what is known of it
 
 module _ (p b : ℕ) (s : List ℕ) where
   bad-does : (m : Mode) → allowed b ≡ false → act m p b s ≡ bad
@@ -45,14 +45,18 @@ module _ (p b : ℕ) (s : List ℕ) where
   unfolding act inMode outside cases
   sign-does e h k j = rw (e, h, k, ne-eqb b 47 j)
 
--- ---- and what the bytes LF, `/` and `*` do
+-- ---- what the bytes LF, `/` and `*` do
+
+-- a `/` outside comments
+abbrev slashed : ℕ → List ℕ → Act
+slashed p s = cases ((starts 47 s, go line) ∷ (starts 42 s, go (opened p)) ∷ []) (token (47 ∷ []) plain)
 
 module _ (p : ℕ) (s : List ℕ) where
   lf-does : act line p 10 s ≡ go plain
   unfolding act inMode cases allowed blank between
   lf-does = refl
 
-  slash-does : act plain p 47 s ≡ cases ((starts 47 s, go line) ∷ (starts 42 s, go (opened p)) ∷ []) (token (47 ∷ []) plain)
+  slash-does : act plain p 47 s ≡ slashed p s
   unfolding act inMode outside cases allowed blank between wordy letter digit
   slash-does = refl
 
@@ -74,7 +78,7 @@ module _ (p : ℕ) (s : List ℕ) where
 
 -- ---- the text at a place
 
--- what stands behind, by the byte there
+-- what stands behind a place, by the byte there
 starts-at : (c k : ℕ) (text : List ℕ) → 0 < c → starts c (drop k text) ≡ eqb (getD text k 0) c
 unfolding starts
 starts-at c zero [] h = sym (ne-eqb 0 c (λ e. omega arith))
@@ -89,52 +93,76 @@ stands (suc k) [] h = absurd (h refl)
 stands zero (b ∷ text) h = omega arith
 stands (suc k) (b ∷ text) h = omega (arith, stands k text h)
 
--- the text from a place on: its byte there, and the rest
-cut : (text : List ℕ) (i : ℕ) → i < length text → drop i text ≡ getD text i 0 ∷ drop (i + 1) text
-cut text i h = rw (add-one, drop-cons text i 0)
+-- the tokens from the place i on, read in the mode m
+abbrev pub from : List ℕ → Mode → ℕ → Toks
+from text m i = lex m i (drop i text)
 
 module _ (text : List ℕ) (i : ℕ) where
-  turn : (m : Mode) (b : ℕ) (a : Act) → i < length text → getD text i 0 ≡ b → act m i b (drop (i + 1) text) ≡ a
-      → lex m i (drop i text) ≡ done a i (λ m′. lex m′ (i + 1) (drop (i + 1) text))
-  unfolding lex
-  turn m b a h e k = rw (cut text i h, e, k, add-one)
+  -- the text from the place on: its byte there, and the rest
+  cut : i < length text → drop i text ≡ getD text i 0 ∷ drop (i + 1) text
+  cut h = rw (add-one, drop-cons text i 0)
 
+  -- one step: the byte b does a
+  turn : (m : Mode) (b : ℕ) (a : Act) → i < length text → getD text i 0 ≡ b → act m i b (drop (i + 1) text) ≡ a
+      → from text m i ≡ done a i (λ m′. from text m′ (i + 1))
+  unfolding lex
+  turn m b a h e k = rw (cut h, e, k, add-one)
+
+  -- the byte behind is c, or another
+  behind : (c : ℕ) → 0 < c → getD text (i + 1) 0 ≡ c → (i + 1 < length text) × (starts c (drop (i + 1) text) ≡ true)
+  behind c h e = (stands (i + 1) text (λ z. omega arith), starts-at c (i + 1) text h ∙ eq-eqb _ c e)
+
+  other : (c : ℕ) → 0 < c → (getD text (i + 1) 0 ≡ c → ⊥) → starts c (drop (i + 1) text) ≡ false
+  other c h k = starts-at c (i + 1) text h ∙ ne-eqb _ c k
+
+  two : i + 1 + 1 ≡ i + 2
+  two = omega arith
+
+module _ (text : List ℕ) (i : ℕ) where
   -- ---- in any mode
 
-  pub bad-stops : (m : Mode) → i < length text → allowed (getD text i 0) ≡ false → first (lex m i (drop i text)) ≡ refused 2 i
+  pub bad-stops : (m : Mode) → i < length text → allowed (getD text i 0) ≡ false → first (from text m i) ≡ refused badByte i
   unfolding done first
-  bad-stops m h e = ap first (turn m _ bad h refl (bad-does i _ _ m e))
+  bad-stops m h e = ap first (turn text i m _ bad h refl (bad-does i _ _ m e))
 
   -- ---- in a `//`
 
-  pub line-ends : i < length text → getD text i 0 ≡ 10 → lex line i (drop i text) ≡ toks text (i + 1)
+  pub line-ends : i < length text → getD text i 0 ≡ 10 → from text line i ≡ toks text (i + 1)
   unfolding done toks
-  line-ends h e = turn line 10 _ h e (lf-does i _)
+  line-ends h e = turn text i line 10 _ h e (lf-does i _)
 
   pub line-goes : i < length text → allowed (getD text i 0) ≡ true → (getD text i 0 ≡ 10 → ⊥)
-      → lex line i (drop i text) ≡ lex line (i + 1) (drop (i + 1) text)
+      → from text line i ≡ from text line (i + 1)
   unfolding done
-  line-goes h e k = turn line _ _ h refl (line-does i _ _ e k)
+  line-goes h e k = turn text i line _ _ h refl (line-does i _ _ e k)
 
-  pub line-over : length text ≤ i → first (lex line i (drop i text)) ≡ nothing
+  pub line-over : length text ≤ i → first (from text line i) ≡ nothing
   unfolding lex ended first
   line-over h = rw (drop-of-length-le text h)
 
   -- ---- in a `/*` that opened at q
 
   pub block-goes : (q : ℕ) → i < length text → allowed (getD text i 0) ≡ true → (getD text i 0 ≡ 42 → ⊥)
-      → lex (block q) i (drop i text) ≡ lex (block q) (i + 1) (drop (i + 1) text)
+      → from text (block q) i ≡ from text (block q) (i + 1)
   unfolding done
-  block-goes q h e k = turn (block q) _ _ h refl (block-does i _ _ q e (rw (ne-eqb _ 42 k)))
+  block-goes q h e k = turn text i (block q) _ _ h refl (block-does i _ _ q e (rw (ne-eqb _ 42 k)))
 
   pub star-goes : (q : ℕ) → i < length text → allowed (getD text i 0) ≡ true → (getD text (i + 1) 0 ≡ 47 → ⊥)
-      → lex (block q) i (drop i text) ≡ lex (block q) (i + 1) (drop (i + 1) text)
+      → from text (block q) i ≡ from text (block q) (i + 1)
   unfolding done
   star-goes q h e k =
-      let z : starts 47 (drop (i + 1) text) ≡ false = starts-at 47 (i + 1) text (omega arith) ∙ ne-eqb _ 47 k in
-      turn (block q) _ _ h refl (block-does i _ _ q e (rw (z, and-false)))
+      turn text i (block q) _ _ h refl (block-does i _ _ q e (rw (other text i 47 (omega arith) k, and-false)))
 
-  pub block-over : (q : ℕ) → length text ≤ i → first (lex (block q) i (drop i text)) ≡ refused 3 q
+  pub block-closes : (q : ℕ) → i < length text → getD text i 0 ≡ 42 → getD text (i + 1) 0 ≡ 47
+      → from text (block q) i ≡ toks text (i + 2)
+  unfolding done toks
+  block-closes q h e k =
+      let n = behind text i 47 (omega arith) k in
+      turn text i (block q) 42 _ h e (star-does i _ q (n .1))
+      ∙ turn text (i + 1) closing 47 _ (n .0) k (last-slash-does (i + 1) _)
+      ∙ rw (two text i)
+
+  pub block-over : (q : ℕ) → length text ≤ i → first (from text (block q) i) ≡ refused openComment q
   unfolding lex ended first
   block-over q h = rw (drop-of-length-le text h)
 
@@ -143,72 +171,53 @@ module _ (text : List ℕ) (i : ℕ) where
   pub blank-goes : i < length text → allowed (getD text i 0) ≡ true → wordy (getD text i 0) ≡ false → blank (getD text i 0) ≡ true
       → toks text i ≡ toks text (i + 1)
   unfolding done toks
-  blank-goes h e k j = turn plain _ _ h refl (blank-does i _ _ e k j)
+  blank-goes h e k j = turn text i plain _ _ h refl (blank-does i _ _ e k j)
 
   pub word-found : (e : ℕ) → i < length text → allowed (getD text i 0) ≡ true → wordy (getD text i 0) ≡ true
       → e ≡ i + 1 + length (run (drop (i + 1) text)) → first (toks text i) ≡ found i (e - i)
   unfolding done toks first
   word-found e h a w k =
       let n : suc (length (run (drop (i + 1) text))) ≡ e - i = omega arith in
-      ap first (turn plain _ _ h refl (word-does i _ _ a w)) ∙ ap (found i) n
+      ap first (turn text i plain _ _ h refl (word-does i _ _ a w)) ∙ ap (found i) n
 
   pub sign-found : i < length text → allowed (getD text i 0) ≡ true → wordy (getD text i 0) ≡ false → blank (getD text i 0) ≡ false
       → (getD text i 0 ≡ 47 → ⊥) → first (toks text i) ≡ found i 1
   unfolding done toks first
-  sign-found h e k j o = ap first (turn plain _ _ h refl (sign-does i _ _ e k j o))
+  sign-found h e k j o = ap first (turn text i plain _ _ h refl (sign-does i _ _ e k j o))
 
   pub over : length text ≤ i → first (toks text i) ≡ nothing
   unfolding toks lex ended first
   over h = rw (drop-of-length-le text h)
 
--- ---- two bytes at a time
+  -- ---- at a `/`
 
-module _ (text : List ℕ) (i : ℕ) where
-  here : i + 1 + 1 ≡ i + 2
-  here = omega arith
-
-  next : (c : ℕ) → 0 < c → getD text (i + 1) 0 ≡ c → (i + 1 < length text) × (starts c (drop (i + 1) text) ≡ true)
-  next c h e =
-      (stands (i + 1) text (λ z. omega arith), starts-at c (i + 1) text h ∙ eq-eqb _ c e)
-
-  other : (c : ℕ) → 0 < c → (getD text (i + 1) 0 ≡ c → ⊥) → starts c (drop (i + 1) text) ≡ false
-  other c h k = starts-at c (i + 1) text h ∙ ne-eqb _ c k
-
-  pub block-closes : (q : ℕ) → i < length text → getD text i 0 ≡ 42 → getD text (i + 1) 0 ≡ 47
-      → lex (block q) i (drop i text) ≡ toks text (i + 2)
-  unfolding done toks
-  block-closes q h e k =
-      let n = next 47 (omega arith) k in
-      turn text i (block q) 42 _ h e (star-does i _ q (n .1)) ∙ turn text (i + 1) closing 47 _ (n .0) k (last-slash-does (i + 1) _) ∙ rw here
-
-  slash : i < length text → getD text i 0 ≡ 47
-      → toks text i ≡ done (cases ((starts 47 (drop (i + 1) text), go line) ∷ (starts 42 (drop (i + 1) text), go (opened i)) ∷ []) (token (47 ∷ []) plain)) i (λ m. lex m (i + 1) (drop (i + 1) text))
+  slash : i < length text → getD text i 0 ≡ 47 → toks text i ≡ done (slashed i (drop (i + 1) text)) i (λ m. from text m (i + 1))
   unfolding toks
   slash h e = turn text i plain 47 _ h e (slash-does i _)
 
   pub slash-opens-line : i < length text → getD text i 0 ≡ 47 → getD text (i + 1) 0 ≡ 47
-      → toks text i ≡ lex line (i + 2) (drop (i + 2) text)
+      → toks text i ≡ from text line (i + 2)
   unfolding done cases
   slash-opens-line h e k =
-      let n = next 47 (omega arith) k in
-      slash h e ∙ rw (n .1) (turn text (i + 1) line 47 _ (n .0) k (second-slash-does (i + 1) _) ∙ rw here)
+      let n = behind text i 47 (omega arith) k in
+      slash h e ∙ rw (n .1) (turn text (i + 1) line 47 _ (n .0) k (second-slash-does (i + 1) _) ∙ rw (two text i))
 
   pub slash-opens-block : i < length text → getD text i 0 ≡ 47 → getD text (i + 1) 0 ≡ 42
-      → toks text i ≡ lex (block i) (i + 2) (drop (i + 2) text)
+      → toks text i ≡ from text (block i) (i + 2)
   unfolding done cases
   slash-opens-block h e k =
-      let n = next 42 (omega arith) k in
+      let n = behind text i 42 (omega arith) k in
+      let o = other text i 47 (omega arith) (λ z. omega arith) in
       slash h e
-      ∙ rw (other 47 (omega arith) (λ z. omega arith), n .1) (turn text (i + 1) (opened i) 42 _ (n .0) k (second-star-does (i + 1) _ i) ∙ rw here)
+      ∙ rw (o, n .1) (turn text (i + 1) (opened i) 42 _ (n .0) k (second-star-does (i + 1) _ i) ∙ rw (two text i))
 
   pub slash-found : i < length text → getD text i 0 ≡ 47 → (getD text (i + 1) 0 ≡ 47 → ⊥) → (getD text (i + 1) 0 ≡ 42 → ⊥)
       → first (toks text i) ≡ found i 1
   unfolding done cases first
-  slash-found h e k j = ap first (slash h e) ∙ rw (other 47 (omega arith) k, other 42 (omega arith) j)
+  slash-found h e k j = ap first (slash h e) ∙ rw (other text i 47 (omega arith) k, other text i 42 (omega arith) j)
 
--- ---- the end of a word
+  -- ---- in a word
 
-module _ (text : List ℕ) (i : ℕ) where
   pub word-goes : i < length text → wordy (getD text i 0) ≡ true → length (run (drop i text)) ≡ suc (length (run (drop (i + 1) text)))
   unfolding run
   word-goes h e = rw (cut text i h) (rw (e, run))

@@ -1,9 +1,9 @@
 -- Reading as a stream: the first token's bytes are the text's, behind it reading goes on as from its end, and how a stream stops.
-use Prim.Native.Nat.{ℕ, zero, suc, _+_, _-_, _≤_, _<_}
-use native.Mathlib.Nat.{add-zero, zero-add, add-suc, suc-add}
+use Prim.Native.Nat.{ℕ, suc, _+_, _≤_, _<_}
+use native.Mathlib.Nat.{add-zero, add-suc, suc-add}
 use native.Mathlib.Numerals.{add-one}
 use native.Mathlib.Omega.{arith}
-use mathlib.Core.Path.{_≡_, refl, sym, ap, _∙_, subst}
+use mathlib.Core.Path.{_≡_, refl, ap}
 use mathlib.Core.Bool.{Bool, true, false, _&&_}
 use mathlib.Core.Logic.{_⊎_, inl, inr}
 use mathlib.Core.List.{List, [], _∷_}
@@ -130,7 +130,8 @@ first-of (opened q) p [] = tt
 first-of (block q) p [] = tt
 first-of m p (b ∷ s) = by (act m p b s) (begun m p b s) (λ m′. first-of m′ (suc p) s)
   where
-    by : (a : Act) → Begun p b s a → ((m′ : Mode) → First (suc p) s (lex m′ (suc p) s)) → First p (b ∷ s) (done a p (λ m′. lex m′ (suc p) s))
+    by : (a : Act) → Begun p b s a → ((m′ : Mode) → First (suc p) s (lex m′ (suc p) s))
+        → First p (b ∷ s) (done a p (λ m′. lex m′ (suc p) s))
     by (go m′) h ih = first-on p b s (lex m′ (suc p) s) (ih m′)
     by (token w m′) h ih = record { skip = 0; place = omega arith; begins = h }
     by bad h ih = tt
@@ -154,7 +155,8 @@ closes (opened q) p [] = inr (inr refl)
 closes (block q) p [] = inr (inr refl)
 closes m p (b ∷ s) = by (act m p b s) (λ m′. closes m′ (suc p) s)
   where
-    by : (a : Act) → ((m′ : Mode) → Closes (suc p + length s) (lex m′ (suc p) s)) → Closes (p + length (b ∷ s)) (done a p (λ m′. lex m′ (suc p) s))
+    by : (a : Act) → ((m′ : Mode) → Closes (suc p + length s) (lex m′ (suc p) s))
+        → Closes (p + length (b ∷ s)) (done a p (λ m′. lex m′ (suc p) s))
     by (go m′) ih = rw (add-suc, ← suc-add) (ih m′)
     by (token w m′) ih = rw (add-suc, ← suc-add) (ih m′)
     by bad ih = inr (inl refl)
@@ -171,7 +173,8 @@ few (opened q) p [] = omega arith
 few (block q) p [] = omega arith
 few m p (b ∷ s) = by (act m p b s) (λ m′. few m′ (suc p) s)
   where
-    by : (a : Act) → ((m′ : Mode) → left (lex m′ (suc p) s) ≤ length s) → left (done a p (λ m′. lex m′ (suc p) s)) ≤ length (b ∷ s)
+    by : (a : Act) → ((m′ : Mode) → left (lex m′ (suc p) s) ≤ length s)
+        → left (done a p (λ m′. lex m′ (suc p) s)) ≤ length (b ∷ s)
     by (go m′) ih = omega (arith, ih m′)
     by (token w m′) ih = omega (arith, ih m′)
     by bad ih = omega arith

@@ -4,15 +4,15 @@ use mathlib.Core.Path.{_≡_, _∙_, sym}
 use mathlib.Core.Logic.{⊎-elim}
 use native.Mathlib.Omega.{arith}
 use borrow.Author.Needs.{needs}
-use lib.ListN.{length, drop}
-use Rattle.tokens.specs.Tokens.{block, lex}
+use lib.ListN.{length}
+use Rattle.tokens.specs.Tokens.{block}
 use Rattle.tokens.proofs.Classes.{is-bad, is-allowed}
-use Rattle.tokens.proofs.Reading.{led-to, led-on, bad-stops, block-closes, block-goes, star-goes, block-over}
+use Rattle.tokens.proofs.Reading.{from, led-to, led-on, bad-stops, block-closes, block-goes, star-goes, block-over}
 use Rattle.tokens.proofs.behind_block.Statement.{statement}
 use Rattle.tokens.proofs.behind_block.Tie as tie
 
 abbrev Inv-loop : tie.InvT-loop
-Inv-loop text opening at i₀ i = (at ≤ i) × (lex (block opening) at (drop at text) ≡ lex (block opening) i (drop i text))
+Inv-loop text opening at i₀ i = (at ≤ i) × (from text (block opening) at ≡ from text (block opening) i)
 
 abbrev μ-loop : tie.MeasureT-loop
 μ-loop text opening at i₀ i = length text - i

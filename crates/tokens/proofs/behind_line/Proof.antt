@@ -3,15 +3,15 @@ use Prim.Native.Nat.{_-_, _≤_}
 use mathlib.Core.Path.{_≡_, _∙_}
 use native.Mathlib.Omega.{arith}
 use borrow.Author.Needs.{needs}
-use lib.ListN.{length, drop}
-use Rattle.tokens.specs.Tokens.{line, lex}
+use lib.ListN.{length}
+use Rattle.tokens.specs.Tokens.{line}
 use Rattle.tokens.proofs.Classes.{is-bad, is-allowed}
-use Rattle.tokens.proofs.Reading.{led-to, led-on, bad-stops, line-ends, line-goes, line-over}
+use Rattle.tokens.proofs.Reading.{from, led-to, led-on, bad-stops, line-ends, line-goes, line-over}
 use Rattle.tokens.proofs.behind_line.Statement.{statement}
 use Rattle.tokens.proofs.behind_line.Tie as tie
 
 abbrev Inv-loop : tie.InvT-loop
-Inv-loop text at i₀ i = (at ≤ i) × (lex line at (drop at text) ≡ lex line i (drop i text))
+Inv-loop text at i₀ i = (at ≤ i) × (from text line at ≡ from text line i)
 
 abbrev μ-loop : tie.MeasureT-loop
 μ-loop text at i₀ i = length text - i
