@@ -67,7 +67,7 @@ blank-allowed b h = rw h
 
 -- ---- the class as a test
 
-word-class : (b : ℕ) → eqb (classOf b) 3 ≡ wordy b
+pub word-class : (b : ℕ) → eqb (classOf b) 3 ≡ wordy b
 unfolding classOf cases
 word-class b = by (wordy b) (blank b) (allowed b)
   where

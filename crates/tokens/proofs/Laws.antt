@@ -62,18 +62,9 @@ pub left-most : (text : List ℕ) (at : ℕ) → left (toks text at) ≤ length 
 unfolding toks
 left-most text at = omega (arith, few plain at (drop at text), length-drop at text)
 
--- ---- the next token
+-- ---- the first token from a place, as the code finds it
 
--- a text that is read is short enough, and its next token is the stream's first
-read : (text : List ℕ) (at : ℕ) (x : Next) → (refused tooLong 0 ≡ x → ⊥) → nextToken text at ≡ x → first (toks text at) ≡ x
-unfolding nextToken
-read text at x k e = by (leb (length text) textMost) e
-  where
-    by : (b : Bool) → elim b [ true ↦ first (toks text at) | false ↦ refused tooLong 0 ] ≡ x → first (toks text at) ≡ x
-    by true e = e
-    by false e = absurd (k e)
-
--- a token of l bytes at p, as the code finds it
+-- a token of l bytes at p
 pub record Seen (text : List ℕ) (at p l : ℕ) : Type 0 where
   pub stream : toks text at ≡ tok (record { at = p; word = take l (drop p text) }) (toks text (p + l))
   pub from : at ≤ p
@@ -81,13 +72,10 @@ pub record Seen (text : List ℕ) (at p l : ℕ) : Type 0 where
   pub within : p + l ≤ length text
 
 -- where a token is found, the stream is that token and the stream from its end
-pub at-token : (text : List ℕ) (at p l : ℕ) → nextToken text at ≡ found p l → Seen text at p l
+pub first-token : (text : List ℕ) (at p l : ℕ) → first (toks text at) ≡ found p l → Seen text at p l
 unfolding first
-at-token text at p l e = by (toks text at) refl (read text at (found p l) never e)
+first-token text at p l e = by (toks text at) refl e
   where
-    never : refused tooLong 0 ≡ found p l → ⊥
-    never z = let o : _≡_ {A = ℕ} 0 1 = cc in omega arith
-
     stopped : (b : Bool) (n q : ℕ) → _≡_ {A = Next} (elim b [ true ↦ nothing | false ↦ refused n q ]) (found p l) → _≡_ {A = ℕ} 0 1
     stopped true n q e = cc
     stopped false n q e = cc
@@ -108,43 +96,31 @@ at-token text at p l e = by (toks text at) refl (read text at (found p l) never 
           within = omega (arith, u .within);
         }
 
--- a token that is found leaves fewer behind it
-pub left-falls : (text : List ℕ) (at p l : ℕ) → nextToken text at ≡ found p l → left (toks text (p + l)) < left (toks text at)
-unfolding left
-left-falls text at p l e = rw (at-token text at p l e .stream) (omega arith)
-
 -- where there is nothing more, the stream stops with 4 at the text's end
-pub at-end : (text : List ℕ) (at : ℕ) → nextToken text at ≡ nothing → toks text at ≡ stop notHere (at + (length text - at))
+pub first-end : (text : List ℕ) (at : ℕ) → first (toks text at) ≡ nothing → toks text at ≡ stop notHere (at + (length text - at))
 unfolding first
-at-end text at e = by (toks text at) refl (read text at nothing (λ z. let o : _≡_ {A = ℕ} 0 1 = cc in omega arith) e)
+first-end text at e = by (toks text at) refl e
   where
     halt : (b : Bool) (n q : ℕ) → eqb n notHere ≡ b → toks text at ≡ stop n q
-        → _≡_ {A = Next} (elim b [ true ↦ nothing | false ↦ refused n q ]) nothing
-        → toks text at ≡ stop notHere (at + (length text - at))
+        → _≡_ {A = Next} (elim b [ true ↦ nothing | false ↦ refused n q ]) nothing → toks text at ≡ stop notHere (at + (length text - at))
     halt false n q k h e = let z : _≡_ {A = ℕ} 0 1 = cc in absurd (omega arith)
     halt true n q k h e =
         let a : n ≡ notHere = eqb-true n notHere k in
-        ⊎-elim (λ w. h ∙ rw (a, w .1)) (λ w. absurd (fault-real w .1 a)) (stops text at n q h)
+        ⊎-elim (λ w. h ∙ rw (a, w .1)) (λ w. absurd (⊎-elim (λ z. omega arith) (λ z. omega arith) w)) (stops text at n q h)
 
     by : (ts : Toks) → toks text at ≡ ts → first ts ≡ nothing → toks text at ≡ stop notHere (at + (length text - at))
     by (tok t ts) h e = let z : _≡_ {A = ℕ} 0 1 = cc in absurd (omega arith)
     by (stop n q) h e = halt (eqb n notHere) n q refl h e
 
--- and so at the text's length, from a place within the text
-pub at-end-within : (text : List ℕ) (at : ℕ) → at ≤ length text → nextToken text at ≡ nothing → toks text at ≡ stop notHere (length text)
-at-end-within text at h e =
-    let k : at + (length text - at) ≡ length text = omega arith in
-    at-end text at e ∙ ap (stop notHere) k
-
--- a fault n at the place q, as the code finds it in a text that is short enough
+-- a fault n at the place q
 pub record Halted (text : List ℕ) (at n q : ℕ) : Type 0 where
   pub stream : toks text at ≡ stop n q
   pub fault : (n ≡ badByte) ⊎ (n ≡ openComment)
 
 -- where reading is refused, the stream stops there, with 2 or 3
-pub at-fault : (text : List ℕ) (at n q : ℕ) → length text ≤ textMost → nextToken text at ≡ refused n q → Halted text at n q
+pub first-fault : (text : List ℕ) (at n q : ℕ) → first (toks text at) ≡ refused n q → Halted text at n q
 unfolding first
-at-fault text at n q s e = by (toks text at) refl (sym (short-enough text at s) ∙ e)
+first-fault text at n q e = by (toks text at) refl e
   where
     halt : (b : Bool) (m o : ℕ) → eqb m notHere ≡ b → toks text at ≡ stop m o
         → _≡_ {A = Next} (elim b [ true ↦ nothing | false ↦ refused m o ]) (refused n q) → Halted text at n q
@@ -158,3 +134,34 @@ at-fault text at n q s e = by (toks text at) refl (sym (short-enough text at s) 
     by : (ts : Toks) → toks text at ≡ ts → first ts ≡ refused n q → Halted text at n q
     by (tok t ts) h e = let z : _≡_ {A = ℕ} 0 1 = cc in absurd (omega arith)
     by (stop m o) h e = halt (eqb m notHere) m o refl h e
+
+-- ---- the next token: the same, in a text that is short enough
+
+-- a text that is read is short enough, and its next token is the stream's first
+read : (text : List ℕ) (at : ℕ) (x : Next) → (refused tooLong 0 ≡ x → ⊥) → nextToken text at ≡ x → first (toks text at) ≡ x
+unfolding nextToken
+read text at x k e = by (leb (length text) textMost) e
+  where
+    by : (b : Bool) → elim b [ true ↦ first (toks text at) | false ↦ refused tooLong 0 ] ≡ x → first (toks text at) ≡ x
+    by true e = e
+    by false e = absurd (k e)
+
+pub at-token : (text : List ℕ) (at p l : ℕ) → nextToken text at ≡ found p l → Seen text at p l
+at-token text at p l e = first-token text at p l (read text at (found p l) (λ z. let o : _≡_ {A = ℕ} 0 1 = cc in omega arith) e)
+
+-- a token that is found leaves fewer behind it
+pub left-falls : (text : List ℕ) (at p l : ℕ) → nextToken text at ≡ found p l → left (toks text (p + l)) < left (toks text at)
+unfolding left
+left-falls text at p l e = rw (at-token text at p l e .stream) (omega arith)
+
+pub at-end : (text : List ℕ) (at : ℕ) → nextToken text at ≡ nothing → toks text at ≡ stop notHere (at + (length text - at))
+at-end text at e = first-end text at (read text at nothing (λ z. let o : _≡_ {A = ℕ} 0 1 = cc in omega arith) e)
+
+-- and so at the text's length, from a place within the text
+pub at-end-within : (text : List ℕ) (at : ℕ) → at ≤ length text → nextToken text at ≡ nothing → toks text at ≡ stop notHere (length text)
+at-end-within text at h e =
+    let k : at + (length text - at) ≡ length text = omega arith in
+    at-end text at e ∙ ap (stop notHere) k
+
+pub at-fault : (text : List ℕ) (at n q : ℕ) → length text ≤ textMost → nextToken text at ≡ refused n q → Halted text at n q
+at-fault text at n q s e = first-fault text at n q (sym (short-enough text at s) ∙ e)

@@ -2,7 +2,8 @@
 ghost use mathlib.Core.Path.{_≡_};
 ghost use Prim.Native.Nat.{_+_, _<_};
 ghost use lib.ListN.{getD, length, drop};
-ghost use Rattle.tokens.specs.Tokens.{run, line, block, lex, toks, nextToken, faultOf};
+ghost use Rattle.tokens.specs.Bytes.{wordy};
+ghost use Rattle.tokens.specs.Tokens.{run, line, block, lex, toks, first, nextToken, faultOf};
 ghost use Rattle.tokens.specs.Classes.{classOf};
 ghost use Rattle.tokens.specs.Answers.{nextOf, faultTold, Leads};
 
@@ -292,6 +293,13 @@ fn class(b: u8) -> u8
     CLASS[b as usize]
 }
 
+// Is it a byte of a word?
+pub fn is_wordy(b: u8) -> bool
+    ensures { λ r. ⌜ r ≡ wordy b ⌝ }
+{
+    class(b) == 3
+}
+
 // The byte at a place, or 0 past the end.
 fn byte_at(text: &[u8], at: usize) -> u8
     ensures { λ r. ⌜ r ≡ getD (now (text .entry)) at 0 ⌝ }
@@ -391,13 +399,10 @@ fn at_byte(text: &[u8], at: usize) -> Lead
     Lead::To(Step::Token(at, 1))
 }
 
-// The next token from a place on, as if reading began there.
-pub fn next_token(text: &[u8], at: usize) -> Step
-    ensures { λ r. ⌜ nextOf r ≡ nextToken (now (text .entry)) at ⌝ }
+// The first token from a place on, in a text of any length.
+pub fn first_from(text: &[u8], at: usize) -> Step
+    ensures { λ r. ⌜ nextOf r ≡ first (toks (now (text .entry)) at) ⌝ }
 {
-    if 65536 < text.len() {
-        return Step::Refused(1, 0);
-    }
     let mut i = at;
     while i < text.len() {
         match at_byte(text, i) {
@@ -410,6 +415,16 @@ pub fn next_token(text: &[u8], at: usize) -> Step
         }
     }
     Step::Nothing
+}
+
+// The next token from a place on, as if reading began there.
+pub fn next_token(text: &[u8], at: usize) -> Step
+    ensures { λ r. ⌜ nextOf r ≡ nextToken (now (text .entry)) at ⌝ }
+{
+    if 65536 < text.len() {
+        return Step::Refused(1, 0);
+    }
+    first_from(text, at)
 }
 
 // What is wrong with the whole text as bytes: too long, a byte that is not allowed, a comment that is not closed.

@@ -1,63 +1,19 @@
--- `next_token` meets its contract. The invariant: the next token from here is the next token from `at`.
-use Prim.Native.Nat.{_-_}
-use mathlib.Core.Path.{_≡_, _∙_, sym}
+-- `next_token` meets its contract: a text that is too long is refused, and any other's next token is the first from the place.
+use mathlib.Core.Path.{_≡_, sym, _∙_}
 use native.Mathlib.Omega.{arith}
 use borrow.Author.Needs.{needs}
-use lib.ListN.{length}
-use Rattle.tokens.specs.Tokens.{toks, first, nextToken}
-use Rattle.tokens.proofs.Reading.{on-led, to-led, over, too-long, short-enough}
+use Rattle.tokens.proofs.Reading.{too-long, short-enough}
 use Rattle.tokens.proofs.next_token.Statement.{statement}
 use Rattle.tokens.proofs.next_token.Tie as tie
 
-abbrev Inv-loop : tie.InvT-loop
-Inv-loop text at i₀ i = nextToken text at ≡ first (toks text i)
-
-abbrev μ-loop : tie.MeasureT-loop
-μ-loop text at i₀ i = length text - i
-
-returns : tie.Need-returns Inv-loop μ-loop
+returns : tie.Need-returns
 returns c = sym (too-long _ _ (omega arith))
 
-loop-holds : tie.Need-loop-holds Inv-loop μ-loop
-loop-holds c = short-enough _ _ (omega arith)
+first-from-requires : tie.Need-first-from-requires
+first-from-requires c κs = search needs
 
-at-byte-requires : tie.Need-at-byte-requires Inv-loop μ-loop
-at-byte-requires c κs = search needs
-
-enum-known-k : tie.Need-enum-known-k Inv-loop μ-loop
-enum-known-k c = search needs
-
-loop-less : tie.Need-loop-less Inv-loop μ-loop
-loop-less c = omega (arith, on-led (c .before .k .given .1) (c .before .before .before .at-byte .ensures) .ahead)
-
-loop-again : tie.Need-loop-again Inv-loop μ-loop
-loop-again c =
-    let byte = c .before .before .before in
-    byte .before .before .loop .inv ∙ on-led (c .before .k .given .1) (byte .at-byte .ensures) .led
-
-enum-known-s : tie.Need-enum-known-s Inv-loop μ-loop
-enum-known-s c = search needs
-
-returns-2 : tie.Need-returns-2 Inv-loop μ-loop
-returns-2 c =
-    let byte = c .before .before .before in
-    sym (byte .before .before .loop .inv ∙ to-led (c .before .s .given .1) (byte .at-byte .ensures))
-
-returns-3 : tie.Need-returns-3 Inv-loop μ-loop
-returns-3 c = sym (c .before .loop .inv ∙ over _ _ (c .loop-test .left))
+returns-2 : tie.Need-returns-2
+returns-2 c = c .first-from .ensures ∙ sym (short-enough _ _ (omega arith))
 
 pub next-token-spec : {M : Type 1} → statement M
-next-token-spec =
-    tie.close
-    (tie.spec
-    Inv-loop
-    μ-loop
-    returns
-    loop-holds
-    at-byte-requires
-    enum-known-k
-    loop-less
-    loop-again
-    enum-known-s
-    returns-2
-    returns-3)
+next-token-spec = tie.close (tie.spec returns first-from-requires returns-2)
