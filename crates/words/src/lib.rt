@@ -4,7 +4,7 @@ ghost use Prim.Native.Nat.{ℕ, _+_, min};
 ghost use mathlib.Core.List.{List};
 ghost use mathlib.Core.Option.{Option};
 ghost use lib.ListN.{getD};
-ghost use mathlib.Core.Bool.{_&&_, not};
+ghost use mathlib.Core.Bool.{false, _&&_, not};
 ghost use lib.Dec.{eqb, ltb};
 ghost use Rattle.tokens.specs.Written.{same};
 ghost use Rattle.tokens.specs.Bytes.{wordy, digit};
@@ -351,9 +351,9 @@ pub fn number(w: &[u8]) -> Value
     }
 }
 
-// A number before its unit, in ps.
+// A number before its unit, which begins with no digit, in ps.
 fn in_ps(n: u64, unit: &[u8]) -> Value
-    ensures { λ r. ⌜ ((m : ℕ) → n ≡ min most m → valueOf r ≡ capped (unitOf m (now (unit .entry)))) ⌝ }
+    ensures { λ r. ⌜ ((m : ℕ) → n ≡ min most m → digit (getD (now (unit .entry)) 0 0) ≡ false → valueOf r ≡ capped (unitOf m (now (unit .entry)))) ⌝ }
 {
     if equal(unit, b"ps") {
         return Value { right: true, n };
