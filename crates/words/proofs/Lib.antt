@@ -1,0 +1,5 @@
+pub mod Flow
+mod Ahead
+pub mod Words
+mod Numbers
+pub mod Tables
