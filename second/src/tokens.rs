@@ -1,0 +1,156 @@
+//! Bytes, comments and tokens: the rules other tools use without the blocks.
+
+use crate::bounds::MAX_TEXT;
+use crate::refusal::*;
+
+/// A token's or a declared name's place in the whole text, and its length.
+#[derive(Clone, Copy, Debug, PartialEq, Eq)]
+pub struct Located {
+    pub place: u64,
+    pub length: u64,
+}
+
+/// A token as the blocks use it: small, and with its first byte at hand.
+#[derive(Clone, Copy, Debug)]
+pub struct Token {
+    pub place: u32,
+    pub length: u32,
+    pub first: u8,
+}
+
+impl Token {
+    pub fn is_word(self) -> bool {
+        CLASS[self.first as usize] == WORD
+    }
+
+    pub fn bytes(self, text: &[u8]) -> &[u8] {
+        &text[self.place as usize..(self.place + self.length) as usize]
+    }
+
+    pub fn refuse(self, number: u8) -> Refusal {
+        Refusal::new(number, self.place as usize)
+    }
+
+    pub fn located(self) -> Located {
+        Located { place: self.place.into(), length: self.length.into() }
+    }
+}
+
+const NOT_ALLOWED: u8 = 0;
+const BLANK: u8 = 1;
+const WORD: u8 = 2;
+const ALONE: u8 = 3;
+
+static CLASS: [u8; 256] = classes();
+
+const fn classes() -> [u8; 256] {
+    let mut table = [NOT_ALLOWED; 256];
+    let mut byte = 0;
+    while byte < 256 {
+        table[byte] = match byte as u8 {
+            b' ' | b'\t' | b'\n' | b'\r' => BLANK,
+            b'a'..=b'z' | b'A'..=b'Z' | b'0'..=b'9' | b'_' | b'.' => WORD,
+            33..=126 => ALONE,
+            _ => NOT_ALLOWED,
+        };
+        byte += 1;
+    }
+    table
+}
+
+/// The next token as if reading began at `place`.
+pub fn token(text: &[u8], place: u64) -> Answer<Option<Located>> {
+    if text.len() > MAX_TEXT {
+        return Err(Refusal::new(TEXT_TOO_LONG, 0));
+    }
+    if place >= text.len() as u64 {
+        return Ok(None);
+    }
+    Ok(next_token(text, place as usize)?.map(Token::located))
+}
+
+/// All tokens of a whole text, then one of length 0 at its end; or refusal 1, 2 or 3.
+pub fn all_tokens(text: &[u8]) -> Answer<Vec<Token>> {
+    if text.len() > MAX_TEXT {
+        return Err(Refusal::new(TEXT_TOO_LONG, 0));
+    }
+    if let Some(place) = first_not_allowed(text) {
+        return Err(Refusal::new(BYTE_NOT_ALLOWED, place));
+    }
+    let mut tokens = Vec::with_capacity(text.len() / 2 + 1);
+    let mut at = 0;
+    while let Some(token) = next_token(text, at)? {
+        tokens.push(token);
+        at = (token.place + token.length) as usize;
+    }
+    tokens.push(Token { place: text.len() as u32, length: 0, first: 0 });
+    Ok(tokens)
+}
+
+fn first_not_allowed(text: &[u8]) -> Option<usize> {
+    let allowed = |byte: u8| matches!(byte, 32..=126 | b'\t' | b'\n' | b'\r');
+    // Whole chunks without a branch for each byte: nearly all texts are clean.
+    let clean = |chunk: &[u8]| chunk.iter().fold(true, |ok, &byte| ok & allowed(byte));
+    if text.chunks(256).all(clean) {
+        return None;
+    }
+    text.iter().position(|&byte| !allowed(byte))
+}
+
+fn next_token(text: &[u8], at: usize) -> Answer<Option<Token>> {
+    let place = skip_separators(text, at)?;
+    let first = match text.get(place) {
+        Some(&first) => first,
+        None => return Ok(None),
+    };
+    let mut end = place + 1;
+    if CLASS[first as usize] == WORD {
+        while end < text.len() && CLASS[text[end] as usize] == WORD {
+            end += 1;
+        }
+    }
+    Ok(Some(Token { place: place as u32, length: (end - place) as u32, first }))
+}
+
+/// The place of the first byte that is neither blank nor in a comment.
+fn skip_separators(text: &[u8], mut at: usize) -> Answer<usize> {
+    while at < text.len() {
+        match CLASS[text[at] as usize] {
+            BLANK => at += 1,
+            NOT_ALLOWED => return Err(Refusal::new(BYTE_NOT_ALLOWED, at)),
+            ALONE if text[at] == b'/' => match text.get(at + 1) {
+                Some(b'/') => at = line_comment_end(text, at)?,
+                Some(b'*') => at = closed_comment_end(text, at)?,
+                _ => break,
+            },
+            _ => break,
+        }
+    }
+    Ok(at)
+}
+
+fn line_comment_end(text: &[u8], open: usize) -> Answer<usize> {
+    let mut at = open + 2;
+    while at < text.len() && text[at] != b'\n' {
+        if CLASS[text[at] as usize] == NOT_ALLOWED {
+            return Err(Refusal::new(BYTE_NOT_ALLOWED, at));
+        }
+        at += 1;
+    }
+    Ok(at)
+}
+
+/// A byte that is not allowed comes before the missing close, so both are looked for in one go.
+fn closed_comment_end(text: &[u8], open: usize) -> Answer<usize> {
+    let mut at = open + 2;
+    while at < text.len() {
+        if text[at] == b'*' && text.get(at + 1) == Some(&b'/') {
+            return Ok(at + 2);
+        }
+        if CLASS[text[at] as usize] == NOT_ALLOWED {
+            return Err(Refusal::new(BYTE_NOT_ALLOWED, at));
+        }
+        at += 1;
+    }
+    Err(Refusal::new(COMMENT_NOT_CLOSED, open))
+}
