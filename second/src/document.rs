@@ -27,6 +27,13 @@ pub struct Document<'t> {
 impl<'t> Document<'t> {
     /// Accepts the text, or refuses it with 1 to 17.
     pub fn read(text: &'t [u8]) -> Answer<Document<'t>> {
+        let document = Document::read_unplayed(text)?;
+        run::check_cycles(&document)?;
+        Ok(document)
+    }
+
+    /// All but the playing: refuses with 1 to 16.
+    pub fn read_unplayed(text: &'t [u8]) -> Answer<Document<'t>> {
         let mut reader = Reader::new(text)?;
         let reader = &mut reader;
         version(reader)?;
@@ -47,9 +54,7 @@ impl<'t> Document<'t> {
         }
         let run = run_of(text, &names, &listed)?;
         let extent = extent_of(&run, &patterns)?;
-        let document = Document { text, pins, timing, bodies, program, patterns, run, extent };
-        run::check_cycles(&document)?;
-        Ok(document)
+        Ok(Document { text, pins, timing, bodies, program, patterns, run, extent })
     }
 
     /// The bytes of one row: a character for each signal, the table's digit, LF.
