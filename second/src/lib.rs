@@ -5,6 +5,7 @@ pub mod bounds;
 pub mod data;
 pub mod document;
 pub mod frame;
+pub mod generate;
 pub mod groups;
 pub mod listing;
 pub mod names;
