@@ -4,7 +4,7 @@ mod blocks;
 mod damage;
 mod large;
 mod plan;
-mod random;
+pub mod random;
 mod statements;
 mod tokens;
 
