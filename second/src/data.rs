@@ -19,6 +19,15 @@ impl Piece {
         self.repeat - 1 + self.length
     }
 
+    /// Spells out its first characters, `most` at most.
+    pub fn spell(&self, text: &[u8], most: u64, chars: &mut Vec<u8>) {
+        let most = u64::from(self.count()).min(most) as usize;
+        let extra = (self.repeat as usize - 1).min(most);
+        let word = &text[self.place as usize..];
+        chars.resize(chars.len() + extra, word[0]);
+        chars.extend_from_slice(&word[..most - extra]);
+    }
+
     pub fn character(&self, text: &[u8], offset: u32) -> u8 {
         text[(self.place + offset.saturating_sub(self.repeat - 1)) as usize]
     }

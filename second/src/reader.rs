@@ -2,32 +2,32 @@
 
 use crate::names::{is_name, NameTable};
 use crate::refusal::*;
-use crate::tokens::{all_tokens, Token};
+use crate::tokens::{check_bytes, token_from, Token};
 
 pub struct Reader<'t> {
     pub text: &'t [u8],
-    tokens: Vec<Token>,
-    at: usize,
+    here: Token,
 }
 
 impl<'t> Reader<'t> {
     pub fn new(text: &'t [u8]) -> Answer<Reader<'t>> {
-        Ok(Reader { text, tokens: all_tokens(text)?, at: 0 })
+        check_bytes(text)?;
+        Ok(Reader { text, here: token_from(text, 0) })
     }
 
     /// The token here; at the end of the text the one of length 0, which fits nothing.
     pub fn peek(&self) -> Token {
-        self.tokens[self.at]
+        self.here
     }
 
     pub fn take(&mut self) -> Token {
-        let token = self.tokens[self.at];
-        self.at = (self.at + 1).min(self.tokens.len() - 1);
+        let token = self.here;
+        self.here = token_from(self.text, (token.place + token.length) as usize);
         token
     }
 
     pub fn at_end(&self) -> bool {
-        self.at + 1 == self.tokens.len()
+        self.here.length == 0
     }
 
     pub fn refuse(&self, number: u8) -> Refusal {

@@ -50,15 +50,16 @@ impl Effect {
         self.fails || self.needs_table
     }
 
-    fn assign(&mut self, pin: u8, lacks: u8) {
-        self.assigned.insert(pin);
-        let mut alone = PinSet::EMPTY;
-        alone.insert(pin);
-        for (table, lacking) in self.lacking.iter_mut().enumerate() {
-            lacking.drop(&alone);
-            if lacks >> table & 1 == 1 {
-                lacking.add(&alone);
-            }
+    /// New characters for these signals, lacking nothing until `lack` says so.
+    fn assign(&mut self, pins: &PinSet) {
+        self.assigned.add(pins);
+        self.lacking.iter_mut().for_each(|lacking| lacking.drop(pins));
+    }
+
+    fn lack(&mut self, pin: u8, tables: u8) {
+        if tables != 0 {
+            let lacking = self.lacking.iter_mut().enumerate();
+            lacking.filter(|(table, _)| tables >> table & 1 == 1).for_each(|(_, lacking)| lacking.insert(pin));
         }
     }
 
@@ -211,12 +212,13 @@ impl<'d> Judge<'d, '_> {
     fn assign(&self, assigns: Range, frame: &mut Frame, effect: &mut Effect) {
         let document = self.document;
         for assign in assigns.of(&document.program.assigns) {
+            effect.assign(&assign.set);
             for (pin, character) in document.assigned(assign) {
                 let character = match character {
                     b'#' => frame.take(document, pin),
                     plain => plain,
                 };
-                effect.assign(pin, document.timing.lacks(pin, character));
+                effect.lack(pin, document.timing.lacks(pin, character));
             }
         }
     }
@@ -230,6 +232,8 @@ impl<'d> Judge<'d, '_> {
         };
         let mut outcome = Effect::NOTHING;
         for assign in assigns.of(&document.program.assigns) {
+            effect.assign(&assign.set);
+            outcome.assign(&assign.set);
             for (pin, character) in document.assigned(assign) {
                 let (mut any, mut last) = (0, document.timing.lacks(pin, character));
                 if character == b'#' {
@@ -238,8 +242,8 @@ impl<'d> Judge<'d, '_> {
                         any |= last;
                     });
                 }
-                effect.assign(pin, any | last);
-                outcome.assign(pin, last);
+                effect.lack(pin, any | last);
+                outcome.lack(pin, last);
             }
         }
         effect.cycle();

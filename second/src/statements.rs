@@ -46,6 +46,7 @@ impl Extent {
 #[derive(Clone, Copy, Debug)]
 pub struct Assign {
     pub list: List,
+    pub set: PinSet,
     /// Where its characters, one for each signal, stand in `Program::chars`.
     pub chars: u32,
     pub uses_arguments: bool,
@@ -253,7 +254,7 @@ impl BodyReader<'_, '_> {
         while !self.reader.is(b'}') {
             let name = self.assigned_name(&mut assigned)?.0;
             self.reader.byte(b'=')?;
-            let assign = self.assignment_data(self.pins.list(name), hash)?;
+            let assign = self.assignment_data(name, hash)?;
             self.program.assigns.push(assign);
         }
         self.reader.take();
@@ -271,7 +272,8 @@ impl BodyReader<'_, '_> {
         Ok((name, token))
     }
 
-    fn assignment_data(&mut self, list: List, hash: Hash) -> Answer<Assign> {
+    fn assignment_data(&mut self, name: usize, hash: Hash) -> Answer<Assign> {
+        let (list, set) = (self.pins.list(name), *self.pins.set(name));
         let due = u64::from(list.length);
         let start = self.program.chars.len();
         let mut count: u64 = 0;
@@ -280,9 +282,7 @@ impl BodyReader<'_, '_> {
             match item(self.reader)? {
                 Item::Word(piece) => {
                     // No more than are due are spelled out: a surplus is only counted.
-                    let spelled = u64::from(piece.count()).min(due.saturating_sub(count)) as u32;
-                    let text = self.reader.text;
-                    self.program.chars.extend((0..spelled).map(|offset| piece.character(text, offset)));
+                    piece.spell(self.reader.text, due.saturating_sub(count), &mut self.program.chars);
                     count += u64::from(piece.count());
                 }
                 Item::Hash(token) => {
@@ -294,7 +294,7 @@ impl BodyReader<'_, '_> {
                 Item::End(end) => return Err(end.refuse(BAD_DATA)),
             }
         }
-        Ok(Assign { list, chars: start as u32, uses_arguments })
+        Ok(Assign { list, set, chars: start as u32, uses_arguments })
     }
 
     /// Beyond the name's signals a `#` is no use of any; the length is then refused.

@@ -100,6 +100,9 @@ pub fn read(reader: &mut Reader, pins: &Pins) -> Answer<Timing> {
         table(reader, pins, &mut timing)?;
     }
     reader.take();
+    // A table that is not there lacks nothing: most characters then lack nothing at all.
+    let there = (0xff_u16 >> (MAX_TABLES - timing.periods.len())) as u8;
+    timing.lacks.iter_mut().for_each(|tables| *tables &= there);
     Ok(timing)
 }
 

@@ -69,22 +69,31 @@ pub fn token(text: &[u8], place: u64) -> Answer<Option<Located>> {
     Ok(next_token(text, place as usize)?.map(Token::located))
 }
 
-/// All tokens of a whole text, then one of length 0 at its end; or refusal 1, 2 or 3.
-pub fn all_tokens(text: &[u8]) -> Answer<Vec<Token>> {
+/// Refusals 1 to 3, which a whole text must pass before its blocks are read.
+pub fn check_bytes(text: &[u8]) -> Answer<()> {
     if text.len() > MAX_TEXT {
         return Err(Refusal::new(TEXT_TOO_LONG, 0));
     }
     if let Some(place) = first_not_allowed(text) {
         return Err(Refusal::new(BYTE_NOT_ALLOWED, place));
     }
-    let mut tokens = Vec::with_capacity(text.len() / 2 + 1);
+    // No word holds a `/`, so comments are found from one `/` to the next.
     let mut at = 0;
-    while let Some(token) = next_token(text, at)? {
-        tokens.push(token);
-        at = (token.place + token.length) as usize;
+    while let Some(slash) = text[at..].iter().position(|&byte| byte == b'/') {
+        let place = at + slash;
+        at = match text.get(place + 1) {
+            Some(b'/') => line_comment_end(text, place)?,
+            Some(b'*') => closed_comment_end(text, place)?,
+            _ => place + 1,
+        };
     }
-    tokens.push(Token { place: text.len() as u32, length: 0, first: 0 });
-    Ok(tokens)
+    Ok(())
+}
+
+/// The first token from a place on, of a text whose bytes were checked; of length 0 where there is none.
+pub fn token_from(text: &[u8], at: usize) -> Token {
+    let end = Token { place: text.len() as u32, length: 0, first: 0 };
+    next_token(text, at).ok().flatten().unwrap_or(end)
 }
 
 fn first_not_allowed(text: &[u8]) -> Option<usize> {

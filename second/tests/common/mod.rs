@@ -1,5 +1,5 @@
 //! Builds whole texts from one part, with the refusal's place marked by `«` in it.
-#![allow(dead_code)]
+#![allow(dead_code, unused_imports)]
 
 use second::{check, Refusal, Summary};
 
