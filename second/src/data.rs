@@ -97,6 +97,17 @@ impl Cursor {
         }
     }
 
+    /// Leaves out `count` characters.
+    pub fn skip(&mut self, pieces: &[Piece], count: u32) {
+        let mut left = count;
+        while left > 0 {
+            let piece = &pieces[self.piece as usize];
+            let part = (piece.count() - self.offset).min(left);
+            self.step(piece, part);
+            left -= part;
+        }
+    }
+
     /// Goes past `count` characters and shows each run of a repeat once.
     pub fn take_runs(&mut self, text: &[u8], pieces: &[Piece], count: u32, mut show: impl FnMut(u8)) {
         let mut left = count;

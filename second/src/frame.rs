@@ -31,6 +31,10 @@ impl Frame {
         self.cursors[pin as usize].take(document.text, &document.program.pieces)
     }
 
+    pub fn skip(&mut self, document: &Document, pin: u8, count: u32) {
+        self.cursors[pin as usize].skip(&document.program.pieces, count);
+    }
+
     pub fn take_runs(&mut self, document: &Document, pin: u8, count: u32, show: impl FnMut(u8)) {
         self.cursors[pin as usize].take_runs(document.text, &document.program.pieces, count, show);
     }

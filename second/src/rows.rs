@@ -183,7 +183,7 @@ impl Player<'_, '_, '_> {
             let assigns = assigns.of(&document.program.assigns);
             for (pin, character) in assigns.iter().flat_map(|assign| document.assigned(assign)) {
                 if character == b'#' {
-                    frame.take_runs(document, pin, count, |_| ());
+                    frame.skip(document, pin, count);
                 }
             }
         }

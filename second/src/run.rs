@@ -11,6 +11,7 @@ use crate::frame::Frame;
 use crate::pinset::PinSet;
 use crate::refusal::*;
 use crate::statements::{Act, Range, Statement, Use};
+use std::collections::HashMap;
 
 #[derive(Clone, Copy)]
 struct Effect {
@@ -126,7 +127,7 @@ impl Effect {
 
 /// Refuses the first cycle in run order that has no table, or a character without a waveform in it.
 pub fn check_cycles(document: &Document) -> Answer<()> {
-    let mut judge = Judge { document, plain_bodies: [None; MAX_BODIES] };
+    let mut judge = Judge { document, plain_bodies: [None; MAX_BODIES], inner_uses: HashMap::new() };
     let mut seen = vec![false; document.patterns.len()];
     for &pattern in &document.run {
         // Every start of a pattern is the same, so a repeat cannot fail first.
@@ -146,6 +147,8 @@ struct Judge<'d, 't> {
     document: &'d Document<'t>,
     /// Effects of bodies that take no argument: they are the same at each use.
     plain_bodies: [Option<Effect>; MAX_BODIES],
+    /// Effects of uses with arguments that stand in a body, which may itself be used often.
+    inner_uses: HashMap<u32, Effect>,
 }
 
 impl<'d> Judge<'d, '_> {
@@ -185,10 +188,10 @@ impl<'d> Judge<'d, '_> {
                 }
             }
             Act::Shift => self.shift(at + 1, frame, effect),
-            Act::Macro(used) => effect.then(&self.used(&used)),
+            Act::Macro(used) => effect.then(&self.used(at, &used)),
             Act::Call(used) => {
                 let mut inside = effect.entered();
-                inside.then(&self.used(&used));
+                inside.then(&self.used(at, &used));
                 effect.fails |= inside.fails;
                 effect.needs_table |= inside.needs_table;
                 effect.fitting_tables &= inside.fitting_tables;
@@ -196,16 +199,23 @@ impl<'d> Judge<'d, '_> {
         }
     }
 
-    fn used(&mut self, used: &Use) -> Effect {
+    fn used(&mut self, at: u32, used: &Use) -> Effect {
         let body = self.body(used);
-        if !body.uses.anywhere.is_empty() {
-            return self.stretch(body.statements, &mut Frame::of(self.document, used));
-        }
-        if let Some(effect) = self.plain_bodies[used.body as usize] {
+        let (plain, inner) = (body.uses.anywhere.is_empty(), at < self.document.patterns[0].statements.first);
+        let known = match (plain, inner) {
+            (true, _) => self.plain_bodies[used.body as usize],
+            (false, true) => self.inner_uses.get(&at).copied(),
+            (false, false) => None,
+        };
+        if let Some(effect) = known {
             return effect;
         }
-        let effect = self.stretch(body.statements, &mut Frame::none());
-        self.plain_bodies[used.body as usize] = Some(effect);
+        let effect = self.stretch(body.statements, &mut Frame::of(self.document, used));
+        if plain {
+            self.plain_bodies[used.body as usize] = Some(effect);
+        } else if inner {
+            self.inner_uses.insert(at, effect);
+        }
         effect
     }
 

@@ -19,6 +19,21 @@ fn every_refusal_is_reached() {
     assert!(counts[0] > third * 3 / 4 && counts[0] < third * 3 / 2, "{counts:?}");
 }
 
+/// Accepted texts sit exactly on the bounds, each bound often enough to matter.
+#[test]
+fn every_bound_is_met() {
+    let mut met = [0u32; 6];
+    for seed in 0..SEEDS {
+        let text = text(seed);
+        if let Ok(sum) = check(&text) {
+            let on = [sum.signals == 64, sum.tables == 8, sum.patterns == 16, sum.size == 65_536, sum.cycles == 1 << 40, text.len() == 65_536];
+            met.iter_mut().zip(on).for_each(|(count, on)| *count += u32::from(on));
+        }
+    }
+    println!("on the bound of signals, tables, listed, size, cycles, length: {met:?}");
+    assert!(met.iter().all(|&count| count >= 20), "{met:?}");
+}
+
 #[test]
 fn a_seed_gives_one_text() {
     assert!((0..200).all(|seed| text(seed) == text(seed)));

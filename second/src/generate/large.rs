@@ -3,8 +3,8 @@
 use super::random::Random;
 use crate::bounds::MAX_TEXT;
 
-pub const LARGE_KINDS: [&str; 9] =
-    ["vectors", "wide", "comments", "waveforms", "macros", "calls", "loops", "shifts", "groups"];
+pub const LARGE_KINDS: [&str; 10] =
+    ["vectors", "wide", "comments", "waveforms", "macros", "calls", "loops", "shifts", "arguments", "groups"];
 
 const SIGNALS: usize = 32;
 
@@ -19,6 +19,7 @@ pub fn large(kind: &str) -> Option<Vec<u8>> {
         "calls" => calls(),
         "loops" => pattern("", &fill(60_000, |_| loops())),
         "shifts" => shifts(&mut random),
+        "arguments" => arguments(&mut random),
         "groups" => groups(&mut random),
         _ => return None,
     };
@@ -116,6 +117,17 @@ fn shifts(random: &mut Random) -> String {
         format!("Macro load {{ pin_number_0 = {bits}; pin_number_1 = \\r1500 L; }}\n")
     });
     pattern(blocks, &body)
+}
+
+/// A macro with arguments that uses another with long ones, itself used often.
+fn arguments(random: &mut Random) -> String {
+    let load = "low { Shift { V { pin_number_0 = #; } } }";
+    let uses = fill(25_000, |_| {
+        let bits: String = (0..4096).map(|_| if random.percent(50) { '0' } else { '1' }).collect();
+        format!("Macro low {{ pin_number_0 = {bits}; }}\n")
+    });
+    let blocks = format!("MacroDefs {{ {load} high {{ {uses} V {{ pin_number_1 = #; }} }} }}\n");
+    pattern(&blocks, &"Macro high { pin_number_1 = L; }\n".repeat(1_100))
 }
 
 /// Thirty-two long expressions with brackets.
