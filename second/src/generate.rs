@@ -76,12 +76,37 @@ struct Writer {
 }
 
 const STEMS: [&str; 28] = [
-    "A", "B", "a", "b", "AA", "A1", "A_", "_A", "A2", "Ab", "aB", "V1", "In_", "x", "y", "CLK", "clk", "Header", "Stop", "SI",
-    "t", "t0", "p", "p0", "m", "r4", "abcdefghijklmnopqrstuvwxyz01234", "abcdefghijklmnopqrstuvwxyz0123",
+    "A",
+    "B",
+    "a",
+    "b",
+    "AA",
+    "A1",
+    "A_",
+    "_A",
+    "A2",
+    "Ab",
+    "aB",
+    "V1",
+    "In_",
+    "x",
+    "y",
+    "CLK",
+    "clk",
+    "Header",
+    "Stop",
+    "SI",
+    "t",
+    "t0",
+    "p",
+    "p0",
+    "m",
+    "r4",
+    "abcdefghijklmnopqrstuvwxyz01234",
+    "abcdefghijklmnopqrstuvwxyz0123",
 ];
 const NO_NAMES: [&str; 8] = ["V", "Loop", "In", "1A", "A.1", ".", "PatList", "abcdefghijklmnopqrstuvwxyz0123456"];
-const ALPHABETS: [(&[u8], &[u8]); 4] =
-    [(b"01", b"xLHZ"), (b"LH", b"01X"), (b"V1", b"WCr"), (b"aA", b"bB9")];
+const ALPHABETS: [(&[u8], &[u8]); 4] = [(b"01", b"xLHZ"), (b"LH", b"01X"), (b"V1", b"WCr"), (b"aA", b"bB9")];
 
 impl Writer {
     fn new(mut random: Random, plan: Plan) -> Writer {

@@ -61,7 +61,7 @@ pub fn read(reader: &mut Reader, pins: &mut Pins) -> Answer<()> {
     reader.fixed(b"SignalGroups")?;
     reader.byte(b'{')?;
     while !reader.is(b'}') {
-        let full = pins.names.len() == pins.signals + MAX_GROUPS;
+        let full = pins.names.count() == pins.signals + MAX_GROUPS;
         let name = reader.new_name(&pins.names, full)?;
         reader.bytes(b"='")?;
         let whole = expression(reader, pins, 0)?;

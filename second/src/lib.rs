@@ -21,7 +21,6 @@ pub mod statements;
 pub mod timing;
 pub mod tokens;
 
-
 pub use document::Document;
 pub use listing::listing;
 pub use refusal::Refusal;

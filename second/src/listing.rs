@@ -10,7 +10,7 @@ pub fn listing(text: &[u8]) -> Answer<Vec<u8>> {
     let mut out = Vec::new();
     section(&mut out, "SIGNALS", document.pins.signals as u64);
     names(&mut out, &document, Declared::Signal);
-    section(&mut out, "TABLES", document.timing.names.len() as u64);
+    section(&mut out, "TABLES", document.timing.names.count() as u64);
     names(&mut out, &document, Declared::Table);
     section(&mut out, "CYCLES", document.extent.cycles);
     if document.extent.cycles > MAX_LISTING {

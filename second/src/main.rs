@@ -69,8 +69,7 @@ fn exactly<'w, const N: usize>(words: &'w [OsString], due: [&str; N]) -> Result<
     if words.len() < N {
         return Err(Fault(format!("missing word: {}", due[words.len()])));
     }
-    <&[OsString; N]>::try_from(words)
-        .map_err(|_| Fault(format!("one word too many: {}", words[N].to_string_lossy())))
+    <&[OsString; N]>::try_from(words).map_err(|_| Fault(format!("one word too many: {}", words[N].to_string_lossy())))
 }
 
 /// A text's bytes, one past the bound at most: more cannot change that it is too long.
@@ -92,7 +91,11 @@ fn number(word: &OsString) -> Result<u64, Fault> {
 }
 
 /// Writes the answer, or the one line of its refusal.
-fn write_answer<T>(out: &mut dyn Write, answer: Answer<T>, write: impl FnOnce(&mut dyn Write, T) -> io::Result<()>) -> Done {
+fn write_answer<T>(
+    out: &mut dyn Write,
+    answer: Answer<T>,
+    write: impl FnOnce(&mut dyn Write, T) -> io::Result<()>,
+) -> Done {
     match answer {
         Ok(value) => write(out, value)?,
         Err(refusal) => out.write_all(refusal_line(refusal).as_bytes())?,
@@ -151,7 +154,8 @@ fn write_rows(out: &mut dyn Write, document: &Document, first: u64, count: u64) 
     let visits = document.window(first, 0, &mut []).map_err(fails)?.visits;
     let mut written = 0;
     while written < due {
-        let rows = document.window(first + written, (due - written).min(ROWS_AT_ONCE), &mut buffer).map_err(fails)?.rows;
+        let rows =
+            document.window(first + written, (due - written).min(ROWS_AT_ONCE), &mut buffer).map_err(fails)?.rows;
         out.write_all(&buffer[..rows as usize * width])?;
         written += rows;
     }

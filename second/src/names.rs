@@ -33,7 +33,7 @@ impl NameTable {
         NameTable { names: Vec::new(), slots: [0; SLOTS] }
     }
 
-    pub fn len(&self) -> usize {
+    pub fn count(&self) -> usize {
         self.names.len()
     }
 

@@ -2,9 +2,9 @@
 
 use crate::document::Document;
 use crate::refusal::*;
+use crate::rows;
 use crate::timing::Asked;
 use crate::tokens::{Located, Token};
-use crate::rows;
 
 /// The five numbers of an accepted text.
 #[derive(Clone, Copy, Debug, PartialEq, Eq)]
@@ -59,7 +59,7 @@ impl Document<'_> {
     pub fn summary(&self) -> Summary {
         Summary {
             signals: self.pins.signals as u64,
-            tables: self.timing.names.len() as u64,
+            tables: self.timing.names.count() as u64,
             patterns: self.run.len() as u64,
             cycles: self.extent.cycles,
             size: self.extent.size,

@@ -1,7 +1,7 @@
 //! Statements: their form once read, and how they are read.
 
-use crate::bounds::{MAX_ARGUMENT, MAX_DEPTH, MAX_TURNS};
 use crate::bodies::{Bodies, Given, Uses};
+use crate::bounds::{MAX_ARGUMENT, MAX_DEPTH, MAX_TURNS};
 use crate::data::{item, Item, Piece};
 use crate::numbers::decimal;
 use crate::pinset::PinSet;
@@ -60,10 +60,18 @@ pub struct Argument {
 
 #[derive(Clone, Copy, Debug)]
 pub enum Act {
-    Vector { place: u32, assigns: Range },
-    Condition { assigns: Range },
+    Vector {
+        place: u32,
+        assigns: Range,
+    },
+    Condition {
+        assigns: Range,
+    },
     Table(u8),
-    Loop { turns: u32, turn_cycles: u64 },
+    Loop {
+        turns: u32,
+        turn_cycles: u64,
+    },
     /// Its V is the next statement; how often it plays is said where the body is used.
     Shift,
     Macro(Use),
@@ -105,7 +113,13 @@ impl Program {
         self.statements.push(Statement { act, extent, next });
     }
 
-    /// Gives a Loop or Shift its extent once what is in it has been read.
+    /// Keeps the place of a Loop or Shift, which stands before what is in it.
+    fn open(&mut self) -> u32 {
+        self.push(Act::Shift, Extent::default());
+        self.here() - 1
+    }
+
+    /// Fills that place once what is in it has been read.
     fn close(&mut self, at: u32, act: Act, extent: Extent) {
         self.statements[at as usize] = Statement { act, extent, next: self.here() };
     }
@@ -189,8 +203,7 @@ impl BodyReader<'_, '_> {
         self.deepen(level + 1, word)?;
         let turns = self.reader.number(decimal, 1, MAX_TURNS)?;
         self.reader.byte(b'{')?;
-        let at = self.program.here();
-        self.program.push(Act::Shift, Extent::default());
+        let at = self.program.open();
         let turn = self.block(level + 1)?;
         let extent = turn.around(turns);
         let act = Act::Loop { turns: turns as u32, turn_cycles: turn.cycles };
@@ -207,8 +220,7 @@ impl BodyReader<'_, '_> {
         if !self.reader.is_fixed(b"V") {
             return Err(self.reader.refuse(TOKEN_NOT_ALLOWED));
         }
-        let at = self.program.here();
-        self.program.push(Act::Shift, Extent::default());
+        let at = self.program.open();
         let turn = self.vector(0, true)?;
         let close = self.reader.byte(b'}')?;
         if self.uses.in_shift.is_empty() {

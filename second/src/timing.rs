@@ -71,7 +71,7 @@ impl Timing {
     /// Times and letters of one waveform's events, as written.
     pub fn waveform(&self, text: &[u8], pins: &Pins, asked: Asked) -> Option<Vec<(u64, u8)>> {
         let Asked { table, signal, character } = asked;
-        let within = table < self.names.len() as u64 && signal < pins.signals as u64;
+        let within = table < self.names.count() as u64 && signal < pins.signals as u64;
         if !within || !character.is_ascii() || self.lacks(signal as u8, character) >> table & 1 == 1 {
             return None;
         }

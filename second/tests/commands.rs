@@ -59,14 +59,22 @@ fn single_answers() {
 #[test]
 fn refusals_are_answers() {
     let hurt = &file("refused.stil", b"STIL 1.0; Signals { }");
-    for words in [vec!["list", hurt], vec!["window", hurt, "0", "1"], vec!["name", hurt, "table", "0"], vec!["waveform", hurt, "0", "0", "0"]] {
+    for words in [
+        vec!["list", hurt],
+        vec!["window", hurt, "0", "1"],
+        vec!["name", hurt, "table", "0"],
+        vec!["waveform", hurt, "0", "0", "0"],
+    ] {
         answers(&words, "REFUSED 4 AT 20\n");
     }
 }
 
 #[test]
 fn tokens_up_to_the_refusal() {
-    answers(&["tokens", &file("tokens.stil", b"STIL 1.0; /* x */ 'A' // e")], "0 4 STIL\n5 3 1.0\n8 1 ;\n18 1 '\n19 1 A\n20 1 '\nTOKENS 6\n");
+    answers(
+        &["tokens", &file("tokens.stil", b"STIL 1.0; /* x */ 'A' // e")],
+        "0 4 STIL\n5 3 1.0\n8 1 ;\n18 1 '\n19 1 A\n20 1 '\nTOKENS 6\n",
+    );
     answers(&["tokens", &file("bad.stil", b"ab\x01 cd")], "0 2 ab\nREFUSED 2 AT 2\n");
     answers(&["tokens", &file("open.stil", b"ab /*")], "0 2 ab\nREFUSED 3 AT 3\n");
     answers(&["tokens", &file("none.stil", b"")], "TOKENS 0\n");

@@ -100,7 +100,9 @@ impl<'d> Plain<'d> {
         let lacks = |table: u8, pin: usize, value: Option<u8>| {
             value.map_or(false, |value| timing.lacks(pin as u8, value) >> table & 1 == 1)
         };
-        let fails = self.table.map_or(true, |table| self.values.iter().enumerate().any(|(pin, &value)| lacks(table, pin, value)));
+        let fails = self
+            .table
+            .map_or(true, |table| self.values.iter().enumerate().any(|(pin, &value)| lacks(table, pin, value)));
         if fails && self.fault.is_none() {
             self.fault = Some(place);
         }
@@ -258,7 +260,8 @@ fn faults_in_nested_loops_are_the_plain_ones() {
     let (mut accepted, mut failing) = (0, 0);
     for seed in 0..20_000 {
         let text = faults.text();
-        let document = Document::read_unplayed(text.as_bytes()).unwrap_or_else(|refusal| panic!("{refusal:?} in {text}"));
+        let document =
+            Document::read_unplayed(text.as_bytes()).unwrap_or_else(|refusal| panic!("{refusal:?} in {text}"));
         if document.extent.cycles > MOST_CYCLES {
             continue;
         }

@@ -102,7 +102,8 @@ fn a_procedure_hands_back_values_and_table() {
 
 #[test]
 fn a_procedure_in_a_macro_in_a_procedure() {
-    let blocks = "Procedures { i { W t1; C { A = 0; } V { } } } MacroDefs { m { V { B = 1; } Call i; V { A = 1; } W t1; } }";
+    let blocks =
+        "Procedures { i { W t1; C { A = 0; } V { } } } MacroDefs { m { V { B = 1; } Call i; V { A = 1; } W t1; } }";
     let text = build("blocks", blocks).replace("W t0; V { }", "W t0; Macro m; C { dab = 0 00; } W t0; V { }");
     assert_eq!(rows(&text), ".1.0 0..1 11.0 0000");
 }

@@ -20,7 +20,8 @@ fn main() -> ExitCode {
 fn run(words: &[&str]) -> Result<(), String> {
     match *words {
         ["big", kind] => {
-            let made = large(kind).ok_or_else(|| format!("no such kind: {kind}; there are {}", LARGE_KINDS.join(" ")))?;
+            let made =
+                large(kind).ok_or_else(|| format!("no such kind: {kind}; there are {}", LARGE_KINDS.join(" ")))?;
             io::stdout().write_all(&made).map_err(|error| error.to_string())
         }
         [seed] => io::stdout().write_all(&text(number(seed)?)).map_err(|error| error.to_string()),

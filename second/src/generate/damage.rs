@@ -4,8 +4,8 @@ use super::random::Random;
 use super::tokens::Tokens;
 
 const STRAY: [&str; 24] = [
-    "#", "{", "}", ";", "'", "(", ")", "+", "-", "=", "/", "\\", "V", "Loop", "Shift", "0", "A", "W", "%", "\"", "Pattern",
-    "In", "1.0", "zz",
+    "#", "{", "}", ";", "'", "(", ")", "+", "-", "=", "/", "\\", "V", "Loop", "Shift", "0", "A", "W", "%", "\"",
+    "Pattern", "In", "1.0", "zz",
 ];
 
 /// One change to the row of tokens.

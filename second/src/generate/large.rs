@@ -13,7 +13,9 @@ pub fn large(kind: &str) -> Option<Vec<u8>> {
     let text = match kind {
         "vectors" => pattern("", &fill(60_000, |_| vector(&mut random))),
         "wide" => pattern("", &fill(60_000, |_| wide_vector(&mut random))),
-        "comments" => pattern("", &fill(60_000, |at| format!("// {} note {at} of many\n/* V {{ }} */ V {{ }}\n", "-".repeat(60)))),
+        "comments" => {
+            pattern("", &fill(60_000, |at| format!("// {} note {at} of many\n/* V {{ }} */ V {{ }}\n", "-".repeat(60))))
+        }
         "waveforms" => waveforms(),
         "macros" => macros(),
         "calls" => calls(),
@@ -51,7 +53,8 @@ fn head() -> String {
 }
 
 fn timing() -> String {
-    "Timing { WaveformTable t { Period '100ns'; Waveforms { all { 01LH { '0ns' D/U/Z/Z; '50ns' X/X/L/H; } } } } }\n".into()
+    "Timing { WaveformTable t { Period '100ns'; Waveforms { all { 01LH { '0ns' D/U/Z/Z; '50ns' X/X/L/H; } } } } }\n"
+        .into()
 }
 
 fn tail(body: &str) -> String {
@@ -86,7 +89,12 @@ fn waveforms() -> String {
 
 /// Thirty-two bodies, each a page of statements, used once.
 fn macros() -> String {
-    let body = |number: usize| format!("macro_number_{number} {{ {}}}\n", "V { pin_number_7 = 1; pin_number_8 = L; } C { all = \\r32 0; } ".repeat(28));
+    let body = |number: usize| {
+        format!(
+            "macro_number_{number} {{ {}}}\n",
+            "V { pin_number_7 = 1; pin_number_8 = L; } C { all = \\r32 0; } ".repeat(28)
+        )
+    };
     let uses = join(32, "", |number| format!("Macro macro_number_{number};\n"));
     pattern(&format!("MacroDefs {{\n{}}}\n", join(32, "", body)), &uses)
 }
@@ -94,8 +102,15 @@ fn macros() -> String {
 /// A run of nearly the largest size: bodies using bodies within nested Loops.
 fn calls() -> String {
     let inner = "V { pin_number_3 = 1; } V { pin_number_4 = H; } ".repeat(7);
-    let blocks = format!("MacroDefs {{ low {{ {inner}}} mid {{ {}}} arg {{ V {{ pin_number_1 = #; }} }} }}\n", "Loop 2 { Macro low; } ".repeat(3));
-    let body = format!("Loop 2 {{ Loop 2 {{ Loop 2 {{ Loop 2 {{\n{}{}}} }} }} }}\n", "Macro mid;\n".repeat(1200), "Macro arg { pin_number_1 = 0; }\n".repeat(1300));
+    let blocks = format!(
+        "MacroDefs {{ low {{ {inner}}} mid {{ {}}} arg {{ V {{ pin_number_1 = #; }} }} }}\n",
+        "Loop 2 { Macro low; } ".repeat(3)
+    );
+    let body = format!(
+        "Loop 2 {{ Loop 2 {{ Loop 2 {{ Loop 2 {{\n{}{}}} }} }} }}\n",
+        "Macro mid;\n".repeat(1200),
+        "Macro arg { pin_number_1 = 0; }\n".repeat(1300)
+    );
     pattern(&blocks, &body)
 }
 
@@ -142,5 +157,9 @@ fn groups(random: &mut Random) -> String {
         });
         groups += &format!("g{number} = 'all{swaps}';\n");
     }
-    format!("STIL 1.0;\nSignals {{ {signals} }}\nSignalGroups {{ {groups} }}\n{}{}", timing(), tail("V { g30 = \\r32 0; }\n"))
+    format!(
+        "STIL 1.0;\nSignals {{ {signals} }}\nSignalGroups {{ {groups} }}\n{}{}",
+        timing(),
+        tail("V { g30 = \\r32 0; }\n")
+    )
 }

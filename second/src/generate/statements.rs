@@ -183,7 +183,8 @@ impl Writer {
 
     /// A use of a body whose depth and size leave room for it.
     fn body_use(&mut self, inside: &mut Inside, level: usize) -> Option<Extent> {
-        let fits = |body: &&Body| level + 1 + body.depth <= MAX_DEPTH && body.size < LARGEST_USE && body.cycles < 10_000;
+        let fits =
+            |body: &&Body| level + 1 + body.depth <= MAX_DEPTH && body.size < LARGEST_USE && body.cycles < 10_000;
         let numbers: Vec<usize> = (0..self.bodies.len()).filter(|&at| fits(&&self.bodies[at])).collect();
         if numbers.is_empty() {
             return None;
@@ -226,7 +227,11 @@ impl Writer {
             self.out.put(";");
         }
         self.out.put("}");
-        if shifted.contains(&true) { shifts } else { 0 }
+        if shifted.contains(&true) {
+            shifts
+        } else {
+            0
+        }
     }
 
     /// The signal's own name or that of a group of it alone.

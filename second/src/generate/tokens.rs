@@ -27,9 +27,8 @@ fn is_word(token: &str) -> bool {
 }
 
 const BLANKS: [&str; 6] = [" ", "\n", "\t", " \r\n", "  ", " "];
-const COMMENTS: [&str; 8] = [
-    "/**/", "/* ; } */", "// to the end\n", "//\n", "/* // */", "// /* \r '\n", "/***/", "/*/ V { A = 0; } /*/",
-];
+const COMMENTS: [&str; 8] =
+    ["/**/", "/* ; } */", "// to the end\n", "//\n", "/* // */", "// /* \r '\n", "/***/", "/*/ V { A = 0; } /*/"];
 
 /// How the tokens are set apart; some texts are tight, some full of comments.
 pub fn render(tokens: &Tokens, random: &mut Random) -> Vec<u8> {

@@ -19,7 +19,8 @@ const SIGNALS: &str = "Signals { A In; B Out; D InOut; }\n";
 const GROUPS: &str = "SignalGroups { ab = 'A+B'; one = 'D'; dab = 'D+ab'; }\n";
 const TIMING: &str = "Timing { WaveformTable t0 { Period '100ns'; Waveforms { dab { 01x { '0ns' D/U/Z; } } } }
  WaveformTable t1 { Period '50ns'; Waveforms { ab { 0 { '0ps' D; } } } } }\n";
-const BLOCKS: &str = "MacroDefs { e { } v { V { } } s { Shift { V { ab = ##; } } V { A = #; } } u { V { A = #; } V { A = #; } } }
+const BLOCKS: &str =
+    "MacroDefs { e { } v { V { } } s { Shift { V { ab = ##; } } V { A = #; } } u { V { A = #; } V { A = #; } } }
  Procedures { q { V { A = 0; } } w { W t1; C { A = 0; } } }\n";
 const BURST: &str = "PatternBurst b { PatList { p; } }\nPatternExec { PatternBurst b; }\n";
 const PATTERN: &str = "Pattern p { W t0; V { } }\n";
