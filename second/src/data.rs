@@ -69,7 +69,8 @@ fn repeat_count(reader: &mut Reader) -> Answer<u32> {
 
 fn word(reader: &mut Reader, repeat: u32) -> Answer<Item> {
     let token = reader.any_word()?;
-    if !token.bytes(reader.text).iter().all(u8::is_ascii_alphanumeric) {
+    // A word has letters, digits, `_` and `.`; only the first two are waveform characters.
+    if token.bytes(reader.text).iter().fold(false, |other, &byte| other | matches!(byte, b'_' | b'.')) {
         return Err(token.refuse(BAD_DATA));
     }
     Ok(Item::Word(Piece { repeat, place: token.place, length: token.length }))

@@ -66,7 +66,8 @@ pub fn token(text: &[u8], place: u64) -> Answer<Option<Located>> {
     if place >= text.len() as u64 {
         return Ok(None);
     }
-    Ok(next_token(text, place as usize)?.map(Token::located))
+    let token = token_at(text, skip_separators(text, place as usize)?);
+    Ok(Some(token).filter(|token| token.length > 0).map(Token::located))
 }
 
 /// Refusals 1 to 3, which a whole text must pass before its blocks are read.
@@ -79,8 +80,7 @@ pub fn check_bytes(text: &[u8]) -> Answer<()> {
     }
     // No word holds a `/`, so comments are found from one `/` to the next.
     let mut at = 0;
-    while let Some(slash) = text[at..].iter().position(|&byte| byte == b'/') {
-        let place = at + slash;
+    while let Some(place) = next_slash(text, at) {
         at = match text.get(place + 1) {
             Some(b'/') => line_comment_end(text, place)?,
             Some(b'*') => closed_comment_end(text, place)?,
@@ -90,10 +90,30 @@ pub fn check_bytes(text: &[u8]) -> Answer<()> {
     Ok(())
 }
 
+fn next_slash(text: &[u8], from: usize) -> Option<usize> {
+    let mut at = from;
+    for chunk in text[from..].chunks(64) {
+        // Whole chunks without a branch for each byte: slashes are few.
+        if chunk.iter().fold(false, |found, &byte| found | (byte == b'/')) {
+            return chunk.iter().position(|&byte| byte == b'/').map(|slash| at + slash);
+        }
+        at += chunk.len();
+    }
+    None
+}
+
 /// The first token from a place on, of a text whose bytes were checked; of length 0 where there is none.
+#[inline]
 pub fn token_from(text: &[u8], at: usize) -> Token {
-    let end = Token { place: text.len() as u32, length: 0, first: 0 };
-    next_token(text, at).ok().flatten().unwrap_or(end)
+    let mut place = at;
+    while place < text.len() && CLASS[text[place] as usize] == BLANK {
+        place += 1;
+    }
+    // Only a `/` can begin more of what separates tokens.
+    if text.get(place) == Some(&b'/') {
+        place = skip_separators(text, place).unwrap_or(text.len());
+    }
+    token_at(text, place)
 }
 
 fn first_not_allowed(text: &[u8]) -> Option<usize> {
@@ -106,19 +126,17 @@ fn first_not_allowed(text: &[u8]) -> Option<usize> {
     text.iter().position(|&byte| !allowed(byte))
 }
 
-fn next_token(text: &[u8], at: usize) -> Answer<Option<Token>> {
-    let place = skip_separators(text, at)?;
-    let first = match text.get(place) {
-        Some(&first) => first,
-        None => return Ok(None),
+/// The token that begins right here; of length 0 at the end of the text.
+fn token_at(text: &[u8], place: usize) -> Token {
+    let rest = &text[place..];
+    let first = rest.first().copied().unwrap_or(0);
+    let is_word = |&byte: &u8| CLASS[byte as usize] == WORD;
+    let length = if is_word(&first) {
+        rest.iter().position(|byte| !is_word(byte)).unwrap_or(rest.len())
+    } else {
+        rest.len().min(1)
     };
-    let mut end = place + 1;
-    if CLASS[first as usize] == WORD {
-        while end < text.len() && CLASS[text[end] as usize] == WORD {
-            end += 1;
-        }
-    }
-    Ok(Some(Token { place: place as u32, length: (end - place) as u32, first }))
+    Token { place: place as u32, length: length as u32, first }
 }
 
 /// The place of the first byte that is neither blank nor in a comment.

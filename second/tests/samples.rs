@@ -148,3 +148,27 @@ fn hashes_take_characters_across_the_shift() {
     let text = build("blocks", blocks).replace("W t0; V { }", "W t0; Macro m { A = 01 x1 0; } V { }");
     assert_eq!(rows(&text), "01.0 1100 x100 1100 0x10 0x10");
 }
+
+#[test]
+fn an_empty_list_has_no_rows_and_no_visits() {
+    let text = SAMPLE.replace("PatList { p; }", "PatList { }");
+    assert_eq!(read(&text, 0, 9), (Window { rows: 0, visits: 0 }, String::new()));
+    assert_eq!(listing(text.as_bytes()).expect("accepted"), b"SIGNALS 2\nA\nB\nTABLES 1\nt0\nCYCLES 0\n");
+}
+
+#[test]
+fn visits_past_statements_without_cycles_and_into_later_patterns() {
+    let burst = "PatternBurst b { PatList { e; p; e; p; } } PatternExec { PatternBurst b; }
+        Pattern e { } Pattern p { W t0; Macro e; Call q; Loop 3 { C { } V { } } Macro s { A = 010; B = 11; } }";
+    let text = build("burst", burst);
+    let visits = |first| window(text.as_bytes(), first, 0, &mut []).expect("accepted").visits;
+    // e is 1; p is 1 + W 1, Macro e 1, Call q 2, Loop 3, Macro s 4: 12. Its cycles are 1 + 3 + 3.
+    assert_eq!(visits(0), 1 + 12 + 1 + 1 + 2 + 1);
+    assert_eq!(visits(1), 1 + 12 + 1 + 1 + 2 + 3 + 2);
+    assert_eq!(visits(3), 1 + 12 + 1 + 1 + 2 + 3 + 2);
+    assert_eq!(visits(4), 1 + 12 + 1 + 1 + 2 + 3 + 4 + 2 + 1);
+    assert_eq!(visits(5), 1 + 12 + 1 + 1 + 2 + 3 + 4 + 2 + 1);
+    assert_eq!(visits(6), 1 + 12 + 1 + 1 + 2 + 3 + 4 + 2 + 1);
+    assert_eq!(visits(7), 1 + 12 + 1 + 12 + 1 + 1 + 2 + 1);
+    assert_eq!(visits(14), 1 + 12 + 1 + 12);
+}
