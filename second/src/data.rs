@@ -24,7 +24,9 @@ impl Piece {
         let most = u64::from(self.count()).min(most) as usize;
         let extra = (self.repeat as usize - 1).min(most);
         let word = &text[self.place as usize..];
-        chars.resize(chars.len() + extra, word[0]);
+        if extra > 0 {
+            chars.resize(chars.len() + extra, word[0]);
+        }
         chars.extend_from_slice(&word[..most - extra]);
     }
 
