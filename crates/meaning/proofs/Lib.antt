@@ -1,5 +1,7 @@
 pub mod Samples
 pub mod Determined
+pub mod Takes
+pub mod Taking
 pub mod Gives
 pub mod Choices
 pub mod Statements

@@ -1,0 +1,44 @@
+//! Writes generated texts: `generate SEED`, `generate DIR FIRST COUNT`, `generate big KIND`.
+
+use second::generate::{large, text, LARGE_KINDS};
+use std::io::{self, Write};
+use std::path::Path;
+use std::process::ExitCode;
+
+fn main() -> ExitCode {
+    let words: Vec<String> = std::env::args().skip(1).collect();
+    let words: Vec<&str> = words.iter().map(String::as_str).collect();
+    match run(&words) {
+        Ok(()) => ExitCode::SUCCESS,
+        Err(line) => {
+            eprintln!("{line}");
+            ExitCode::from(2)
+        }
+    }
+}
+
+fn run(words: &[&str]) -> Result<(), String> {
+    match *words {
+        ["big", kind] => {
+            let made =
+                large(kind).ok_or_else(|| format!("no such kind: {kind}; there are {}", LARGE_KINDS.join(" ")))?;
+            io::stdout().write_all(&made).map_err(|error| error.to_string())
+        }
+        [seed] => io::stdout().write_all(&text(number(seed)?)).map_err(|error| error.to_string()),
+        [dir, first, count] => write_files(Path::new(dir), number(first)?, number(count)?),
+        _ => Err("generate SEED | generate DIR FIRST COUNT | generate big KIND".into()),
+    }
+}
+
+fn number(word: &str) -> Result<u64, String> {
+    word.parse().map_err(|_| format!("not a number: {word}"))
+}
+
+fn write_files(dir: &Path, first: u64, count: u64) -> Result<(), String> {
+    std::fs::create_dir_all(dir).map_err(|error| error.to_string())?;
+    for seed in first..first.saturating_add(count) {
+        let file = dir.join(format!("{seed}.stil"));
+        std::fs::write(&file, text(seed)).map_err(|error| format!("{}: {error}", file.display()))?;
+    }
+    Ok(())
+}

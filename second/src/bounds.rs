@@ -1,0 +1,22 @@
+//! The bounds of document 01, each in one place.
+
+pub const MAX_TEXT: usize = 65_536;
+pub const MAX_NAME: usize = 32;
+pub const MAX_SIGNALS: usize = 64;
+pub const MAX_GROUPS: usize = 32;
+pub const MAX_TABLES: usize = 8;
+pub const MAX_CHARS: usize = 16;
+pub const MAX_EVENTS: usize = 16;
+pub const MAX_BODIES: usize = 32;
+pub const MAX_PATTERNS: usize = 16;
+pub const MAX_LISTED: usize = 16;
+pub const MAX_BRACKETS: usize = 8;
+pub const MAX_DEPTH: usize = 8;
+pub const MAX_ARGUMENT: u64 = 4_096;
+pub const MAX_REPEAT: u64 = 4_096;
+pub const MAX_TURNS: u64 = 16_777_215;
+pub const MAX_PERIOD: u64 = 1_000_000_000;
+pub const MAX_TIME: u64 = 1_000_000_000;
+pub const MAX_SIZE: u64 = 65_536;
+pub const MAX_CYCLES: u64 = 1_099_511_627_776;
+pub const MAX_LISTING: u64 = 1_000_000;

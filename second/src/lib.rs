@@ -1,0 +1,28 @@
+//! The second reader: document 01's subset of STIL, read independently of the proved reader.
+
+pub mod bodies;
+pub mod bounds;
+pub mod data;
+pub mod document;
+pub mod frame;
+pub mod generate;
+pub mod groups;
+pub mod listing;
+pub mod names;
+pub mod numbers;
+pub mod pinset;
+pub mod reader;
+pub mod refusal;
+pub mod rows;
+pub mod run;
+pub mod services;
+pub mod signals;
+pub mod statements;
+pub mod timing;
+pub mod tokens;
+
+pub use document::Document;
+pub use listing::listing;
+pub use refusal::Refusal;
+pub use services::{check, name, waveform, window, Declared, Summary, Window};
+pub use tokens::{token, Located};

@@ -1,0 +1,204 @@
+//! The command lines of docs/COMMANDS.md.
+
+use second::listing::refusal_line;
+use second::refusal::Answer;
+use second::timing::Asked;
+use second::{bounds, listing, token, Declared, Document, Refusal};
+use std::ffi::OsString;
+use std::fs::File;
+use std::io::{self, BufWriter, Read, Write};
+use std::os::unix::ffi::OsStrExt;
+use std::process::ExitCode;
+
+const HELP: &str = "\
+check FILE..
+name FILE signal N
+name FILE table N
+window FILE FIRST COUNT
+waveform FILE TABLE SIGNAL CHARACTER
+tokens FILE
+list FILE
+help
+";
+
+/// Rows written at a time, so that no count asked for needs more memory.
+const ROWS_AT_ONCE: u64 = 65_536;
+
+/// Why a command line is not answered: one line for standard error.
+struct Fault(String);
+
+impl From<io::Error> for Fault {
+    fn from(error: io::Error) -> Fault {
+        Fault(format!("standard output: {error}"))
+    }
+}
+
+type Done = Result<(), Fault>;
+
+fn main() -> ExitCode {
+    let words: Vec<OsString> = std::env::args_os().skip(1).collect();
+    let mut out = BufWriter::new(io::stdout());
+    match answer(&words, &mut out).and_then(|()| Ok(out.flush()?)) {
+        Ok(()) => ExitCode::SUCCESS,
+        Err(Fault(line)) => {
+            eprintln!("{line}");
+            ExitCode::from(2)
+        }
+    }
+}
+
+fn answer(words: &[OsString], out: &mut dyn Write) -> Done {
+    let (command, rest) = words.split_first().ok_or_else(|| Fault("missing word: command".into()))?;
+    match command.as_bytes() {
+        b"check" => check(rest, out),
+        b"name" => name(exactly(rest, ["FILE", "signal or table", "N"])?, out),
+        b"window" => window(exactly(rest, ["FILE", "FIRST", "COUNT"])?, out),
+        b"waveform" => waveform(exactly(rest, ["FILE", "TABLE", "SIGNAL", "CHARACTER"])?, out),
+        b"tokens" => tokens(exactly(rest, ["FILE"])?, out),
+        b"list" => list(exactly(rest, ["FILE"])?, out),
+        b"help" => {
+            exactly(rest, [])?;
+            Ok(out.write_all(HELP.as_bytes())?)
+        }
+        _ => Err(Fault(format!("no such command: {}", command.to_string_lossy()))),
+    }
+}
+
+/// The words that must stand there, no fewer and no more.
+fn exactly<'w, const N: usize>(words: &'w [OsString], due: [&str; N]) -> Result<&'w [OsString; N], Fault> {
+    if words.len() < N {
+        return Err(Fault(format!("missing word: {}", due[words.len()])));
+    }
+    <&[OsString; N]>::try_from(words).map_err(|_| Fault(format!("one word too many: {}", words[N].to_string_lossy())))
+}
+
+/// A text's bytes, one past the bound at most: more cannot change that it is too long.
+fn read_text(file: &OsString) -> io::Result<Vec<u8>> {
+    let mut text = Vec::new();
+    File::open(file)?.take(bounds::MAX_TEXT as u64 + 1).read_to_end(&mut text)?;
+    Ok(text)
+}
+
+fn text_of(file: &OsString) -> Result<Vec<u8>, Fault> {
+    read_text(file).map_err(|_| Fault(format!("cannot be read: {}", file.to_string_lossy())))
+}
+
+fn number(word: &OsString) -> Result<u64, Fault> {
+    let bytes = word.as_bytes();
+    let digits = !bytes.is_empty() && bytes.iter().all(u8::is_ascii_digit);
+    let value = word.to_str().filter(|_| digits).and_then(|word| word.parse().ok());
+    value.ok_or_else(|| Fault(format!("not a number: {}", word.to_string_lossy())))
+}
+
+/// Writes the answer, or the one line of its refusal.
+fn write_answer<T>(
+    out: &mut dyn Write,
+    answer: Answer<T>,
+    write: impl FnOnce(&mut dyn Write, T) -> io::Result<()>,
+) -> Done {
+    match answer {
+        Ok(value) => write(out, value)?,
+        Err(refusal) => out.write_all(refusal_line(refusal).as_bytes())?,
+    }
+    Ok(())
+}
+
+fn check(files: &[OsString], out: &mut dyn Write) -> Done {
+    let (mut good, mut hurt, mut unread) = (0, 0, 0);
+    for file in files {
+        out.write_all(file.as_bytes())?;
+        match read_text(file).map(|text| second::check(&text)) {
+            Ok(Ok(sum)) => {
+                good += 1;
+                writeln!(out, " OK {} {} {} {} {}", sum.signals, sum.tables, sum.patterns, sum.cycles, sum.size)?;
+            }
+            Ok(Err(refusal)) => {
+                hurt += 1;
+                write!(out, " {}", refusal_line(refusal))?;
+            }
+            Err(_) => {
+                unread += 1;
+                writeln!(out, " CANNOT BE READ")?;
+            }
+        }
+    }
+    Ok(writeln!(out, "GOOD {good} HURT {hurt} UNREAD {unread}")?)
+}
+
+fn name([file, kind, which]: &[OsString; 3], out: &mut dyn Write) -> Done {
+    let declared = match kind.as_bytes() {
+        b"signal" => Declared::Signal,
+        b"table" => Declared::Table,
+        _ => return Err(Fault(format!("neither signal nor table: {}", kind.to_string_lossy()))),
+    };
+    let which = number(which)?;
+    let text = text_of(file)?;
+    write_answer(out, second::name(&text, declared, which), |out, name| {
+        let bytes = &text[name.place as usize..(name.place + name.length) as usize];
+        out.write_all(bytes)?;
+        writeln!(out, " AT {} LENGTH {}", name.place, name.length)
+    })
+}
+
+fn window([file, first, count]: &[OsString; 3], out: &mut dyn Write) -> Done {
+    let (first, count) = (number(first)?, number(count)?);
+    let text = text_of(file)?;
+    write_answer(out, Document::read(&text), |out, document| write_rows(out, &document, first, count))
+}
+
+fn write_rows(out: &mut dyn Write, document: &Document, first: u64, count: u64) -> io::Result<()> {
+    let due = count.min(document.extent.cycles.saturating_sub(first));
+    let width = document.row_width();
+    let mut buffer = vec![0; due.min(ROWS_AT_ONCE) as usize * width];
+    let fails = |refusal: Refusal| io::Error::new(io::ErrorKind::Other, refusal_line(refusal));
+    let visits = document.window(first, 0, &mut []).map_err(fails)?.visits;
+    let mut written = 0;
+    while written < due {
+        let rows =
+            document.window(first + written, (due - written).min(ROWS_AT_ONCE), &mut buffer).map_err(fails)?.rows;
+        out.write_all(&buffer[..rows as usize * width])?;
+        written += rows;
+    }
+    writeln!(out, "VISITS {visits}")
+}
+
+fn waveform([file, table, signal, character]: &[OsString; 4], out: &mut dyn Write) -> Done {
+    let (table, signal) = (number(table)?, number(signal)?);
+    let character = match *character.as_bytes() {
+        [byte] => byte,
+        _ => return Err(Fault(format!("not one byte: {}", character.to_string_lossy()))),
+    };
+    let text = text_of(file)?;
+    let (mut times, mut letters) = ([0; bounds::MAX_EVENTS], [0; bounds::MAX_EVENTS]);
+    let asked = Asked { table, signal, character };
+    let count = Document::read(&text).and_then(|document| document.waveform(asked, &mut times, &mut letters));
+    write_answer(out, count, |out, count| {
+        writeln!(out, "EVENTS {count}")?;
+        let mut events = times.iter().zip(&letters).take(count as usize);
+        events.try_for_each(|(time, &letter)| writeln!(out, "{time} {}", letter as char))
+    })
+}
+
+fn tokens([file]: &[OsString; 1], out: &mut dyn Write) -> Done {
+    let text = text_of(file)?;
+    let (mut place, mut count) = (0, 0);
+    let end = loop {
+        match token(&text, place) {
+            Ok(Some(found)) => {
+                place = found.place + found.length;
+                count += 1;
+                write!(out, "{} {} ", found.place, found.length)?;
+                out.write_all(&text[found.place as usize..place as usize])?;
+                out.write_all(b"\n")?;
+            }
+            Ok(None) => break Ok(count),
+            Err(refusal) => break Err(refusal),
+        }
+    };
+    write_answer(out, end, |out, count: u64| writeln!(out, "TOKENS {count}"))
+}
+
+fn list([file]: &[OsString; 1], out: &mut dyn Write) -> Done {
+    let text = text_of(file)?;
+    write_answer(out, listing(&text), |out, lines| out.write_all(&lines))
+}

@@ -1,0 +1,76 @@
+//! What a name is, and one name space.
+
+use crate::bounds::MAX_NAME;
+use crate::tokens::Token;
+
+/// Twice the names of the largest name space and more, and a power of two.
+const SLOTS: usize = 256;
+
+pub fn is_name(word: &[u8]) -> bool {
+    !word.is_empty()
+        && word.len() <= MAX_NAME
+        && !word[0].is_ascii_digit()
+        && !word.contains(&b'.')
+        && !is_reserved(word)
+}
+
+#[rustfmt::skip]
+fn is_reserved(word: &[u8]) -> bool {
+    matches!(word,
+        b"STIL" | b"Signals" | b"SignalGroups" | b"Timing" | b"WaveformTable" | b"Period" | b"Waveforms"
+        | b"Procedures" | b"MacroDefs" | b"PatternBurst" | b"PatList" | b"PatternExec" | b"Pattern"
+        | b"In" | b"Out" | b"InOut" | b"V" | b"W" | b"C" | b"Call" | b"Macro" | b"Loop" | b"Shift")
+}
+
+/// Names numbered in the order they were declared, found by a small hash table.
+pub struct NameTable {
+    names: Vec<Token>,
+    slots: [u16; SLOTS],
+}
+
+impl NameTable {
+    pub fn new() -> NameTable {
+        NameTable { names: Vec::new(), slots: [0; SLOTS] }
+    }
+
+    pub fn count(&self) -> usize {
+        self.names.len()
+    }
+
+    pub fn get(&self, index: usize) -> Option<Token> {
+        self.names.get(index).copied()
+    }
+
+    pub fn find(&self, text: &[u8], word: &[u8]) -> Option<usize> {
+        let mut slot = slot_of(word);
+        loop {
+            let index = (self.slots[slot] as usize).checked_sub(1)?;
+            if self.names[index].bytes(text) == word {
+                return Some(index);
+            }
+            slot = (slot + 1) % SLOTS;
+        }
+    }
+
+    /// The caller has looked that the name is new and that the space has room.
+    pub fn add(&mut self, text: &[u8], name: Token) {
+        let mut slot = slot_of(name.bytes(text));
+        while self.slots[slot] != 0 {
+            slot = (slot + 1) % SLOTS;
+        }
+        self.names.push(name);
+        self.slots[slot] = self.names.len() as u16;
+    }
+}
+
+impl Default for NameTable {
+    fn default() -> NameTable {
+        NameTable::new()
+    }
+}
+
+fn slot_of(word: &[u8]) -> usize {
+    let mix = |hash: u32, &byte: &u8| (hash ^ u32::from(byte)).wrapping_mul(16_777_619);
+    let hash = word.iter().take(MAX_NAME).fold(2_166_136_261, mix);
+    (hash ^ (hash >> 16)) as usize % SLOTS
+}

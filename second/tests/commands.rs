@@ -1,0 +1,110 @@
+//! The program's bytes, by docs/COMMANDS.md.
+
+mod common;
+use common::SAMPLE;
+use std::path::PathBuf;
+use std::process::{Command, Output};
+
+fn file(name: &str, bytes: &[u8]) -> String {
+    let path = PathBuf::from(env!("CARGO_TARGET_TMPDIR")).join(name);
+    std::fs::write(&path, bytes).expect("a place to write");
+    path.to_str().expect("plain").to_string()
+}
+
+fn run(words: &[&str]) -> Output {
+    Command::new(env!("CARGO_BIN_EXE_second")).args(words).output().expect("it runs")
+}
+
+fn answers(words: &[&str], due: &str) {
+    let output = run(words);
+    assert_eq!(String::from_utf8_lossy(&output.stdout), due, "{words:?}");
+    assert!(output.status.success() && output.stderr.is_empty(), "{words:?}");
+}
+
+/// One line on standard error that names the word, nothing else, status 2.
+fn turned_down(words: &[&str], named: &str) {
+    let output = run(words);
+    let line = String::from_utf8_lossy(&output.stderr).to_string();
+    assert!(output.stdout.is_empty(), "{words:?}");
+    assert_eq!(output.status.code(), Some(2), "{words:?}");
+    assert!(line.ends_with('\n') && line.lines().count() == 1 && line.contains(named), "{words:?}: {line}");
+}
+
+#[test]
+fn check_goes_on_past_every_file() {
+    let (good, hurt) = (file("good.stil", SAMPLE.as_bytes()), file("hurt.stil", b"STIL 2.0;"));
+    let (long, none) = (file("long.stil", &[b' '; 200_000]), "/nowhere/at/all.stil");
+    let due = format!(
+        "{good} OK 2 1 1 7 10\n{none} CANNOT BE READ\n{hurt} REFUSED 4 AT 5\n{long} REFUSED 1 AT 0\n/ CANNOT BE READ\nGOOD 1 HURT 2 UNREAD 2\n"
+    );
+    answers(&["check", &good, none, &hurt, &long, "/"], &due);
+    answers(&["check"], "GOOD 0 HURT 0 UNREAD 0\n");
+}
+
+#[test]
+fn single_answers() {
+    let good = &file("single.stil", SAMPLE.as_bytes());
+    answers(&["name", good, "signal", "0"], "A AT 20 LENGTH 1\n");
+    answers(&["name", good, "signal", "0001"], "B AT 26 LENGTH 1\n");
+    answers(&["name", good, "table", "0"], "t0 AT 87 LENGTH 2\n");
+    answers(&["name", good, "table", "1"], "REFUSED 18 AT 0\n");
+    answers(&["window", good, "2", "2"], "1H0\n0H0\nVISITS 16\n");
+    answers(&["window", good, "6", "18446744073709551615"], "1H0\nVISITS 22\n");
+    answers(&["window", good, "18446744073709551615", "1"], "VISITS 10\n");
+    answers(&["waveform", good, "0", "1", "X"], "EVENTS 2\n0 Z\n50000 X\n");
+    answers(&["waveform", good, "0", "1", "0"], "REFUSED 18 AT 0\n");
+    answers(&["list", good], "SIGNALS 2\nA\nB\nTABLES 1\nt0\nCYCLES 7\n1X0\n0H0\n1H0\n0H0\n1L0\n0H0\n1H0\n");
+}
+
+#[test]
+fn refusals_are_answers() {
+    let hurt = &file("refused.stil", b"STIL 1.0; Signals { }");
+    for words in [
+        vec!["list", hurt],
+        vec!["window", hurt, "0", "1"],
+        vec!["name", hurt, "table", "0"],
+        vec!["waveform", hurt, "0", "0", "0"],
+    ] {
+        answers(&words, "REFUSED 4 AT 20\n");
+    }
+}
+
+#[test]
+fn tokens_up_to_the_refusal() {
+    answers(
+        &["tokens", &file("tokens.stil", b"STIL 1.0; /* x */ 'A' // e")],
+        "0 4 STIL\n5 3 1.0\n8 1 ;\n18 1 '\n19 1 A\n20 1 '\nTOKENS 6\n",
+    );
+    answers(&["tokens", &file("bad.stil", b"ab\x01 cd")], "0 2 ab\nREFUSED 2 AT 2\n");
+    answers(&["tokens", &file("open.stil", b"ab /*")], "0 2 ab\nREFUSED 3 AT 3\n");
+    answers(&["tokens", &file("none.stil", b"")], "TOKENS 0\n");
+    answers(&["tokens", &file("toolong.stil", &[b'a'; 65_537])], "REFUSED 1 AT 0\n");
+}
+
+#[test]
+fn long_windows_in_parts() {
+    let text = SAMPLE.replace("Loop 2", "Loop 100000");
+    let output = run(&["window", &file("loop.stil", text.as_bytes()), "1", "200000"]);
+    // From the first turn's second row to the macro's first: 1 + 2 * 99,999 + 1 rows.
+    let due = format!("0H0\n{}1L0\nVISITS 17\n", "1H0\n0H0\n".repeat(99_999));
+    assert!(output.stdout == due.as_bytes());
+}
+
+#[test]
+fn faults_of_the_command_line() {
+    let good = &file("faults.stil", SAMPLE.as_bytes());
+    turned_down(&[], "command");
+    turned_down(&["chek", good], "chek");
+    turned_down(&["name", good, "signal"], "N");
+    turned_down(&["name", good, "signals", "0"], "signals");
+    turned_down(&["name", good, "signal", "0", "more"], "more");
+    turned_down(&["window", good, "-1", "0"], "-1");
+    turned_down(&["window", good, "0", "18446744073709551616"], "18446744073709551616");
+    turned_down(&["window", good, "+1", "0"], "+1");
+    turned_down(&["window", good, "", "0"], "not a number");
+    turned_down(&["waveform", good, "0", "0", "01"], "01");
+    turned_down(&["waveform", good, "0", "0", ""], "not one byte");
+    turned_down(&["list", "/nowhere.stil"], "/nowhere.stil");
+    turned_down(&["tokens"], "FILE");
+    turned_down(&["help", "me"], "me");
+}

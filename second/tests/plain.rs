@@ -1,0 +1,276 @@
+//! The plain way, every turn of every Loop played, against the clever one.
+
+use second::data::Cursor;
+use second::document::Document;
+use second::generate::random::Random;
+use second::generate::text;
+use second::run::check_cycles;
+use second::statements::{Act, Range, Statement, Use};
+use second::Refusal;
+use std::collections::HashMap;
+
+const MOST_CYCLES: u64 = 6_000;
+
+/// One use's arguments: for each signal where its data goes on, and the Shift's turns.
+#[derive(Default)]
+struct Arguments {
+    cursors: HashMap<u8, Cursor>,
+    shifts: u32,
+}
+
+struct Plain<'d> {
+    document: &'d Document<'d>,
+    values: Vec<Option<u8>>,
+    table: Option<u8>,
+    rows: Vec<u8>,
+    fault: Option<u64>,
+}
+
+impl<'d> Plain<'d> {
+    fn run(document: &'d Document<'d>) -> Plain<'d> {
+        let mut plain = Plain { document, values: Vec::new(), table: None, rows: Vec::new(), fault: None };
+        for &pattern in &document.run {
+            plain.values = vec![None; document.pins.signals];
+            plain.table = None;
+            plain.all(document.patterns[pattern].statements, &mut Arguments::default());
+        }
+        plain
+    }
+
+    fn statement(&self, at: u32) -> &'d Statement {
+        &self.document.program.statements[at as usize]
+    }
+
+    fn arguments(&self, used: &Use) -> Arguments {
+        let start = |piece| Cursor { piece, offset: 0 };
+        let given = used.arguments.of(&self.document.program.arguments);
+        let cursors = given.iter().map(|argument| (argument.pin, start(argument.first_piece))).collect();
+        Arguments { cursors, shifts: used.shifts }
+    }
+
+    fn all(&mut self, range: Range, arguments: &mut Arguments) {
+        let mut at = range.first;
+        while at < range.end {
+            self.one(at, arguments);
+            at = self.statement(at).next;
+        }
+    }
+
+    fn one(&mut self, at: u32, arguments: &mut Arguments) {
+        let statement = self.statement(at);
+        let inner = Range { first: at + 1, end: statement.next };
+        match statement.act {
+            Act::Vector { place, assigns } => {
+                self.assign(assigns, arguments);
+                self.cycle(place.into());
+            }
+            Act::Condition { assigns } => self.assign(assigns, arguments),
+            Act::Table(table) => self.table = Some(table),
+            Act::Loop { turns, .. } => (0..turns).for_each(|_| self.all(inner, arguments)),
+            Act::Shift => (0..arguments.shifts).for_each(|_| self.all(inner, arguments)),
+            Act::Macro(used) => self.body(&used),
+            Act::Call(used) => {
+                let (values, table) = (self.values.clone(), self.table);
+                self.values.iter_mut().for_each(|value| *value = None);
+                self.body(&used);
+                (self.values, self.table) = (values, table);
+            }
+        }
+    }
+
+    fn body(&mut self, used: &Use) {
+        let statements = self.document.bodies.bodies[used.body as usize].statements;
+        self.all(statements, &mut self.arguments(used));
+    }
+
+    fn assign(&mut self, assigns: Range, arguments: &mut Arguments) {
+        let program = &self.document.program;
+        for assign in assigns.of(&program.assigns) {
+            for (pin, character) in self.document.assigned(assign) {
+                self.values[pin as usize] = Some(match character {
+                    b'#' => arguments.cursors.get_mut(&pin).expect("given").take(self.document.text, &program.pieces),
+                    plain => plain,
+                });
+            }
+        }
+    }
+
+    fn cycle(&mut self, place: u64) {
+        let timing = &self.document.timing;
+        let lacks = |table: u8, pin: usize, value: Option<u8>| {
+            value.map_or(false, |value| timing.lacks(pin as u8, value) >> table & 1 == 1)
+        };
+        let fails = self
+            .table
+            .map_or(true, |table| self.values.iter().enumerate().any(|(pin, &value)| lacks(table, pin, value)));
+        if fails && self.fault.is_none() {
+            self.fault = Some(place);
+        }
+        self.rows.extend(self.values.iter().map(|value| value.unwrap_or(b'.')));
+        self.rows.push(b'0' + self.table.unwrap_or(0));
+        self.rows.push(b'\n');
+    }
+}
+
+/// Document 01's definition, statement by statement.
+fn visits(document: &Document, range: Range, shifts: u32, mut place: u64) -> u64 {
+    let mut sum = 0;
+    let mut at = range.first;
+    while at < range.end {
+        let statement = &document.program.statements[at as usize];
+        let cycles = if let Act::Shift = statement.act { shifts.into() } else { statement.extent.cycles };
+        sum += statement.extent.size;
+        if place < cycles {
+            let inner = Range { first: at + 1, end: statement.next };
+            return sum
+                + match statement.act {
+                    Act::Loop { turn_cycles, .. } => visits(document, inner, 0, place % turn_cycles),
+                    Act::Shift => visits(document, inner, 0, 0),
+                    Act::Macro(used) | Act::Call(used) => {
+                        let body = document.bodies.bodies[used.body as usize].statements;
+                        visits(document, body, used.shifts, place)
+                    }
+                    _ => 0,
+                };
+        }
+        place -= cycles;
+        at = statement.next;
+    }
+    sum
+}
+
+fn visits_of_run(document: &Document, mut place: u64) -> u64 {
+    let mut sum = 0;
+    for &pattern in &document.run {
+        let body = &document.patterns[pattern];
+        sum += 1 + body.extent.size;
+        if place < body.extent.cycles {
+            return sum + visits(document, body.statements, 0, place);
+        }
+        place -= body.extent.cycles;
+    }
+    sum
+}
+
+fn compare(seed: u64, document: &Document) -> bool {
+    let plain = Plain::run(document);
+    let due = plain.fault.map_or(Ok(()), |place| Err(Refusal { number: 17, place }));
+    assert_eq!(check_cycles(document), due, "seed {seed}");
+    if due.is_err() {
+        return false;
+    }
+    let (width, cycles) = (document.row_width(), document.extent.cycles);
+    assert_eq!(plain.rows.len(), cycles as usize * width, "seed {seed}");
+    let mut from = 0;
+    while from <= cycles + 1 {
+        for wanted in [0, 1, 7, cycles] {
+            let mut buffer = vec![b'-'; plain.rows.len() + 3];
+            let window = document.window(from, wanted, &mut buffer).expect("room");
+            let rows = wanted.min(cycles.saturating_sub(from));
+            assert_eq!(window.rows, rows, "seed {seed}");
+            assert_eq!(window.visits, visits_of_run(document, from), "seed {seed} at {from}");
+            assert!(window.visits <= 10 * document.extent.size, "seed {seed} at {from}");
+            let start = from.min(cycles) as usize * width;
+            let end = rows as usize * width;
+            assert!(buffer[..end] == plain.rows[start..start + end], "seed {seed} at {from} of {wanted}");
+            assert!(buffer[end..].iter().all(|&byte| byte == b'-'), "seed {seed}");
+        }
+        from += 1 + cycles / 23;
+    }
+    true
+}
+
+#[test]
+fn rows_visits_and_faults_are_the_plain_ones() {
+    let (mut accepted, mut failing) = (0, 0);
+    for seed in 0..12_000 {
+        let text = text(seed);
+        match Document::read_unplayed(&text) {
+            Ok(document) if document.extent.cycles <= MOST_CYCLES && document.extent.size < 3_000 => {
+                if compare(seed, &document) {
+                    accepted += 1;
+                } else {
+                    failing += 1;
+                }
+            }
+            _ => {}
+        }
+    }
+    println!("{accepted} runs and {failing} faults compared");
+    assert!(accepted > 1_000 && failing > 50);
+}
+
+/// Few signals, many Loops, tables that lack a character here and there: made for refusal 17.
+struct Faults(Random);
+
+impl Faults {
+    fn text(&mut self) -> String {
+        let mut tables = String::new();
+        for table in 0..3 {
+            let mut pins = String::new();
+            for pin in ["A", "B", "D"] {
+                let chars = self.0.pick(&["01xy", "01xy", "01x", "10y", "01"]);
+                pins += &format!("{pin} {{ {chars} {{ '0ns' D; }} }} ");
+            }
+            tables += &format!("WaveformTable t{table} {{ Period '1ns'; Waveforms {{ {pins}}} }} ");
+        }
+        // Their depths are at most 1, 3, 4 and 8.
+        let m = self.body(1, &[]);
+        let n = self.body(1, &["Macro m { A = 01y; B = 1; }"]);
+        let q = self.body(0, &["Macro n;"]);
+        let p = self.body(3, &["Macro n;", "Call q;", "Macro m { A = 10; B = 0; }", "Macro m { A = x001; B = y; }"]);
+        format!(
+            "STIL 1.0; Signals {{ A In; B In; D In; }} SignalGroups {{ ab = 'A+B'; all = 'D+ab'; }} Timing {{ {tables} }}
+            MacroDefs {{ m {{ {m} Shift {{ V {{ A = #; }} }} V {{ ab = ##; }} }} n {{ {n} }} }} Procedures {{ q {{ {q} }} }}
+            PatternBurst b {{ PatList {{ p; p; }} }} PatternExec {{ PatternBurst b; }} Pattern p {{ {} {p} }}",
+            self.0.pick(&["W t0;", "W t1;", "W t2;", "W t0;", "W t1;", "W t2;", ""])
+        )
+    }
+
+    fn body(&mut self, level: usize, uses: &[&str]) -> String {
+        let mut text = String::new();
+        for _ in 0..self.0.between(1, 4) {
+            text += &match self.0.below(12) {
+                0 => format!("W t{}; ", self.0.below(3)),
+                1 | 2 => format!("C {{ {} }} ", self.data()),
+                3..=5 if level > 0 => format!("Loop {} {{ {} }} ", self.0.between(1, 3), self.body(level - 1, uses)),
+                6 | 7 if !uses.is_empty() => format!("{} ", self.0.pick(uses)),
+                _ => format!("V {{ {} }} ", self.data()),
+            };
+        }
+        text
+    }
+
+    fn data(&mut self) -> String {
+        let mut character = || ["0", "1", "0", "1", "0", "1", "0", "1", "x", "y"][self.0.below(10)];
+        let (one, two, three) = (character(), character(), character());
+        match self.0.below(5) {
+            0 => format!("A = {one};"),
+            1 => format!("D = {one};"),
+            2 => format!("ab = {one}{two};"),
+            3 => format!("all = {one}{two}{three};"),
+            _ => String::new(),
+        }
+    }
+}
+
+#[test]
+fn faults_in_nested_loops_are_the_plain_ones() {
+    let mut faults = Faults(Random::new(17));
+    let (mut accepted, mut failing) = (0, 0);
+    for seed in 0..20_000 {
+        let text = faults.text();
+        let document =
+            Document::read_unplayed(text.as_bytes()).unwrap_or_else(|refusal| panic!("{refusal:?} in {text}"));
+        if document.extent.cycles > MOST_CYCLES {
+            continue;
+        }
+        let plain = Plain::run(&document);
+        let due = plain.fault.map_or(Ok(()), |place| Err(Refusal { number: 17, place }));
+        assert_eq!(check_cycles(&document), due, "text {seed}: {text}");
+        accepted += u32::from(due.is_ok());
+        failing += u32::from(due.is_err());
+    }
+    println!("{accepted} without and {failing} with a fault");
+    assert!(accepted > 3_000 && failing > 3_000);
+}
