@@ -1,0 +1,53 @@
+use borrow.Author.Needs.{needs}
+use mathlib.Core.Path.{_≡_, refl, sym, ap, _∙_}
+use Prim.Native.Nat.{ℕ, _-_, _+_, _<_, _≤_}
+use mathlib.Core.List.{List, [], _∷_, _++_}
+use native.Mathlib.Omega.{arith}
+use lib.ListN.{length, take, drop, length-map}
+use Rattle.sets.specs.Sets.{listOf, Pushed}
+use Rattle.sets.proofs.Sets.{below-both, below-not}
+use Rattle.meaning.specs.Lists.{has as hasOf}
+use Rattle.sets.proofs.Sets.{in-here, in-next, in-end}
+use Rattle.sets.proofs.has.Statement.{statement}
+use Rattle.sets.proofs.has.Tie as tie
+
+abbrev Inv-loop : tie.InvT-loop
+Inv-loop b s i₀ i = hasOf b (listOf s) ≡ hasOf b (drop i (take (s .n) (s .v)))
+
+abbrev μ-loop : tie.MeasureT-loop
+μ-loop b s i₀ i = 64 - i
+
+loop-holds : tie.Need-loop-holds Inv-loop μ-loop
+loop-holds c = refl
+
+element-copy-out-if1 : tie.Need-element-copy-out-if1 Inv-loop μ-loop
+element-copy-out-if1 c = let k = below-both (c .before .loop .i) (c .before .before .args .t1 .n) 64 (c .loop-test .taken) in omega arith
+
+returns : tie.Need-returns Inv-loop μ-loop
+returns c = let k = below-both (c .before .before .before .loop .i) (c .before .before .before .before .args .t1 .n) 64 (c .before .before .loop-test .taken) in let l : length (c .before .before .before .before .args .t1 .v) ≡ 64 = sym (length-map (c .before .before .before .before .args .t1 .v) _) ∙ c .before .before .before .before .good .0 .1 .1 .1 .0 .1 .0 .1 in sym (c .before .before .before .loop .inv ∙ in-here (c .before .before .before .before .args .t1 .v) (c .before .before .before .before .args .t1 .n) (c .before .before .before .loop .i) (k .0, omega arith) (c .before .before .before .before .args .b) (c .if1 .taken))
+
+add-i : tie.Need-add-i Inv-loop μ-loop
+add-i c = let k = below-both (c .before .before .before .loop .i) (c .before .before .before .before .args .t1 .n) 64 (c .before .before .loop-test .taken) in omega arith
+
+loop-less : tie.Need-loop-less Inv-loop μ-loop
+loop-less c = let k = below-both (c .before .before .before .loop .i) (c .before .before .before .before .args .t1 .n) 64 (c .before .before .loop-test .taken) in omega arith
+
+loop-again : tie.Need-loop-again Inv-loop μ-loop
+loop-again c = let k = below-both (c .before .before .before .loop .i) (c .before .before .before .before .args .t1 .n) 64 (c .before .before .loop-test .taken) in let l : length (c .before .before .before .before .args .t1 .v) ≡ 64 = sym (length-map (c .before .before .before .before .args .t1 .v) _) ∙ c .before .before .before .before .good .0 .1 .1 .1 .0 .1 .0 .1 in c .before .before .before .loop .inv ∙ in-next (c .before .before .before .before .args .t1 .v) (c .before .before .before .before .args .t1 .n) (c .before .before .before .loop .i) (k .0, omega arith) (c .before .before .before .before .args .b) (c .if1 .left)
+
+returns-2 : tie.Need-returns-2 Inv-loop μ-loop
+returns-2 c = let l : length (c .before .before .args .t1 .v) ≡ 64 = sym (length-map (c .before .before .args .t1 .v) _) ∙ c .before .before .good .0 .1 .1 .1 .0 .1 .0 .1 in sym (c .before .loop .inv ∙ in-end (c .before .before .args .t1 .v) (c .before .before .args .t1 .n) (c .before .loop .i) (rw l (below-not _ _ _ (c .loop-test .left))) (c .before .before .args .b))
+
+pub has-spec : {M : Type 1} → statement M
+has-spec =
+    tie.close
+    (tie.spec
+    Inv-loop
+    μ-loop
+    loop-holds
+    element-copy-out-if1
+    returns
+    add-i
+    loop-less
+    loop-again
+    returns-2)
