@@ -1,125 +1,124 @@
--- Laws of the numbers that stand first in an array: one turn of a loop over them.
+-- The first n numbers of an array: one turn of a loop over them is one step of a definition.
 use mathlib.Core.Path.{_≡_, refl, sym, ap, _∙_}
 use Prim.Native.Nat.{ℕ, zero, suc, _+_, _≤_, _<_, min}
 use native.Mathlib.Numerals.{add-one}
 use native.Mathlib.Omega.{arith}
-use mathlib.Core.Bool.{Bool, true, false, _&&_}
+use mathlib.Core.Bool.{true, false}
 use mathlib.Core.List.{List, [], _∷_, _++_, append-assoc}
-use lib.ListN.{length, getD, take, drop, set, length-take, drop-of-length-le}
+use lib.ListN.{length, getD, take, drop, set, length-take, length-map, drop-of-length-le}
 use lib.Seq.{take-suc-set, drop-cons, getD-take}
-use lib.Dec.{ltb, eqb}
-use borrow.Author.Tests.{ltb-true, ltb-false, eq-eqb, ne-eqb}
+use lib.Dec.{eqb}
+use borrow.Author.Tests.{eq-eqb, ne-eqb}
+use mir.Val.{Val}
+use denote.Shadow.{shadow}
+use Rattle.meaning.specs.Bounds.{signalsMost}
 use Rattle.meaning.specs.Lists.{has, meets, inside, without, empty}
-use Rattle.sets.specs.Sets.{listOf, Pushed}
 use Rattle.sets.specs.declared.Set.{Set}
+use Rattle.sets.proofs.Set.{the-row}
 
-module _ {A : Type 0} (rows : List A) (n i : ℕ) (d : A) where
-  pub cut-row : i < n → i < length rows → drop i (take n rows) ≡ getD rows i d ∷ drop (i + 1) (take n rows)
-  cut-row h k =
-      let l : i < length (take n rows) = omega (arith, length-take n rows) in
-      rw add-one (drop-cons (take n rows) i d l ∙ ap (λ (x : A). x ∷ drop (suc i) (take n rows)) (getD-take n rows i d h))
-
-  pub no-row : min n (length rows) ≤ i → drop i (take n rows) ≡ []
-  no-row h = let k : length (take n rows) ≤ i = omega (arith, length-take n rows) in drop-of-length-le (take n rows) k
-
--- a loop's test on two bounds
-pub below-both : (i a b : ℕ) → (ltb i a && ltb i b) ≡ true → (i < a) × (i < b)
-below-both i a b h = by (ltb i a) refl (ltb i b) refl h
-  where
-    by : (x : Bool) → ltb i a ≡ x → (y : Bool) → ltb i b ≡ y → (x && y) ≡ true → (i < a) × (i < b)
-    by true e true f h = (ltb-true i a e, ltb-true i b f)
-    by true e false f h = let z : _≡_ {A = ℕ} 0 1 = cc in absurd (omega arith)
-    by false e y f h = let z : _≡_ {A = ℕ} 0 1 = cc in absurd (omega arith)
-
-pub below-not : (i a b : ℕ) → (ltb i a && ltb i b) ≡ false → min a b ≤ i
-below-not i a b h = by (ltb i a) refl (ltb i b) refl h
-  where
-    by : (x : Bool) → ltb i a ≡ x → (y : Bool) → ltb i b ≡ y → (x && y) ≡ false → min a b ≤ i
-    by true e true f h = let z : _≡_ {A = ℕ} 0 1 = cc in absurd (omega arith)
-    by true e false f h = omega (arith, ltb-false i b f)
-    by false e y f h = omega (arith, ltb-false i a e)
+-- what owning a set tells of its array
+pub sized : (s : Set) {w : List Val} → shadow (the-row .own s w) → length (s .v) ≡ signalsMost
+sized s g = sym (length-map (s .v) _) ∙ g .1 .1 .1 .0 .1 .0 .1
 
 pub append-nil : (xs : List ℕ) → xs ++ [] ≡ xs
 append-nil [] = refl
 append-nil (x ∷ xs) = ap (λ (l : List ℕ). x ∷ l) (append-nil xs)
 
--- at place i of the first n of v
+-- the first n of v from place i on
+abbrev pub rest : List ℕ → ℕ → ℕ → List ℕ
+rest v n i = drop i (take n v)
+
 module _ (v : List ℕ) (n i : ℕ) where
-  abbrev rest : ℕ → List ℕ
-  rest j = drop j (take n v)
+  module _ (h : i < min n (length v)) where
+    cut : rest v n i ≡ getD v i 0 ∷ rest v n (i + 1)
+    cut =
+        let l : i < length (take n v) = omega (arith, length-take n v) in
+        let f : i < n = omega arith in
+        rw add-one (drop-cons (take n v) i 0 l ∙ ap (λ (x : ℕ). x ∷ drop (suc i) (take n v)) (getD-take n v i 0 f))
 
-  module _ (h : (i < n) × (i < length v)) where
-    cut : rest i ≡ getD v i 0 ∷ rest (i + 1)
-    cut = cut-row v n i 0 (h .0) (h .1)
-
-    pub in-here : (b : ℕ) → getD v i 0 ≡ b → has b (rest i) ≡ true
+    pub has-here : (x : ℕ) → getD v i 0 ≡ x → has x (rest v n i) ≡ true
     unfolding has
-    in-here b e = rw cut (rw (eq-eqb _ _ e))
+    has-here x e = rw cut (rw (eq-eqb _ _ e))
 
-    pub in-next : (b : ℕ) → (getD v i 0 ≡ b → ⊥) → has b (rest i) ≡ has b (rest (i + 1))
+    pub has-next : (x : ℕ) → (getD v i 0 ≡ x → ⊥) → has x (rest v n i) ≡ has x (rest v n (i + 1))
     unfolding has
-    in-next b e = rw cut (rw (ne-eqb _ _ e))
+    has-next x e = rw cut (rw (ne-eqb _ _ e))
 
     module _ (g : List ℕ) where
-      pub meets-here : has (getD v i 0) g ≡ true → meets (rest i) g ≡ true
+      pub meets-here : has (getD v i 0) g ≡ true → meets (rest v n i) g ≡ true
       unfolding meets
       meets-here e = rw cut (rw e)
 
-      pub meets-next : has (getD v i 0) g ≡ false → meets (rest i) g ≡ meets (rest (i + 1)) g
+      pub meets-next : has (getD v i 0) g ≡ false → meets (rest v n i) g ≡ meets (rest v n (i + 1)) g
       unfolding meets
       meets-next e = rw cut (rw e)
 
-      pub inside-not : has (getD v i 0) g ≡ false → inside (rest i) g ≡ false
+      pub inside-not : has (getD v i 0) g ≡ false → inside (rest v n i) g ≡ false
       unfolding inside
       inside-not e = rw cut (rw e)
 
-      pub inside-next : has (getD v i 0) g ≡ true → inside (rest i) g ≡ inside (rest (i + 1)) g
+      pub inside-next : has (getD v i 0) g ≡ true → inside (rest v n i) g ≡ inside (rest v n (i + 1)) g
       unfolding inside
       inside-next e = rw cut (rw e)
 
-      pub without-not : has (getD v i 0) g ≡ true → without (rest i) g ≡ without (rest (i + 1)) g
-      unfolding without
-      without-not e = rw cut (rw (e, without))
-
-      pub without-next : has (getD v i 0) g ≡ false → without (rest i) g ≡ getD v i 0 ∷ without (rest (i + 1)) g
-      unfolding without
-      without-next e = rw cut (rw (e, without))
-
-    -- what was first there is now behind the others
-    pub moved : (xs ys : List ℕ) → ys ≡ xs ++ getD v i 0 ∷ [] → ys ++ rest (i + 1) ≡ xs ++ rest i
-    moved xs ys e = rw e (append-assoc xs _ _ ∙ ap (λ (l : List ℕ). xs ++ l) (sym cut))
-
-    pub before-end : i < length (take n v)
-    before-end = omega (arith, length-take n v, h .0, h .1)
-
   module _ (h : min n (length v) ≤ i) where
-    none : rest i ≡ []
-    none = no-row v n i 0 h
+    none : rest v n i ≡ []
+    none = let k : length (take n v) ≤ i = omega (arith, length-take n v) in drop-of-length-le (take n v) k
 
-    pub in-end : (b : ℕ) → has b (rest i) ≡ false
+    pub has-end : (x : ℕ) → has x (rest v n i) ≡ false
     unfolding has
-    in-end b = rw none
+    has-end x = rw none
 
-    pub meets-end : (g : List ℕ) → meets (rest i) g ≡ false
+    pub meets-end : (g : List ℕ) → meets (rest v n i) g ≡ false
     unfolding meets
     meets-end g = rw none
 
-    pub inside-end : (g : List ℕ) → inside (rest i) g ≡ true
+    pub inside-end : (g : List ℕ) → inside (rest v n i) g ≡ true
     unfolding inside
     inside-end g = rw none
 
-    pub without-end : (g : List ℕ) → without (rest i) g ≡ []
+-- ---- one number more, behind the first k of v
+
+pub more : (v : List ℕ) (k x : ℕ) → k < length v → take (k + 1) (set v k x) ≡ take k v ++ x ∷ []
+more v k x h = rw add-one (take-suc-set v k x h)
+
+module _ (v : List ℕ) (k : ℕ) (x : List ℕ) (n i : ℕ) where
+  pub moved : i < min n (length x) → k + i < length v → take (k + (i + 1)) (set v (k + i) (getD x i 0)) ++ rest x n (i + 1) ≡ take (k + i) v ++ rest x n i
+  moved h r =
+      let e : k + (i + 1) ≡ (k + i) + 1 = omega arith in
+      rw (e, more v (k + i) (getD x i 0) r, append-assoc, cut x n i h)
+
+  pub all-moved : i ≡ n → take (k + n) v ≡ take (k + i) v ++ rest x n i
+  all-moved e = let h : min n (length x) ≤ i = omega arith in rw (none x n i h, append-nil, e)
+
+module _ (v : List ℕ) (k : ℕ) (g : List ℕ) (n i : ℕ) (x : List ℕ) where
+  module _ (h : i < min n (length g)) where
+    pub dropped : has (getD g i 0) x ≡ true → take k v ++ without (rest g n (i + 1)) x ≡ take k v ++ without (rest g n i) x
     unfolding without
-    without-end g = rw none
+    dropped e = rw (cut g n i h) (rw (e, without))
 
-    pub rest-end : (xs : List ℕ) → xs ++ rest i ≡ xs
-    rest-end xs = rw none (append-nil xs)
+    pub kept : has (getD g i 0) x ≡ false → k < length v
+        → take (k + 1) (set v k (getD g i 0)) ++ without (rest g n (i + 1)) x ≡ take k v ++ without (rest g n i) x
+    unfolding without
+    kept e r = rw (more v k (getD g i 0) r, cut g n i h) (rw (e, without) (append-assoc (take k v) _ _))
 
-pub pushed : (s : Set) (b : ℕ) → length (s .v) ≡ 64 → s .n < 64 → Pushed s b (record { n = s .n + 1; v = set (s .v) (s .n) b })
-pushed s b l h = record { list = λ k. rw add-one (take-suc-set (s .v) (s .n) b (omega arith)); count = λ k. refl }
+  pub all-kept : min n (length g) ≤ i → take k v ≡ take k v ++ without (rest g n i) x
+  unfolding without
+  all-kept h = rw (none g n i h) (sym (append-nil (take k v)))
 
-pub empty-by : (n : ℕ) (v : List ℕ) → 0 < length v → eqb n 0 ≡ empty (take n v)
+-- ---- counts that are too large
+
+pub take-same : (m n : ℕ) (v : List ℕ) → min m (length v) ≡ min n (length v) → take m v ≡ take n v
+take-same zero zero v e = refl
+take-same zero (suc n) [] e = refl
+take-same zero (suc n) (x ∷ v) e = absurd (omega arith)
+take-same (suc m) zero [] e = refl
+take-same (suc m) zero (x ∷ v) e = absurd (omega arith)
+take-same (suc m) (suc n) [] e = refl
+take-same (suc m) (suc n) (x ∷ v) e = ap (λ (l : List ℕ). x ∷ l) (take-same m n v (omega arith))
+
+pub empty-none : (n : ℕ) (v : List ℕ) → 0 < length v → eqb n 0 ≡ empty (take n v)
 unfolding empty
-empty-by n [] h = absurd (omega arith)
-empty-by zero (x ∷ v) h = refl
-empty-by (suc n) (x ∷ v) h = ne-eqb (suc n) 0 (λ e. omega arith)
+empty-none n [] h = absurd (omega arith)
+empty-none zero (x ∷ v) h = refl
+empty-none (suc n) (x ∷ v) h = ne-eqb (suc n) 0 (λ e. omega arith)

@@ -1,8 +1,8 @@
 // Ordered sets of signals, by value.
 ghost use mathlib.Core.Path.{_≡_};
-ghost use Prim.Native.Nat.{_+_, _≤_};
+ghost use Prim.Native.Nat.{_+_, _≤_, min};
 ghost use mathlib.Core.List.{[], _∷_, _++_};
-ghost use lib.ListN.{length};
+ghost use lib.ListN.{length, take};
 ghost use Rattle.meaning.specs.Bounds.{signalsMost};
 ghost use Rattle.meaning.specs.Lists.{has as hasOf, meets as meetsOf, inside as insideOf, without as withoutOf, empty};
 ghost use Rattle.sets.specs.Sets.{listOf, Pushed};
@@ -13,20 +13,20 @@ pub const MOST: usize = 64;
 // The first n numbers of v.
 pub struct Set {
     pub n: usize,
-    pub v: [u16; 64],
+    pub v: [u16; MOST],
 }
 
 pub fn nothing() -> Set
     ensures { λ r. ⌜ listOf r ≡ [] ⌝ }
 {
-    Set { n: 0, v: [0; 64] }
+    Set { n: 0, v: [0; MOST] }
 }
 
 // The number x alone.
 pub fn single(x: u16) -> Set
     ensures { λ r. ⌜ listOf r ≡ x ∷ [] ⌝ }
 {
-    let mut v = [0; 64];
+    let mut v = [0; MOST];
     v[0] = x;
     Set { n: 1, v }
 }
@@ -37,13 +37,21 @@ pub fn is_empty(s: Set) -> bool
     s.n == 0
 }
 
-// Is x one of the numbers?
-pub fn has(s: Set, x: u16) -> bool
-    ensures { λ r. ⌜ r ≡ hasOf x (listOf s) ⌝ }
+// The smaller of the two.
+fn least(a: usize, b: usize) -> usize
+    ensures { λ r. ⌜ r ≡ min a b ⌝ }
 {
+    if a < b { a } else { b }
+}
+
+// Is x one of the first n numbers of v?
+fn among(v: &[u16], n: usize, x: u16) -> bool
+    ensures { λ r. ⌜ r ≡ hasOf x (take n (now (v .entry))) ⌝ }
+{
+    let n = least(n, v.len());
     let mut i = 0;
-    while (i < s.n) & (i < MOST) {
-        if s.v[i] == x {
+    while i < n {
+        if v[i] == x {
             return true;
         }
         i += 1;
@@ -51,13 +59,21 @@ pub fn has(s: Set, x: u16) -> bool
     false
 }
 
+// Is x one of the numbers?
+pub fn has(s: Set, x: u16) -> bool
+    ensures { λ r. ⌜ r ≡ hasOf x (listOf s) ⌝ }
+{
+    among(&s.v, s.n, x)
+}
+
 // Is some number of x in g?
 pub fn meets(x: Set, g: Set) -> bool
     ensures { λ r. ⌜ r ≡ meetsOf (listOf x) (listOf g) ⌝ }
 {
+    let n = least(x.n, MOST);
     let mut i = 0;
-    while (i < x.n) & (i < MOST) {
-        if has(g, x.v[i]) {
+    while i < n {
+        if among(&g.v, g.n, x.v[i]) {
             return true;
         }
         i += 1;
@@ -69,9 +85,10 @@ pub fn meets(x: Set, g: Set) -> bool
 pub fn inside(x: Set, g: Set) -> bool
     ensures { λ r. ⌜ r ≡ insideOf (listOf x) (listOf g) ⌝ }
 {
+    let n = least(x.n, MOST);
     let mut i = 0;
-    while (i < x.n) & (i < MOST) {
-        if !has(g, x.v[i]) {
+    while i < n {
+        if !among(&g.v, g.n, x.v[i]) {
             return false;
         }
         i += 1;
@@ -96,29 +113,32 @@ pub fn push(s: Set, x: u16) -> Set
 pub fn append(g: Set, x: Set) -> Set
     ensures { λ r. ⌜ (length (listOf g) + length (listOf x) ≤ signalsMost → listOf r ≡ listOf g ++ listOf x) ⌝ }
 {
-    let mut r = g;
+    let k = least(g.n, MOST);
+    let n = least(x.n, MOST - k);
+    let mut v = g.v;
     let mut i = 0;
-    while (i < x.n) & (i < MOST) {
-        r = push(r, x.v[i]);
+    while i < n {
+        v[k + i] = x.v[i];
         i += 1;
     }
-    r
+    Set { n: k + n, v }
 }
 
 // Those of g that are not in x.
 pub fn without(g: Set, x: Set) -> Set
     ensures { λ r. ⌜ listOf r ≡ withoutOf (listOf g) (listOf x) ⌝ }
 {
-    let mut r = nothing();
+    let n = least(g.n, MOST);
+    let mut v = [0; MOST];
+    let mut k = 0;
     let mut i = 0;
-    while (i < g.n) & (i < MOST) {
+    while i < n {
         let b = g.v[i];
-        if has(x, b) {
-            i += 1;
-            continue;
+        if !among(&x.v, x.n, b) {
+            v[k] = b;
+            k += 1;
         }
-        r = push(r, b);
         i += 1;
     }
-    r
+    Set { n: k, v }
 }

@@ -1,44 +1,85 @@
+-- What stands in v and what is left of x make up both sets at each turn.
 use borrow.Author.Needs.{needs}
-use mathlib.Core.Path.{_≡_, refl, sym, ap, _∙_}
-use Prim.Native.Nat.{ℕ, _-_, _+_, _<_, _≤_}
-use mathlib.Core.List.{List, [], _∷_, _++_}
+use mathlib.Core.Path.{_≡_, refl, ap₂, _∙_}
+use Prim.Native.Nat.{_+_, _-_, _≤_}
+use mathlib.Core.List.{_++_}
+use native.Mathlib.Nat.{add-zero}
 use native.Mathlib.Omega.{arith}
-use lib.ListN.{length, take, drop, length-map}
-use Rattle.sets.specs.Sets.{listOf, Pushed}
-use Rattle.sets.proofs.Sets.{below-both, below-not}
-use Prim.Native.Nat.{min}
-use lib.ListN.{length-take}
-use Rattle.sets.proofs.Sets.{moved, rest-end, before-end}
+use lib.ListN.{length, take, length-take, length-set}
+use Rattle.sets.proofs.Sets.{sized, rest, moved, all-moved, take-same}
 use Rattle.sets.proofs.append.Statement.{statement}
 use Rattle.sets.proofs.append.Tie as tie
 
 abbrev Inv-loop : tie.InvT-loop
-Inv-loop x r₀ i₀ r i = length (listOf r₀) + length (listOf x) ≤ 64 → (min (r .n) 64 ≡ length (listOf r₀) + i) × (listOf r ++ drop i (take (x .n) (x .v)) ≡ listOf r₀ ++ listOf x)
+Inv-loop x k n v₀ i₀ v i = (length v ≡ length v₀) × (i ≤ n) × (take (k + i) v ++ rest (x .v) n i ≡ take k v₀ ++ take n (x .v))
 
 abbrev μ-loop : tie.MeasureT-loop
-μ-loop x r₀ i₀ r i = 64 - i
+μ-loop x k n v₀ i₀ v i = n - i
+
+least-requires : tie.Need-least-requires Inv-loop μ-loop
+least-requires c κs = search needs
+
+sub-least : tie.Need-sub-least Inv-loop μ-loop
+sub-least c = search needs
+
+least-requires-2 : tie.Need-least-requires-2 Inv-loop μ-loop
+least-requires-2 c κs = search needs
 
 loop-holds : tie.Need-loop-holds Inv-loop μ-loop
-loop-holds c = let e : length (c .args .g .v) ≡ 64 = sym (length-map (c .args .g .v) _) ∙ c .good .0 .1 .1 .1 .0 .1 .0 .1 in let f = length-take (c .args .g .n) (c .args .g .v) in λ h. (omega arith, refl)
+loop-holds c = (refl, omega arith, rw add-zero)
 
-element-copy-out-push : tie.Need-element-copy-out-push Inv-loop μ-loop
-element-copy-out-push c = let k = below-both (c .before .loop .i) (c .before .before .args .t2 .n) 64 (c .loop-test .taken) in omega arith
+mul-v : tie.Need-mul-v Inv-loop μ-loop
+mul-v c = search needs
 
-push-requires : tie.Need-push-requires Inv-loop μ-loop
-push-requires c κs = search needs
+element-copy-out-v : tie.Need-element-copy-out-v Inv-loop μ-loop
+element-copy-out-v c = search needs
+
+add-v : tie.Need-add-v Inv-loop μ-loop
+add-v c = search needs
+
+mul-v-2 : tie.Need-mul-v-2 Inv-loop μ-loop
+mul-v-2 c = search needs
+
+array-write-v : tie.Need-array-write-v Inv-loop μ-loop
+array-write-v c = search needs
 
 add-i : tie.Need-add-i Inv-loop μ-loop
-add-i c = let k = below-both (c .before .before .before .loop .i) (c .before .before .before .before .args .t2 .n) 64 (c .before .before .loop-test .taken) in omega arith
+add-i c = search needs
 
 loop-less : tie.Need-loop-less Inv-loop μ-loop
-loop-less c = let k = below-both (c .before .before .before .loop .i) (c .before .before .before .before .args .t2 .n) 64 (c .before .before .loop-test .taken) in omega arith
+loop-less c = search needs
 
 loop-again : tie.Need-loop-again Inv-loop μ-loop
-loop-again c = let k = below-both (c .before .before .before .loop .i) (c .before .before .before .before .args .t2 .n) 64 (c .before .before .loop-test .taken) in let l : length (c .before .before .before .before .args .t2 .v) ≡ 64 = sym (length-map (c .before .before .before .before .args .t2 .v) _) ∙ c .before .before .before .before .good .1 .0 .1 .1 .1 .0 .1 .0 .1 in λ h. let q = c .before .before .before .loop .inv h in let b = before-end (c .before .before .before .before .args .t2 .v) (c .before .before .before .before .args .t2 .n) (c .before .before .before .loop .i) (k .0, omega arith) in let m : c .before .before .before .loop .r .n < 64 = omega arith in
-    (omega (arith, c .push .ensures .count m), moved (c .before .before .before .before .args .t2 .v) (c .before .before .before .before .args .t2 .n) (c .before .before .before .loop .i) (k .0, omega arith) (listOf (c .before .before .before .loop .r)) (listOf (c .push .result)) (c .push .ensures .list m) ∙ q .1)
+loop-again c =
+    let turn = c .before .before in
+    let loop = turn .loop in
+    let start = turn .before .before .before .before in
+    let k = turn .before .before .before .least .result in
+    let x = start .args .t2 in
+    let room = sized (start .args .g) (start .good .0) in
+    let room-x = sized x (start .good .1 .0) in (
+      rw length-set (loop .inv .0),
+      omega arith,
+      moved (loop .v) k (x .v) (turn .before .before .least2 .result) (loop .i) (omega arith) (omega arith) ∙ loop .inv .2,
+    )
+
+add-t8 : tie.Need-add-t8 Inv-loop μ-loop
+add-t8 c = search needs
 
 returns : tie.Need-returns Inv-loop μ-loop
-returns c = let l : length (c .before .before .args .t2 .v) ≡ 64 = sym (length-map (c .before .before .args .t2 .v) _) ∙ c .before .before .good .1 .0 .1 .1 .1 .0 .1 .0 .1 in λ h. sym (rest-end (c .before .before .args .t2 .v) (c .before .before .args .t2 .n) (c .before .loop .i) (rw l (below-not _ _ _ (c .loop-test .left))) (listOf (c .before .loop .r))) ∙ c .before .loop .inv h .1
+returns c = λ fits.
+    let turn = c .before in
+    let loop = turn .loop in
+    let start = turn .before .before .before .before in
+    let k = turn .before .before .before .least .result in
+    let n = turn .before .before .least2 .result in
+    let g = start .args .g in
+    let x = start .args .t2 in
+    let room = sized g (start .good .0) in
+    let room-x = sized x (start .good .1 .0) in
+    let all-g = take-same k (g .n) (g .v) (omega arith) in
+    let all-x = take-same n (x .n) (x .v) (omega (arith, length-take (g .n) (g .v), length-take (x .n) (x .v))) in
+    all-moved (loop .v) k (x .v) n (loop .i) (omega arith) ∙ loop .inv .2 ∙ ap₂ (λ a b. a ++ b) all-g all-x
 
 pub append-spec : {M : Type 1} → statement M
 append-spec =
@@ -46,10 +87,17 @@ append-spec =
     (tie.spec
     Inv-loop
     μ-loop
+    least-requires
+    sub-least
+    least-requires-2
     loop-holds
-    element-copy-out-push
-    push-requires
+    mul-v
+    element-copy-out-v
+    add-v
+    mul-v-2
+    array-write-v
     add-i
     loop-less
     loop-again
+    add-t8
     returns)

@@ -1,45 +1,69 @@
+-- What is left to look at decides: a turn whose number is not in g leaves the answer to the rest.
 use borrow.Author.Needs.{needs}
-use mathlib.Core.Path.{_≡_, refl, sym, ap, _∙_}
-use Prim.Native.Nat.{ℕ, _-_, _+_, _<_, _≤_}
-use mathlib.Core.List.{List, [], _∷_, _++_}
+use mathlib.Core.Path.{_≡_, refl, sym, _∙_}
+use Prim.Native.Nat.{_-_}
 use native.Mathlib.Omega.{arith}
-use lib.ListN.{length, take, drop, length-map}
-use Rattle.sets.specs.Sets.{listOf, Pushed}
-use Rattle.sets.proofs.Sets.{below-both, below-not}
 use Rattle.meaning.specs.Lists.{meets}
-use Rattle.sets.proofs.Sets.{meets-here, meets-next, meets-end}
+use Rattle.sets.specs.Sets.{listOf}
+use Rattle.sets.proofs.Sets.{sized, rest, meets-here, meets-next, meets-end}
 use Rattle.sets.proofs.meets.Statement.{statement}
 use Rattle.sets.proofs.meets.Tie as tie
 
 abbrev Inv-loop : tie.InvT-loop
-Inv-loop g x i₀ i = meets (listOf x) (listOf g) ≡ meets (drop i (take (x .n) (x .v))) (listOf g)
+Inv-loop x g n i₀ i = meets (listOf x) (listOf g) ≡ meets (rest (x .v) (x .n) i) (listOf g)
 
 abbrev μ-loop : tie.MeasureT-loop
-μ-loop g x i₀ i = 64 - i
+μ-loop x g n i₀ i = n - i
+
+least-requires : tie.Need-least-requires Inv-loop μ-loop
+least-requires c κs = search needs
 
 loop-holds : tie.Need-loop-holds Inv-loop μ-loop
 loop-holds c = refl
 
-element-copy-out-has : tie.Need-element-copy-out-has Inv-loop μ-loop
-element-copy-out-has c = let k = below-both (c .before .loop .i) (c .before .before .args .t1 .n) 64 (c .loop-test .taken) in omega arith
+mul-among : tie.Need-mul-among Inv-loop μ-loop
+mul-among c = search needs
 
-has-requires : tie.Need-has-requires Inv-loop μ-loop
-has-requires c κs = search needs
+element-copy-out-among : tie.Need-element-copy-out-among Inv-loop μ-loop
+element-copy-out-among c = search needs
+
+among-requires : tie.Need-among-requires Inv-loop μ-loop
+among-requires c κs = search needs
 
 returns : tie.Need-returns Inv-loop μ-loop
-returns c = let k = below-both (c .before .before .before .before .loop .i) (c .before .before .before .before .before .args .t1 .n) 64 (c .before .before .before .loop-test .taken) in let l : length (c .before .before .before .before .before .args .t1 .v) ≡ 64 = sym (length-map (c .before .before .before .before .before .args .t1 .v) _) ∙ c .before .before .before .before .before .good .0 .1 .1 .1 .0 .1 .0 .1 in sym (c .before .before .before .before .loop .inv ∙ meets-here (c .before .before .before .before .before .args .t1 .v) (c .before .before .before .before .before .args .t1 .n) (c .before .before .before .before .loop .i) (k .0, omega arith) (listOf (c .before .before .before .before .before .args .g)) (sym (c .before .has .ensures) ∙ c .if1 .taken))
+returns c =
+    let turn = c .before .before .before .before .before .before .before in
+    let loop = turn .loop in
+    let start = turn .before .before in
+    let x = start .args .t1 in
+    let room = sized x (start .good .0) in
+    let told = sym (c .before .among .ensures) in
+    sym (loop .inv ∙ meets-here (x .v) (x .n) (loop .i) (omega arith) (listOf (start .args .t2)) (told ∙ c .if1 .taken))
 
 add-i : tie.Need-add-i Inv-loop μ-loop
-add-i c = let k = below-both (c .before .before .before .before .loop .i) (c .before .before .before .before .before .args .t1 .n) 64 (c .before .before .before .loop-test .taken) in omega arith
+add-i c = search needs
 
 loop-less : tie.Need-loop-less Inv-loop μ-loop
-loop-less c = let k = below-both (c .before .before .before .before .loop .i) (c .before .before .before .before .before .args .t1 .n) 64 (c .before .before .before .loop-test .taken) in omega arith
+loop-less c = search needs
 
 loop-again : tie.Need-loop-again Inv-loop μ-loop
-loop-again c = let k = below-both (c .before .before .before .before .loop .i) (c .before .before .before .before .before .args .t1 .n) 64 (c .before .before .before .loop-test .taken) in let l : length (c .before .before .before .before .before .args .t1 .v) ≡ 64 = sym (length-map (c .before .before .before .before .before .args .t1 .v) _) ∙ c .before .before .before .before .before .good .0 .1 .1 .1 .0 .1 .0 .1 in c .before .before .before .before .loop .inv ∙ meets-next (c .before .before .before .before .before .args .t1 .v) (c .before .before .before .before .before .args .t1 .n) (c .before .before .before .before .loop .i) (k .0, omega arith) (listOf (c .before .before .before .before .before .args .g)) (sym (c .before .has .ensures) ∙ c .if1 .left)
+loop-again c =
+    let turn = c .before .before .before .before .before .before .before in
+    let loop = turn .loop in
+    let start = turn .before .before in
+    let x = start .args .t1 in
+    let room = sized x (start .good .0) in
+    let told = sym (c .before .among .ensures) in
+    loop .inv ∙ meets-next (x .v) (x .n) (loop .i) (omega arith) (listOf (start .args .t2)) (told ∙ c .if1 .left)
 
 returns-2 : tie.Need-returns-2 Inv-loop μ-loop
-returns-2 c = let l : length (c .before .before .args .t1 .v) ≡ 64 = sym (length-map (c .before .before .args .t1 .v) _) ∙ c .before .before .good .0 .1 .1 .1 .0 .1 .0 .1 in sym (c .before .loop .inv ∙ meets-end (c .before .before .args .t1 .v) (c .before .before .args .t1 .n) (c .before .loop .i) (rw l (below-not _ _ _ (c .loop-test .left))) (listOf (c .before .before .args .g)))
+returns-2 c =
+    let turn = c .before in
+    let loop = turn .loop in
+    let start = turn .before .before in
+    let x = start .args .t1 in
+    let room = sized x (start .good .0) in
+    sym (loop .inv ∙ meets-end (x .v) (x .n) (loop .i) (omega arith) (listOf (start .args .t2)))
 
 pub meets-spec : {M : Type 1} → statement M
 meets-spec =
@@ -47,9 +71,11 @@ meets-spec =
     (tie.spec
     Inv-loop
     μ-loop
+    least-requires
     loop-holds
-    element-copy-out-has
-    has-requires
+    mul-among
+    element-copy-out-among
+    among-requires
     returns
     add-i
     loop-less

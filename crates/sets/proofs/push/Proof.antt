@@ -1,14 +1,13 @@
-use mathlib.Core.Path.{_≡_, refl, sym, ap, _∙_}
-use Prim.Native.Nat.{ℕ, _-_, _+_, _<_, _≤_}
-use mathlib.Core.List.{List, [], _∷_, _++_}
-use native.Mathlib.Omega.{arith}
-use lib.ListN.{length, take, drop, length-map}
-use Rattle.sets.specs.Sets.{listOf, Pushed}
-use Rattle.sets.proofs.Sets.{below-both, below-not}
-use Rattle.sets.proofs.Sets.{pushed}
+-- With room left, the number stands behind the others; without, the contract says nothing.
+use mathlib.Core.Path.{refl}
 use borrow.Author.Needs.{needs}
+use native.Mathlib.Omega.{arith}
+use Rattle.sets.proofs.Sets.{sized, more}
 use Rattle.sets.proofs.push.Statement.{statement}
 use Rattle.sets.proofs.push.Tie as tie
+
+mul-s : tie.Need-mul-s
+mul-s c = search needs
 
 element-write-s : tie.Need-element-write-s
 element-write-s c = search needs
@@ -17,10 +16,13 @@ add-s : tie.Need-add-s
 add-s c = search needs
 
 returns : tie.Need-returns
-returns c = pushed (c .before .args .s) (c .before .args .b) (sym (length-map (c .before .args .s .v) _) ∙ c .before .good .0 .1 .1 .1 .0 .1 .0 .1) (c .if1 .taken)
+returns c =
+    let s = c .before .args .s in
+    let room = sized s (c .before .good .0) in
+    record { list = λ below. more (s .v) (s .n) (c .before .args .x) (omega arith); count = λ below. refl }
 
 returns-2 : tie.Need-returns-2
-returns-2 c = record { list = λ k. absurd (omega arith); count = λ k. absurd (omega arith) }
+returns-2 c = record { list = λ below. absurd (omega arith); count = λ below. absurd (omega arith) }
 
 pub push-spec : {M : Type 1} → statement M
-push-spec = tie.close (tie.spec element-write-s add-s returns returns-2)
+push-spec = tie.close (tie.spec mul-s element-write-s add-s returns returns-2)

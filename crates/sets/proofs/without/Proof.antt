@@ -1,59 +1,84 @@
+-- What stands in v and what is left of g, less x, make up the answer at each turn.
 use borrow.Author.Needs.{needs}
-use mathlib.Core.Path.{_≡_, refl, sym, ap, _∙_}
-use Prim.Native.Nat.{ℕ, _-_, _+_, _<_, _≤_}
-use mathlib.Core.List.{List, [], _∷_, _++_}
+use borrow.Author.Tests.{not-true, not-false}
+use mathlib.Core.Path.{_≡_, refl, sym, _∙_}
+use mathlib.Core.Logic.{⊎-elim}
+use Prim.Native.Nat.{_-_, _≤_}
+use mathlib.Core.List.{_++_}
 use native.Mathlib.Omega.{arith}
-use lib.ListN.{length, take, drop, length-map}
-use Rattle.sets.specs.Sets.{listOf, Pushed}
-use Rattle.sets.proofs.Sets.{below-both, below-not}
-use mathlib.Core.List.{append-assoc}
+use lib.ListN.{length, take, length-set}
 use Rattle.meaning.specs.Lists.{without}
-use Rattle.sets.proofs.Sets.{without-not, without-next, without-end, append-nil}
+use Rattle.sets.specs.Sets.{listOf}
+use Rattle.sets.proofs.Sets.{sized, rest, dropped, kept, all-kept}
 use Rattle.sets.proofs.without.Statement.{statement}
 use Rattle.sets.proofs.without.Tie as tie
 
 abbrev Inv-loop : tie.InvT-loop
-Inv-loop x g r₀ i₀ r i = (r .n ≤ i) × (without (listOf g) (listOf x) ≡ listOf r ++ without (drop i (take (g .n) (g .v))) (listOf x))
+Inv-loop g x n v₀ k₀ i₀ v k i = (length v ≡ length v₀) × (k ≤ i) × (take k v ++ without (rest (g .v) (g .n) i) (listOf x) ≡ without (listOf g) (listOf x))
 
 abbrev μ-loop : tie.MeasureT-loop
-μ-loop x g r₀ i₀ r i = 64 - i
+μ-loop g x n v₀ k₀ i₀ v k i = n - i
+
+least-requires : tie.Need-least-requires Inv-loop μ-loop
+least-requires c κs = search needs
 
 loop-holds : tie.Need-loop-holds Inv-loop μ-loop
-loop-holds c = (omega arith, refl)
+loop-holds c = (refl, omega arith, refl)
+
+mul-b : tie.Need-mul-b Inv-loop μ-loop
+mul-b c = search needs
 
 element-copy-out-b : tie.Need-element-copy-out-b Inv-loop μ-loop
-element-copy-out-b c = let k = below-both (c .before .loop .i) (c .before .before .args .t1 .n) 64 (c .loop-test .taken) in omega arith
+element-copy-out-b c = search needs
 
-has-requires : tie.Need-has-requires Inv-loop μ-loop
-has-requires c κs = search needs
+among-requires : tie.Need-among-requires Inv-loop μ-loop
+among-requires c κs = search needs
+
+mul-v : tie.Need-mul-v Inv-loop μ-loop
+mul-v c = search needs
+
+array-write-v : tie.Need-array-write-v Inv-loop μ-loop
+array-write-v c = search needs
+
+add-k : tie.Need-add-k Inv-loop μ-loop
+add-k c = search needs
 
 add-i : tie.Need-add-i Inv-loop μ-loop
-add-i c = let k = below-both (c .before .before .before .before .loop .i) (c .before .before .before .before .before .args .t1 .n) 64 (c .before .before .before .loop-test .taken) in omega arith
+add-i c = search needs
 
 loop-less : tie.Need-loop-less Inv-loop μ-loop
-loop-less c = let k = below-both (c .before .before .before .before .loop .i) (c .before .before .before .before .before .args .t1 .n) 64 (c .before .before .before .loop-test .taken) in omega arith
+loop-less c = search needs
 
 loop-again : tie.Need-loop-again Inv-loop μ-loop
-loop-again c = let k = below-both (c .before .before .before .before .loop .i) (c .before .before .before .before .before .args .t1 .n) 64 (c .before .before .before .loop-test .taken) in let l : length (c .before .before .before .before .before .args .t1 .v) ≡ 64 = sym (length-map (c .before .before .before .before .before .args .t1 .v) _) ∙ c .before .before .before .before .before .good .0 .1 .1 .1 .0 .1 .0 .1 in (omega arith, c .before .before .before .before .loop .inv .1 ∙ ap (λ (l : List ℕ). listOf (c .before .before .before .before .loop .r) ++ l) (without-not (c .before .before .before .before .before .args .t1 .v) (c .before .before .before .before .before .args .t1 .n) (c .before .before .before .before .loop .i) (k .0, omega arith) (listOf (c .before .before .before .before .before .args .x)) (sym (c .before .has .ensures) ∙ c .if1 .taken)))
-
-push-requires : tie.Need-push-requires Inv-loop μ-loop
-push-requires c κs = search needs
-
-add-i-2 : tie.Need-add-i-2 Inv-loop μ-loop
-add-i-2 c = let k = below-both (c .before .before .before .before .before .loop .i) (c .before .before .before .before .before .before .args .t1 .n) 64 (c .before .before .before .before .loop-test .taken) in omega arith
-
-loop-less-2 : tie.Need-loop-less-2 Inv-loop μ-loop
-loop-less-2 c = let k = below-both (c .before .before .before .before .before .loop .i) (c .before .before .before .before .before .before .args .t1 .n) 64 (c .before .before .before .before .loop-test .taken) in omega arith
-
-loop-again-2 : tie.Need-loop-again-2 Inv-loop μ-loop
-loop-again-2 c = let k = below-both (c .before .before .before .before .before .loop .i) (c .before .before .before .before .before .before .args .t1 .n) 64 (c .before .before .before .before .loop-test .taken) in let l : length (c .before .before .before .before .before .before .args .t1 .v) ≡ 64 = sym (length-map (c .before .before .before .before .before .before .args .t1 .v) _) ∙ c .before .before .before .before .before .before .good .0 .1 .1 .1 .0 .1 .0 .1 in let m : c .before .before .before .before .before .loop .r .n < 64 = omega (arith, c .before .before .before .before .before .loop .inv .0) in (
-  omega (arith, c .push .ensures .count m, c .before .before .before .before .before .loop .inv .0),
-  c .before .before .before .before .before .loop .inv .1 ∙ ap (λ (l : List ℕ). listOf (c .before .before .before .before .before .loop .r) ++ l) (without-next (c .before .before .before .before .before .before .args .t1 .v) (c .before .before .before .before .before .before .args .t1 .n) (c .before .before .before .before .before .loop .i) (k .0, omega arith) (listOf (c .before .before .before .before .before .before .args .x)) (sym (c .before .before .has .ensures) ∙ c .before .if1 .left))
-      ∙ sym (append-assoc (listOf (c .before .before .before .before .before .loop .r)) _ _) ∙ ap (λ (l : List ℕ). l ++ without (drop (c .before .before .before .before .before .loop .i + 1) (take (c .before .before .before .before .before .before .args .t1 .n) (c .before .before .before .before .before .before .args .t1 .v))) (listOf (c .before .before .before .before .before .before .args .x))) (sym (c .push .ensures .list m)),
-)
+loop-again c =
+    let turn = c .before .before .before .before .before .before .before in
+    let loop = turn .loop in
+    let start = turn .before .before in
+    let g = start .args .t1 in
+    let x = listOf (start .args .t2) in
+    let room = sized g (start .good .0) in
+    let told = sym (c .before .among .ensures) in
+    ⊎-elim
+    (λ w. rw (w .1, w .2) (
+      rw length-set (loop .inv .0),
+      omega arith,
+      kept (loop .v) (loop .k) (g .v) (g .n) (loop .i) x (omega arith) (told ∙ not-true _ (w .0 .taken)) (omega arith) ∙ loop .inv .2,
+    ))
+    (λ w. rw (w .1, w .2) (
+      loop .inv .0,
+      omega arith,
+      dropped (loop .v) (loop .k) (g .v) (g .n) (loop .i) x (omega arith) (told ∙ not-false _ (w .0 .left)) ∙ loop .inv .2,
+    ))
+    (c .if1 .came)
 
 returns : tie.Need-returns Inv-loop μ-loop
-returns c = let l : length (c .before .before .args .t1 .v) ≡ 64 = sym (length-map (c .before .before .args .t1 .v) _) ∙ c .before .before .good .0 .1 .1 .1 .0 .1 .0 .1 in sym (c .before .loop .inv .1 ∙ ap (λ (l : List ℕ). listOf (c .before .loop .r) ++ l) (without-end (c .before .before .args .t1 .v) (c .before .before .args .t1 .n) (c .before .loop .i) (rw l (below-not _ _ _ (c .loop-test .left))) (listOf (c .before .before .args .x))) ∙ append-nil (listOf (c .before .loop .r)))
+returns c =
+    let turn = c .before in
+    let loop = turn .loop in
+    let start = turn .before .before in
+    let g = start .args .t1 in
+    let room = sized g (start .good .0) in
+    all-kept (loop .v) (loop .k) (g .v) (g .n) (loop .i) (listOf (start .args .t2)) (omega arith) ∙ loop .inv .2
 
 pub without-spec : {M : Type 1} → statement M
 without-spec =
@@ -61,14 +86,15 @@ without-spec =
     (tie.spec
     Inv-loop
     μ-loop
+    least-requires
     loop-holds
+    mul-b
     element-copy-out-b
-    has-requires
+    among-requires
+    mul-v
+    array-write-v
+    add-k
     add-i
     loop-less
     loop-again
-    push-requires
-    add-i-2
-    loop-less-2
-    loop-again-2
     returns)
