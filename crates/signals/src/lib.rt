@@ -1,42 +1,59 @@
 // The blocks Signals and SignalGroups, read into two tables that the caller lends: place and end of each name, and its signals in a row.
 ghost use mathlib.Core.Path.{_≡_};
-ghost use mathlib.Core.Bool.{true};
-ghost use Prim.Native.Nat.{_+_, _*_, _≤_, _<_};
-ghost use lib.ListN.{length, set, take, drop};
-ghost use Rattle.meaning.specs.Names.{dueAmong, oldName};
+ghost use mathlib.Core.Bool.{true, false, _&&_};
+ghost use mathlib.Core.List.{List};
+ghost use Prim.Native.Nat.{ℕ, _+_, _*_, _≤_, _<_, min};
+ghost use lib.ListN.{length, set};
+ghost use Rattle.meaning.specs.Bounds.{signalsMost};
+ghost use Rattle.meaning.specs.Lists.{meets};
+ghost use Rattle.meaning.specs.Names.{among, dueAmong};
 ghost use Rattle.meaning.specs.Signals.{directions, signal as signalDue, signals as signalsDue};
-ghost use Rattle.meaning.specs.Groups.{sign as signDue, signAhead, joined as joinedDue, term as termDue, bracket, terms, group as groupDue, groups as groupsDue};
+ghost use Rattle.meaning.specs.Groups.{sign as signDue, signAhead, joined as joinedDue, term as termDue, terms, bracket, group as groupDue, groups as groupsDue};
 ghost use Rattle.sets.specs.Sets.{listOf};
-ghost use Rattle.words.specs.Cursor.{ahead as aheadTok, stream, alive, Goes};
-ghost use Rattle.signals.specs.Names.{listAt, namesOf, Sized, Named, front as frontDue};
+ghost use Rattle.words.specs.Cursor.{stream, alive, Goes};
+ghost use Rattle.signals.specs.Names.{namesMost, rowLength, Sized, listAt, namesOf, Written, Named, AllTidy, Usable, Fronted};
 use sets::Set;
 use words::Cursor;
 
+// How many groups there may be.
+pub const GROUPS: usize = 32;
+
 // How many signals and groups there may be.
-pub const NAMES: usize = 96;
+pub const NAMES: usize = sets::MOST + GROUPS;
 
 // How long a row of signals is: their number, and a place for each that there may be.
-pub const ROW: usize = 65;
+pub const ROW: usize = sets::MOST + 1;
+
+// How deep brackets may stand in an expression.
+const BRACKETS: usize = 8;
 
 // How many names there are, and the cursor behind them.
-pub struct Counted {
-    pub cursor: Cursor,
-    pub count: usize,
+struct Counted {
+    cursor: Cursor,
+    count: usize,
 }
 
-// Signals in order, and the cursor behind what gave them.
-pub struct Listed {
-    pub cursor: Cursor,
-    pub set: Set,
+// Is it `+`, and the cursor behind it.
+struct Signed {
+    cursor: Cursor,
+    plus: bool,
 }
 
-pub struct Signed {
-    pub cursor: Cursor,
-    pub plus: bool,
+// A term's signals, the place of its last token, and the cursor behind it.
+struct Placed {
+    cursor: Cursor,
+    set: Set,
+    last: usize,
+}
+
+// An expression's signals, and the cursor behind it.
+struct Listed {
+    cursor: Cursor,
+    set: Set,
 }
 
 // How many signals there are, how many names, and the cursor behind both blocks.
-pub struct Front {
+pub struct Blocks {
     pub cursor: Cursor,
     pub signals: usize,
     pub names: usize,
@@ -53,13 +70,24 @@ fn put_name(places: &mut [usize], i: usize, at: usize, end: usize)
     places[i * 2 + 1] = end;
 }
 
+// A number of signals, as a row holds it.
+fn held(n: usize) -> u16
+    ensures { λ r. ⌜ r ≡ min n signalsMost ⌝ }
+{
+    if n < sets::MOST {
+        n as u16
+    } else {
+        sets::MOST as u16
+    }
+}
+
 // The signals of the name of number i: a row is written.
 fn put_set(lists: &mut [u16], i: usize, set: Set)
-    requires { ⌜ i * 65 + 65 ≤ length (now lists) ⌝ }
+    requires { ⌜ i * rowLength + rowLength ≤ length (now lists) ⌝ }
     ensures { λ _. ⌜ Written (now (lists .entry)) i set (now (lists .exit)) ⌝ }
 {
     let at = i * ROW;
-    lists[at] = (set.n % 65536) as u16;
+    lists[at] = held(set.n);
     let mut j = 0;
     while j < sets::MOST {
         lists[at + 1 + j] = set.v[j];
@@ -69,11 +97,14 @@ fn put_set(lists: &mut [u16], i: usize, set: Set)
 
 // The signals of the name of number i.
 pub fn set_at(lists: &[u16], i: usize) -> Set
-    requires { ⌜ i * 65 + 65 ≤ length (now lists) ⌝ }
+    requires { ⌜ length (now lists) ≡ namesMost * rowLength ⌝ }
     ensures { λ r. ⌜ listOf r ≡ listAt (now (lists .entry)) i ⌝ }
 {
+    if NAMES <= i {
+        return sets::nothing();
+    }
     let at = i * ROW;
-    let mut v = [0u16; 64];
+    let mut v = [0; sets::MOST];
     let mut j = 0;
     while j < sets::MOST {
         v[j] = lists[at + 1 + j];
@@ -87,15 +118,21 @@ pub fn set_at(lists: &[u16], i: usize) -> Set
 
 // ---- Signals
 
+// Is w In, Out or InOut?
+fn is_direction(w: &[u8]) -> bool
+    ensures { λ r. ⌜ r ≡ among directions (now (w .entry)) ⌝ }
+{
+    words::equal(w, b"In") | (words::equal(w, b"Out") | words::equal(w, b"InOut"))
+}
+
 // In, Out or InOut is due.
 fn direction(text: &[u8], c: Cursor) -> Cursor
     ensures { λ r. ⌜ Goes (now (text .entry)) c (dueAmong directions) r (c .at) ⌝ }
 {
-    let w = words::bytes_of(text, c.at, c.end);
-    words::expect(text, c, words::equal(w, b"In") | (words::equal(w, b"Out") | words::equal(w, b"InOut")))
+    words::expect(text, c, is_direction(words::bytes_of(text, c.at, c.end)))
 }
 
-// One signal behind `count` of them.
+// One signal more, behind `count` of them.
 fn signal(text: &[u8], c: Cursor, places: &mut [usize], lists: &mut [u16], count: usize) -> Cursor
     requires { ⌜ Sized (now places) (now lists) ⌝ }
     ensures { λ r. ⌜ Named (now (text .entry)) c (signalDue (namesOf (now (text .entry)) (now (places .entry)) (now (lists .entry)) count)) r (now (places .exit)) (now (lists .exit)) (count + 1) ⌝ }
@@ -104,17 +141,16 @@ fn signal(text: &[u8], c: Cursor, places: &mut [usize], lists: &mut [u16], count
     let b = words::refuse_if(a, sets::MOST <= count, 8, c.at);
     let d = direction(text, b);
     let r = words::due(text, d, b";");
-    if r.no == 0 {
-        if count < sets::MOST {
-            put_name(places, count, c.at, c.end);
-            put_set(lists, count, sets::single(count as u16));
-        }
+    if r.no != 0 {
+        return r;
     }
+    put_name(places, count, c.at, c.end);
+    put_set(lists, count, sets::single(count as u16));
     r
 }
 
 // Signals { NAME In; .. }
-pub fn signals(text: &[u8], c: Cursor, places: &mut [usize], lists: &mut [u16]) -> Counted
+fn signals(text: &[u8], c: Cursor, places: &mut [usize], lists: &mut [u16]) -> Counted
     requires { ⌜ Sized (now places) (now lists) ⌝ }
     ensures { λ r. ⌜ Named (now (text .entry)) c signalsDue (r .cursor) (now (places .exit)) (now (lists .exit)) (r .count) ⌝ }
 {
@@ -124,14 +160,10 @@ pub fn signals(text: &[u8], c: Cursor, places: &mut [usize], lists: &mut [u16]) 
     let mut count = 1;
     while words::until(text, cursor, b"}") {
         cursor = signal(text, cursor, places, lists, count);
-        if count < NAMES {
-            count += 1;
-        }
+        count += 1;
     }
-    Counted {
-        cursor: words::due(text, cursor, b"}"),
-        count,
-    }
+    let end = words::due(text, cursor, b"}");
+    Counted { cursor: end, count }
 }
 
 // ---- SignalGroups
@@ -140,10 +172,15 @@ pub fn signals(text: &[u8], c: Cursor, places: &mut [usize], lists: &mut [u16]) 
 fn sign(text: &[u8], c: Cursor) -> Signed
     ensures { λ r. ⌜ Goes (now (text .entry)) c signDue (r .cursor) (r .plus) ⌝ }
 {
-    let w = words::bytes_of(text, c.at, c.end);
-    let plus = words::equal(w, b"+");
-    let cursor = words::expect(text, c, plus | words::equal(w, b"-"));
-    Signed { cursor, plus }
+    if words::is(text, c, b"+") {
+        let cursor = words::step(text, c);
+        return Signed { cursor, plus: true };
+    }
+    let cursor = words::due(text, c, b"-");
+    Signed {
+        cursor,
+        plus: false,
+    }
 }
 
 // Is `+` or `-` ahead?
@@ -155,17 +192,155 @@ fn sign_ahead(text: &[u8], c: Cursor) -> bool
 
 // The signals g and a term's x, whose last token stands at q: `+` appends, `-` removes.
 fn joined(c: Cursor, g: Set, x: Set, plus: bool, q: usize) -> Listed
+    ensures { λ r. ⌜ ((text : List ℕ) → (alive c ≡ true → meets (listOf x) (listOf g) ≡ false → length (listOf g) + length (listOf x) ≤ signalsMost) → Goes text c (joinedDue plus (listOf g) (listOf x) q) (r .cursor) (listOf (r .set))) ⌝ }
 {
     if plus {
         let cursor = words::refuse_if(c, sets::meets(x, g), 10, q);
-        return Listed {
-            cursor,
-            set: sets::append(g, x),
-        };
+        let set = sets::append(g, x);
+        return Listed { cursor, set };
     }
     let cursor = words::refuse_if(c, !sets::inside(x, g), 10, q);
-    Listed {
+    let set = sets::without(g, x);
+    Listed { cursor, set }
+}
+
+// A term: one of `count` names, or an expression in brackets, in which d more may stand.
+fn term<'a>(
+    text: &'a [u8],
+    c: Cursor,
+    places: &'a [usize],
+    lists: &'a [u16],
+    count: usize,
+    d: usize,
+) -> Placed
+    requires { ⌜ Usable (now text) (now places) (now lists) count ⌝ }
+    ensures { λ r. ⌜ Goes (now (text .entry)) c (termDue (bracket d (namesOf (now (text .entry)) (now (places .entry)) (now (lists .entry)) count)) (namesOf (now (text .entry)) (now (places .entry)) (now (lists .entry)) count)) (r .cursor) (listOf (r .set), r .last) ⌝ }
+{
+    if words::is(text, c, b"(") {
+        let a = words::due(text, c, b"(");
+        if d == 0 {
+            let cursor = words::refuse_if(a, true, 8, c.at);
+            let set = sets::nothing();
+            return Placed {
+                cursor,
+                set,
+                last: 0,
+            };
+        }
+        let g = expression(text, a, places, lists, count, d - 1);
+        let b = g.cursor;
+        let cursor = words::due(text, b, b")");
+        let set = g.set;
+        return Placed {
+            cursor,
+            set,
+            last: b.at,
+        };
+    }
+    let x = words::old_name(text, c, places, count);
+    let cursor = x.cursor;
+    let set = set_at(lists, x.number);
+    Placed {
         cursor,
-        set: sets::without(g, x),
+        set,
+        last: c.at,
+    }
+}
+
+// Terms joined by `+` or `-`, in which brackets may stand d deep.
+fn expression<'a>(
+    text: &'a [u8],
+    c: Cursor,
+    places: &'a [usize],
+    lists: &'a [u16],
+    count: usize,
+    d: usize,
+) -> Listed
+    requires { ⌜ Usable (now text) (now places) (now lists) count ⌝ }
+    ensures { λ r. ⌜ Goes (now (text .entry)) c (terms (bracket d (namesOf (now (text .entry)) (now (places .entry)) (now (lists .entry)) count)) (namesOf (now (text .entry)) (now (places .entry)) (now (lists .entry)) count)) (r .cursor) (listOf (r .set)) ⌝ }
+{
+    let x = term(text, c, places, lists, count, d);
+    let mut cursor = x.cursor;
+    let mut set = x.set;
+    while sign_ahead(text, cursor) {
+        let s = sign(text, cursor);
+        let a = s.cursor;
+        let y = term(text, a, places, lists, count, d);
+        let b = y.cursor;
+        let z = y.set;
+        let j = joined(b, set, z, s.plus, y.last);
+        cursor = j.cursor;
+        set = j.set;
+    }
+    Listed { cursor, set }
+}
+
+// One group more, behind `count` names, of which n are signals.
+fn group(
+    text: &[u8],
+    c: Cursor,
+    places: &mut [usize],
+    lists: &mut [u16],
+    count: usize,
+    n: usize,
+) -> Cursor
+    requires { ⌜ Usable (now text) (now places) (now lists) count × (n ≤ signalsMost) ⌝ }
+    ensures { λ r. ⌜ Named (now (text .entry)) c (groupDue n (namesOf (now (text .entry)) (now (places .entry)) (now (lists .entry)) count)) r (now (places .exit)) (now (lists .exit)) (count + 1) ⌝ }
+{
+    let a = words::new_name(text, c, places, count);
+    let b = words::refuse_if(a, n + GROUPS <= count, 8, c.at);
+    let d = words::due(text, b, b"=");
+    let e = words::due(text, d, b"'");
+    let x = expression(text, e, places, lists, count, BRACKETS);
+    let f = x.cursor;
+    let set = x.set;
+    let g = words::due(text, f, b"'");
+    let h = words::refuse_if(g, sets::is_empty(set), 10, f.at);
+    let r = words::due(text, h, b";");
+    if r.no != 0 {
+        return r;
+    }
+    put_name(places, count, c.at, c.end);
+    put_set(lists, count, set);
+    r
+}
+
+// SignalGroups { NAME = 'EXPR'; .. }, behind n signals.
+fn groups(text: &[u8], c: Cursor, places: &mut [usize], lists: &mut [u16], n: usize) -> Counted
+    requires { ⌜ Sized (now places) (now lists) × (alive c ≡ true → AllTidy signalsMost (namesOf (now text) (now places) (now lists) n) × (n ≤ signalsMost)) ⌝ }
+    ensures { λ r. ⌜ Named (now (text .entry)) c (groupsDue (namesOf (now (text .entry)) (now (places .entry)) (now (lists .entry)) n)) (r .cursor) (now (places .exit)) (now (lists .exit)) (r .count) ⌝ }
+{
+    let a = words::due(text, c, b"SignalGroups");
+    let mut cursor = words::due(text, a, b"{");
+    let mut count = n;
+    while words::until(text, cursor, b"}") {
+        cursor = group(text, cursor, places, lists, count, n);
+        count += 1;
+    }
+    let end = words::due(text, cursor, b"}");
+    Counted { cursor: end, count }
+}
+
+// Signals, and SignalGroups, which may be missing.
+pub fn front(text: &[u8], c: Cursor, places: &mut [usize], lists: &mut [u16]) -> Blocks
+    requires { ⌜ Sized (now places) (now lists) ⌝ }
+    ensures { λ r. ⌜ Fronted (now (text .entry)) c (r .cursor) (now (places .exit)) (now (lists .exit)) (r .signals) (r .names) ⌝ }
+{
+    let s = signals(text, c, places, lists);
+    let a = s.cursor;
+    let n = s.count;
+    if words::is(text, a, b"SignalGroups") {
+        let g = groups(text, a, places, lists, n);
+        let cursor = g.cursor;
+        return Blocks {
+            cursor,
+            signals: n,
+            names: g.count,
+        };
+    }
+    Blocks {
+        cursor: a,
+        signals: n,
+        names: n,
     }
 }
