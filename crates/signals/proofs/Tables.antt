@@ -4,22 +4,26 @@ use native.Mathlib.Omega.{arith}
 use native.Mathlib.Nat.{zero-add, add-zero, add-suc, suc-add}
 use native.Mathlib.Numerals.{add-one}
 use mathlib.Core.Path.{_≡_, refl, sym, ap, ap₂, _∙_, subst}
-use mathlib.Core.Bool.{true}
+use mathlib.Core.Bool.{Bool, true, false}
+use mathlib.Core.Option.{Option, some}
 use mathlib.Core.List.{List, [], _∷_, _++_}
 use lib.ListN.{length, getD, take, set, length-append, length-set}
 use lib.Seq.{take-at, getD-set-same, getD-set-other}
+use Rattle.tokens.specs.Written.{same}
 use Rattle.tokens.specs.Tokens.{Tok}
 use Rattle.meaning.specs.Bounds.{signalsMost}
+use Rattle.meaning.specs.Names.{find, oldName}
 use Rattle.meaning.specs.Signals.{Names}
+use Rattle.meaning.proofs.Gives.{Gives, gives-bind, gives-after, gives-give}
 use Rattle.sets.specs.Sets.{listOf}
 use Rattle.sets.specs.declared.Set.{Set}
 use Rattle.sets.proofs.Tidy.{TidyBelow}
-use Rattle.words.specs.Cursor.{ahead, alive}
+use Rattle.words.specs.Cursor.{ahead, alive, Goes}
 use Rattle.words.specs.Table.{nameOf, namesFrom, names, named}
 use Rattle.words.specs.declared.Cursor.{Cursor}
 use Rattle.words.proofs.Names.{names-more}
-use Rattle.signals.specs.Names.{namesMost, rowLength, Sized, listAt, namesOf, Written, AllTidy, none, more as another, Fronted}
-use Rattle.signals.proofs.Tidy.{gave, Single, no-more, one, declared-front}
+use Rattle.signals.specs.Names.{namesMost, Sized, listAt, namesOf, Written, Added, AllTidy, more as another, Fronted}
+use Rattle.signals.proofs.Tidy.{gave, gives-known, Single, one, declared-front}
 
 -- k names from number i on, each with its signals
 abbrev rows : List ℕ → List ℕ → List ℕ → ℕ → ℕ → Names
@@ -73,21 +77,35 @@ module _ (text p q l m : List ℕ) where
       rw (a, b, e) (ap (λ (ns : Names). (nameOf text p i, listAt l i) ∷ ns) (agree (suc i) k (λ j f. h j (omega arith)) (λ j f. g j (omega arith))))
 
   -- the name at the cursor, with its place and end behind theirs, and its row
-  pub names-added : (count : ℕ) (c : Cursor) {s : Set} {k : List ℕ} → q ≡ set (set p (count * 2) (c .at)) (count * 2 + 1) (c .end) → count * 2 + 1 < length p
-      → Written l count s m → listOf s ≡ k → namesOf text p l count ++ (ahead text c, k) ∷ [] ≡ namesOf text q m (count + 1)
-  names-added count c {s} {k} e h w f =
+  names-added : (count : ℕ) (c : Cursor) {s : Set} → q ≡ set (set p (count * 2) (c .at)) (count * 2 + 1) (c .end) → count * 2 + 1 < length p
+      → Written l count s m → namesOf text p l count ++ (ahead text c, listOf s) ∷ [] ≡ namesOf text q m (count + 1)
+  names-added count c {s} e h w =
+      let first = set p (count * 2) (c .at) in
       let start : getD q (count * 2) 0 ≡ c .at =
-      rw e (getD-set-other (set p (count * 2) (c .at)) (count * 2 + 1) (count * 2) (c .end) 0 (λ z. omega arith) ∙ getD-set-same p (count * 2) (c .at) 0 (omega arith)) in
+      rw e (getD-set-other first (count * 2 + 1) (count * 2) (c .end) 0 (λ z. omega arith) ∙ getD-set-same p (count * 2) (c .at) 0 (omega arith)) in
       let end : getD q (count * 2 + 1) 0 ≡ c .end =
-      rw e (getD-set-same (set p (count * 2) (c .at)) (count * 2 + 1) (c .end) 0 (omega (arith, length-set p (count * 2) (c .at)))) in
+      rw e (getD-set-same first (count * 2 + 1) (c .end) 0 (omega (arith, length-set p (count * 2) (c .at)))) in
       let others : (j : ℕ) → j < (0 + count) * 2 → getD q j 0 ≡ getD p j 0 = λ j b.
-      rw e (getD-set-other (set p (count * 2) (c .at)) (count * 2 + 1) j (c .end) 0 (λ z. omega arith) ∙ getD-set-other p (count * 2) j (c .at) 0 (λ z. omega arith)) in
+      rw e (getD-set-other first (count * 2 + 1) j (c .end) 0 (λ z. omega arith) ∙ getD-set-other p (count * 2) j (c .at) 0 (λ z. omega arith)) in
       let it : nameOf text q count ≡ ahead text c = rw (start, end) in
       sym (ap (λ (k : ℕ). named (listAt m) (namesFrom text q 0 k)) (add-one count)
       ∙ ap (named (listAt m)) (names-more text q 0 count ∙ ap (λ (k : ℕ). namesFrom text q 0 count ++ (nameOf text q k, k) ∷ []) (zero-add count))
       ∙ named-more (listAt m) (namesFrom text q 0 count) (nameOf text q count, count)
       ∙ ap₂ (λ (ns : Names) (x : Tok × List ℕ). ns ++ x ∷ []) (agree 0 count others (λ j b. w .earlier j (omega arith)))
-      (ap₂ (λ (t : Tok) (k : List ℕ). (t, k)) it (w .row ∙ f)))
+      (ap₂ (λ (t : Tok) (k : List ℕ). (t, k)) it (w .row)))
+
+-- both tables hold one name more
+pub added : (p q l m : List ℕ) (count : ℕ) (c : Cursor) {s : Set} → Sized p l → count < namesMost → q ≡ set (set p (count * 2) (c .at)) (count * 2 + 1) (c .end)
+    → Written l count s m → Added p l count c s q m
+added p q l m count c h b e w =
+    record {
+      names = λ text. names-added text p q l m count c e (omega (arith, h .all)) w;
+      sized =
+          record {
+            all = ap length e ∙ length-set (set p (count * 2) (c .at)) (count * 2 + 1) (c .end) ∙ length-set p (count * 2) (c .at) ∙ h .all;
+            rows = w .long ∙ h .rows;
+          };
+    }
 
 -- ---- both blocks were read
 
@@ -106,6 +124,31 @@ module _ (text places lists : List ℕ) where
   single-at i (suc k) (one h hs) (suc j) e =
       let s : suc i + j ≡ i + suc j = suc-add i j ∙ sym (add-suc i j) in
       subst (λ (n : ℕ). listAt lists n ≡ n ∷ []) s (single-at (suc i) k hs j (omega arith))
+
+-- a name that is found has a number below their count
+find-below : (text places w : List ℕ) (i k j : ℕ) → find (namesFrom text places i k) w ≡ some j → j < i + k
+unfolding find namesFrom
+find-below text places w i zero j e = let z : _≡_ {A = ℕ} 0 1 = cc in absurd (omega arith)
+find-below text places w i (suc k) j e = by (same (nameOf text places i .word) w) e (find-below text places w (suc i) k j)
+  where
+    by : (b : Bool) → _≡_ {A = Option ℕ} (elim b [ true ↦ some i | false ↦ find (namesFrom text places (suc i) k) w ]) (some j)
+        → (find (namesFrom text places (suc i) k) w ≡ some j → j < suc i + k) → j < i + suc k
+    by true e ih = let q : i ≡ j = cc in omega arith
+    by false e ih = let h = ih e in omega arith
+
+pub old-below : {text : List ℕ} (places : List ℕ) (count : ℕ) {c r : Cursor} {t : Tok} {i : ℕ} → Goes text c (oldName (names text places count)) r (t, i) → alive r ≡ true
+    → i < count
+unfolding oldName
+old-below {text} places count g e = gave below g e
+  where
+    Below : Tok × ℕ → Type 0
+    Below x = x .1 < count
+
+    below : Gives Below (oldName (names text places count))
+    below =
+        gives-after Below _ _ λ u.
+        gives-bind (λ j. j < count) Below _ _ (gives-known (λ j. j < count) _ _ _ (λ j q. let h = find-below text places (u .word) 0 count j q in omega arith)) λ j h.
+        gives-give Below (u, j) h
 
 -- what later readers know of the tables: so many signals and names at most, which signal i stands for, and that a name's signals differ and are
 -- signals of the text

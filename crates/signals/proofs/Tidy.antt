@@ -1,5 +1,5 @@
 -- What the definitions give: the signals are numbered in order, and each name's signals differ and lie below their number.
-use Prim.Native.Nat.{ℕ, zero, suc, _+_, _≤_, _<_}
+use Prim.Native.Nat.{ℕ, zero, suc, _+_, _≤_}
 use native.Mathlib.Omega.{arith}
 use native.Mathlib.Nat.{zero-add, add-zero, add-suc, suc-add}
 use mathlib.Core.Path.{_≡_, refl, sym, ap, _∙_, subst}
@@ -28,7 +28,7 @@ use Rattle.signals.specs.Names.{AllTidy, none, more as another, front}
 pub gave : {A : Type 0} {P : A → Type 0} {text : List ℕ} {c r : Cursor} {m : Reader A} {a : A} → Gives P m → Goes text c m r a → alive r ≡ true → P a
 gave h g e = h .all _ _ _ (read g e .gave)
 
-gives-known : {A : Type 0} (P : A → Type 0) (o : Option A) (n p : ℕ) → ((a : A) → o ≡ some a → P a) → Gives P (known o n p)
+pub gives-known : {A : Type 0} (P : A → Type 0) (o : Option A) (n p : ℕ) → ((a : A) → o ≡ some a → P a) → Gives P (known o n p)
 gives-known P o n p h = record { all = λ ts a us e. h a (known-ok o n p ts e) }
 
 -- ---- tidy names

@@ -1,17 +1,17 @@
 -- What the code's tables of names stand for: each name of a signal or group by its place and end, and its signals in a row of their own.
 use Prim.Native.Nat.{ℕ, _+_, _*_, _<_}
 use mathlib.Core.Path.{_≡_}
-use mathlib.Core.List.{List, [], _∷_}
+use mathlib.Core.List.{List, [], _∷_, _++_}
 use lib.ListN.{length, getD, take, drop}
 use Rattle.tokens.specs.Tokens.{Tok}
 use Rattle.meaning.specs.Bounds.{signalsMost, groupsMost}
 use Rattle.meaning.specs.Reader.{Reader, _>>=_, give, option}
 use Rattle.meaning.specs.Signals.{Names, signals}
-use Rattle.meaning.specs.Groups.{groups}
+use Rattle.meaning.specs.Groups.{term, terms, bracket, groups}
 use Rattle.sets.specs.Sets.{listOf}
 use Rattle.sets.specs.declared.Set.{Set}
 use Rattle.sets.proofs.Tidy.{TidyBelow}
-use Rattle.words.specs.Cursor.{Goes}
+use Rattle.words.specs.Cursor.{ahead, Goes}
 use Rattle.words.specs.Table.{names, named}
 use Rattle.words.specs.declared.Cursor.{Cursor}
 
@@ -42,6 +42,11 @@ pub record Written (before : List ℕ) (i : ℕ) (set : Set) (behind : List ℕ)
   pub earlier : (j : ℕ) → j < i → listAt behind j ≡ listAt before j
   pub row : listAt behind i ≡ listOf set
 
+-- one name more stands behind `count` names: the one at the cursor, with a set's signals
+pub record Added (places lists : List ℕ) (count : ℕ) (c : Cursor) (set : Set) (places′ lists′ : List ℕ) : Type 0 where
+  pub names : (text : List ℕ) → namesOf text places lists count ++ (ahead text c, listOf set) ∷ [] ≡ namesOf text places′ lists′ (count + 1)
+  pub sized : Sized places′ lists′
+
 -- THE PROMISE of a function that reads names into the tables: the reader m goes from c to r, and answers the first `count` names there
 pub record Named (text : List ℕ) (c : Cursor) (m : Reader Names) (r : Cursor) (places lists : List ℕ) (count : ℕ) : Type 0 where
   pub goes : Goes text c m r (namesOf text places lists count)
@@ -56,6 +61,13 @@ pub data AllTidy (most : ℕ) : Names → Type 0 where
 pub record Usable (text places lists : List ℕ) (count : ℕ) : Type 0 where
   pub sized : Sized places lists
   pub tidy : AllTidy signalsMost (namesOf text places lists count)
+
+-- a term, and an expression, in which brackets may stand d deep
+abbrev pub termWithin : ℕ → Names → Reader (List ℕ × ℕ)
+termWithin d ns = term (bracket d ns) ns
+
+abbrev pub expressionWithin : ℕ → Names → Reader (List ℕ)
+expressionWithin d ns = terms (bracket d ns) ns
 
 -- Signals, and SignalGroups, which may be missing: the signals, and all names
 unfoldable pub front : Reader (Names × Names)

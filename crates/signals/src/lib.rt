@@ -8,24 +8,34 @@ ghost use Rattle.meaning.specs.Bounds.{signalsMost};
 ghost use Rattle.meaning.specs.Lists.{meets};
 ghost use Rattle.meaning.specs.Names.{among, dueAmong};
 ghost use Rattle.meaning.specs.Signals.{directions, signal as signalDue, signals as signalsDue};
-ghost use Rattle.meaning.specs.Groups.{sign as signDue, signAhead, joined as joinedDue, term as termDue, terms, bracket, group as groupDue, groups as groupsDue};
+ghost use Rattle.meaning.specs.Groups.{sign as signDue, signAhead, joined as joinedDue, group as groupDue, groups as groupsDue};
 ghost use Rattle.sets.specs.Sets.{listOf};
 ghost use Rattle.words.specs.Cursor.{stream, alive, Goes};
-ghost use Rattle.signals.specs.Names.{namesMost, rowLength, Sized, listAt, namesOf, Written, Named, AllTidy, Usable, Fronted};
+ghost use Rattle.signals.specs.Names.{namesMost, rowLength, Sized, listAt, namesOf, Written, Added, Named, AllTidy, Usable, termWithin, expressionWithin, Fronted};
 use sets::Set;
 use words::Cursor;
 
 // How many groups there may be.
-pub const GROUPS: usize = 32;
+const GROUPS: usize = 32;
 
 // How many signals and groups there may be.
 pub const NAMES: usize = sets::MOST + GROUPS;
 
-// How long a row of signals is: their number, and a place for each that there may be.
-pub const ROW: usize = sets::MOST + 1;
+// A row of signals: their number, and a place for each that there may be.
+const ROW: usize = sets::MOST + 1;
+
+// How long the two tables are.
+pub const PLACES: usize = NAMES * 2;
+
+pub const LISTS: usize = NAMES * ROW;
 
 // How deep brackets may stand in an expression.
 const BRACKETS: usize = 8;
+
+// Refusals: one item or bracket too many; a group that repeats or lacks a signal, or is empty.
+const TOO_MANY: u8 = 8;
+
+const BAD_GROUP: u8 = 10;
 
 // How many names there are, and the cursor behind them.
 struct Counted {
@@ -95,6 +105,15 @@ fn put_set(lists: &mut [u16], i: usize, set: Set)
     }
 }
 
+// The name at the cursor and its signals, behind `count` names.
+fn add(places: &mut [usize], lists: &mut [u16], count: usize, c: Cursor, set: Set)
+    requires { ⌜ Sized (now places) (now lists) × (count < namesMost) ⌝ }
+    ensures { λ _. ⌜ Added (now (places .entry)) (now (lists .entry)) count c set (now (places .exit)) (now (lists .exit)) ⌝ }
+{
+    put_name(places, count, c.at, c.end);
+    put_set(lists, count, set);
+}
+
 // The signals of the name of number i.
 pub fn set_at(lists: &[u16], i: usize) -> Set
     requires { ⌜ length (now lists) ≡ namesMost * rowLength ⌝ }
@@ -138,14 +157,13 @@ fn signal(text: &[u8], c: Cursor, places: &mut [usize], lists: &mut [u16], count
     ensures { λ r. ⌜ Named (now (text .entry)) c (signalDue (namesOf (now (text .entry)) (now (places .entry)) (now (lists .entry)) count)) r (now (places .exit)) (now (lists .exit)) (count + 1) ⌝ }
 {
     let a = words::new_name(text, c, places, count);
-    let b = words::refuse_if(a, sets::MOST <= count, 8, c.at);
+    let b = words::refuse_if(a, sets::MOST <= count, TOO_MANY, c.at);
     let d = direction(text, b);
     let r = words::due(text, d, b";");
     if r.no != 0 {
         return r;
     }
-    put_name(places, count, c.at, c.end);
-    put_set(lists, count, sets::single(count as u16));
+    add(places, lists, count, c, sets::single(count as u16));
     r
 }
 
@@ -195,11 +213,11 @@ fn joined(c: Cursor, g: Set, x: Set, plus: bool, q: usize) -> Listed
     ensures { λ r. ⌜ ((text : List ℕ) → (alive c ≡ true → meets (listOf x) (listOf g) ≡ false → length (listOf g) + length (listOf x) ≤ signalsMost) → Goes text c (joinedDue plus (listOf g) (listOf x) q) (r .cursor) (listOf (r .set))) ⌝ }
 {
     if plus {
-        let cursor = words::refuse_if(c, sets::meets(x, g), 10, q);
+        let cursor = words::refuse_if(c, sets::meets(x, g), BAD_GROUP, q);
         let set = sets::append(g, x);
         return Listed { cursor, set };
     }
-    let cursor = words::refuse_if(c, !sets::inside(x, g), 10, q);
+    let cursor = words::refuse_if(c, !sets::inside(x, g), BAD_GROUP, q);
     let set = sets::without(g, x);
     Listed { cursor, set }
 }
@@ -214,37 +232,28 @@ fn term<'a>(
     d: usize,
 ) -> Placed
     requires { ⌜ Usable (now text) (now places) (now lists) count ⌝ }
-    ensures { λ r. ⌜ Goes (now (text .entry)) c (termDue (bracket d (namesOf (now (text .entry)) (now (places .entry)) (now (lists .entry)) count)) (namesOf (now (text .entry)) (now (places .entry)) (now (lists .entry)) count)) (r .cursor) (listOf (r .set), r .last) ⌝ }
+    ensures { λ r. ⌜ Goes (now (text .entry)) c (termWithin d (namesOf (now (text .entry)) (now (places .entry)) (now (lists .entry)) count)) (r .cursor) (listOf (r .set), r .last) ⌝ }
 {
     if words::is(text, c, b"(") {
         let a = words::due(text, c, b"(");
         if d == 0 {
-            let cursor = words::refuse_if(a, true, 8, c.at);
+            let cursor = words::refuse_if(a, true, TOO_MANY, c.at);
             let set = sets::nothing();
-            return Placed {
-                cursor,
-                set,
-                last: 0,
-            };
+            let last = c.at;
+            return Placed { cursor, set, last };
         }
         let g = expression(text, a, places, lists, count, d - 1);
         let b = g.cursor;
         let cursor = words::due(text, b, b")");
         let set = g.set;
-        return Placed {
-            cursor,
-            set,
-            last: b.at,
-        };
+        let last = b.at;
+        return Placed { cursor, set, last };
     }
     let x = words::old_name(text, c, places, count);
     let cursor = x.cursor;
     let set = set_at(lists, x.number);
-    Placed {
-        cursor,
-        set,
-        last: c.at,
-    }
+    let last = c.at;
+    Placed { cursor, set, last }
 }
 
 // Terms joined by `+` or `-`, in which brackets may stand d deep.
@@ -257,7 +266,7 @@ fn expression<'a>(
     d: usize,
 ) -> Listed
     requires { ⌜ Usable (now text) (now places) (now lists) count ⌝ }
-    ensures { λ r. ⌜ Goes (now (text .entry)) c (terms (bracket d (namesOf (now (text .entry)) (now (places .entry)) (now (lists .entry)) count)) (namesOf (now (text .entry)) (now (places .entry)) (now (lists .entry)) count)) (r .cursor) (listOf (r .set)) ⌝ }
+    ensures { λ r. ⌜ Goes (now (text .entry)) c (expressionWithin d (namesOf (now (text .entry)) (now (places .entry)) (now (lists .entry)) count)) (r .cursor) (listOf (r .set)) ⌝ }
 {
     let x = term(text, c, places, lists, count, d);
     let mut cursor = x.cursor;
@@ -288,20 +297,19 @@ fn group(
     ensures { λ r. ⌜ Named (now (text .entry)) c (groupDue n (namesOf (now (text .entry)) (now (places .entry)) (now (lists .entry)) count)) r (now (places .exit)) (now (lists .exit)) (count + 1) ⌝ }
 {
     let a = words::new_name(text, c, places, count);
-    let b = words::refuse_if(a, n + GROUPS <= count, 8, c.at);
+    let b = words::refuse_if(a, n + GROUPS <= count, TOO_MANY, c.at);
     let d = words::due(text, b, b"=");
     let e = words::due(text, d, b"'");
     let x = expression(text, e, places, lists, count, BRACKETS);
     let f = x.cursor;
     let set = x.set;
     let g = words::due(text, f, b"'");
-    let h = words::refuse_if(g, sets::is_empty(set), 10, f.at);
+    let h = words::refuse_if(g, sets::is_empty(set), BAD_GROUP, f.at);
     let r = words::due(text, h, b";");
     if r.no != 0 {
         return r;
     }
-    put_name(places, count, c.at, c.end);
-    put_set(lists, count, set);
+    add(places, lists, count, c, set);
     r
 }
 

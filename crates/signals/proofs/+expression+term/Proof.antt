@@ -3,9 +3,9 @@
 -- with the signals so far is reading the whole expression, and those signals are tidy, so that there is room for the next.
 use Prim.Native.Nat.{_+_, _*_, _≤_}
 use native.Mathlib.Omega.{arith}
-use mathlib.Core.Path.{_≡_, refl, ap}
+use mathlib.Core.Path.{_≡_, refl}
 use mathlib.Core.Bool.{true}
-use mathlib.Core.List.{List, []}
+use mathlib.Core.List.{[]}
 use borrow.Author.Needs.{needs}
 use Rattle.tokens.specs.Written.{bytes}
 use Rattle.meaning.specs.Reader.{while}
@@ -15,7 +15,7 @@ use Rattle.sets.specs.Sets.{listOf}
 use Rattle.sets.proofs.Tidy.{Tidy}
 use Rattle.words.specs.Cursor.{alive}
 use Rattle.words.specs.Table.{names}
-use Rattle.words.proofs.Flow.{then, given, valued, stays, refused-by, refused-no, alive-before}
+use Rattle.words.proofs.Flow.{then, given, stays, refused-by, refused-no, alive-before}
 use Rattle.words.proofs.Choice.{ahead-yes, ahead-no}
 use Rattle.words.proofs.Loops.{Leads, begins, turned, over, less, no-more, on, room}
 use Rattle.words.proofs.Names.{old-named}

@@ -1,14 +1,25 @@
 -- `group` meets its contract: where nothing was refused there is room in the tables, and what is written there is the new name.
-use mathlib.Core.Path.{refl, ap, _∙_}
+use mathlib.Core.Path.{sym, _∙_}
 use native.Mathlib.Omega.{arith}
-use lib.ListN.{length, length-set}
 use borrow.Author.Tests.{eq-eqb, eqb-true}
 use Rattle.tokens.specs.Written.{bytes}
-use Rattle.signals.proofs.Declaring.{group-fits, group-goes}
-use Rattle.signals.proofs.Tables.{names-added}
+use Rattle.sets.specs.Sets.{listOf}
+use Rattle.signals.proofs.Declaring.{Group, group-read, group-fits, group-goes}
 use borrow.Author.Needs.{needs}
 use Rattle.signals.proofs.group.Statement.{statement}
 use Rattle.signals.proofs.group.Tie as tie
+
+declared : (c : tie.After-struct-known)
+    → let args′ = c .before .before .before .before .before .before .before .before .before .before .before .before .before .before .before .before .before .before .before .before .before .before .args in
+    Group (args′ .text .now) (args′ .places .now) (args′ .lists .now) (args′ .count) (args′ .n) (listOf (c .before .before .before .before .before .before .before .before .before .expression .result .set)) (args′ .c)
+    (c .before .due4 .result)
+unfolding bytes
+declared c =
+    group-read (c .before .before .before .before .before .before .before .before .before .before .before .before .before .before .before .before .before .new-name .ensures) (c .before .before .before .before .before .before .before .before .before .before .before .before .before .before .before .before .refuse-if .ensures) (c .before .before .before .before .before .before .before .before .before .before .before .before .before .before .due .ensures) (c .before .before .before .before .before .before .before .before .before .before .before .before .due2 .ensures) (c .before .before .before .before .before .before .before .before .before .expression .ensures)
+    (c .before .before .before .before .before .due3 .ensures)
+    (c .before .before .before .refuse-if2 .ensures)
+    (c .before .before .before .before .is-empty .ensures)
+    (c .before .due4 .ensures)
 
 new-name-requires : tie.Need-new-name-requires
 new-name-requires c κs = search needs
@@ -61,97 +72,34 @@ same-length-2 : tie.Need-same-length-2
 same-length-2 c = search needs
 
 returns : tie.Need-returns
-unfolding bytes
 returns c =
-    let args′ = c .before .before .before .before .before .before .before .before .before .before .before .before .before .before .before .before .before .before .before .before .before .before .before .args in
     let pre′ = c .before .before .before .before .before .before .before .before .before .before .before .before .before .before .before .before .before .before .before .before .before .before .before .pre in
-    let new-name′ = c .before .before .before .before .before .before .before .before .before .before .before .before .before .before .before .before .before .before .new-name in
-    let refuse-if′ = c .before .before .before .before .before .before .before .before .before .before .before .before .before .before .before .before .before .refuse-if in
-    let due′ = c .before .before .before .before .before .before .before .before .before .before .before .before .before .before .before .due in
-    let due2′ = c .before .before .before .before .before .before .before .before .before .before .before .before .before .due2 in
-    let expression′ = c .before .before .before .before .before .before .before .before .before .before .expression in
-    let due3′ = c .before .before .before .before .before .before .due3 in
-    let is-empty′ = c .before .before .before .before .before .is-empty in
-    let refuse-if2′ = c .before .before .before .before .refuse-if2 in
-    let due4′ = c .before .before .due4 in
-    record {
-      goes = group-goes (args′ .places .now) (args′ .lists .now) (args′ .count) (args′ .n) (new-name′ .ensures) (refuse-if′ .ensures) (due′ .ensures) (due2′ .ensures) (expression′ .ensures) (due3′ .ensures) (refuse-if2′ .ensures) (is-empty′ .ensures) (due4′ .ensures)
-          (λ on. absurd (c .if1 .taken (eqb-true _ _ on)));
-      sized = pre′ .0 .sized;
-    }
+    record { goes = group-goes (declared (c .before)) (λ on. absurd (c .if1 .taken (eqb-true _ _ on))); sized = pre′ .0 .sized }
 
-put-name-requires : tie.Need-put-name-requires
-unfolding bytes
-put-name-requires c κs =
-    let args′ = c .before .before .before .before .before .before .before .before .before .before .before .before .before .before .before .before .before .before .before .before .before .before .before .before .args in
-    let pre′ = c .before .before .before .before .before .before .before .before .before .before .before .before .before .before .before .before .before .before .before .before .before .before .before .before .pre in
-    let new-name′ = c .before .before .before .before .before .before .before .before .before .before .before .before .before .before .before .before .before .before .before .new-name in
-    let refuse-if′ = c .before .before .before .before .before .before .before .before .before .before .before .before .before .before .before .before .before .before .refuse-if in
-    let due′ = c .before .before .before .before .before .before .before .before .before .before .before .before .before .before .before .before .due in
-    let due2′ = c .before .before .before .before .before .before .before .before .before .before .before .before .before .before .due2 in
-    let expression′ = c .before .before .before .before .before .before .before .before .before .before .before .expression in
-    let due3′ = c .before .before .before .before .before .before .before .due3 in
-    let is-empty′ = c .before .before .before .before .before .before .is-empty in
-    let refuse-if2′ = c .before .before .before .before .before .refuse-if2 in
-    let due4′ = c .before .before .before .due4 in
-    let if1′ = c .before .if1 in
-    let few = group-fits (args′ .places .now) (args′ .lists .now) (args′ .count) (args′ .n) (new-name′ .ensures) (refuse-if′ .ensures) (due′ .ensures) (due2′ .ensures) (expression′ .ensures) (due3′ .ensures) (refuse-if2′ .ensures) (is-empty′ .ensures) (due4′ .ensures)
-    (eq-eqb _ _ (if1′ .left)) in
-    omega (arith, pre′ .0 .sized .all, pre′ .1)
-
-put-set-requires : tie.Need-put-set-requires
-unfolding bytes
-put-set-requires c κs =
-    let args′ = c .before .before .before .before .before .before .before .before .before .before .before .before .before .before .before .before .before .before .before .before .before .before .before .before .before .before .before .before .args in
-    let pre′ = c .before .before .before .before .before .before .before .before .before .before .before .before .before .before .before .before .before .before .before .before .before .before .before .before .before .before .before .before .pre in
-    let new-name′ = c .before .before .before .before .before .before .before .before .before .before .before .before .before .before .before .before .before .before .before .before .before .before .before .new-name in
-    let refuse-if′ = c .before .before .before .before .before .before .before .before .before .before .before .before .before .before .before .before .before .before .before .before .before .before .refuse-if in
-    let due′ = c .before .before .before .before .before .before .before .before .before .before .before .before .before .before .before .before .before .before .before .before .due in
-    let due2′ = c .before .before .before .before .before .before .before .before .before .before .before .before .before .before .before .before .before .before .due2 in
-    let expression′ = c .before .before .before .before .before .before .before .before .before .before .before .before .before .before .before .expression in
-    let due3′ = c .before .before .before .before .before .before .before .before .before .before .before .due3 in
-    let is-empty′ = c .before .before .before .before .before .before .before .before .before .before .is-empty in
-    let refuse-if2′ = c .before .before .before .before .before .before .before .before .before .refuse-if2 in
-    let due4′ = c .before .before .before .before .before .before .before .due4 in
-    let if1′ = c .before .before .before .before .before .if1 in
-    let few = group-fits (args′ .places .now) (args′ .lists .now) (args′ .count) (args′ .n) (new-name′ .ensures) (refuse-if′ .ensures) (due′ .ensures) (due2′ .ensures) (expression′ .ensures) (due3′ .ensures) (refuse-if2′ .ensures) (is-empty′ .ensures) (due4′ .ensures)
-    (eq-eqb _ _ (if1′ .left)) in
-    omega (arith, pre′ .0 .sized .rows, pre′ .1)
+add-requires : tie.Need-add-requires
+add-requires c κs =
+    let pre′ = c .before .before .before .before .before .before .before .before .before .before .before .before .before .before .before .before .before .before .before .before .before .before .before .before .before .pre in
+    let if1′ = c .before .before .if1 in
+    let few = group-fits (declared (c .before .before .before)) (eq-eqb _ _ (if1′ .left)) in
+    (pre′ .0 .sized, omega (arith, pre′ .1))
 
 same-length-3 : tie.Need-same-length-3
 same-length-3 c =
-    let put-name′ = c .before .before .before .before .before .before .put-name in
-    ap length (put-name′ .ensures) ∙ simp length-set
+    let pre′ = c .before .before .before .before .before .before .before .before .before .before .before .before .before .before .before .before .before .before .before .before .before .before .before .before .before .before .before .before .before .before .pre in
+    let add′ = c .before .before .before .before .add in
+    add′ .ensures .sized .all ∙ sym (pre′ .0 .sized .all)
 
 same-length-4 : tie.Need-same-length-4
 same-length-4 c =
-    let put-set′ = c .before .before .put-set in
-    put-set′ .ensures .long
+    let pre′ = c .before .before .before .before .before .before .before .before .before .before .before .before .before .before .before .before .before .before .before .before .before .before .before .before .before .before .before .before .before .before .pre in
+    let add′ = c .before .before .before .before .add in
+    add′ .ensures .sized .rows ∙ sym (pre′ .0 .sized .rows)
 
 returns-2 : tie.Need-returns-2
-unfolding bytes
 returns-2 c =
-    let args′ = c .before .before .before .before .before .before .before .before .before .before .before .before .before .before .before .before .before .before .before .before .before .before .before .before .before .before .before .before .before .before .before .args in
-    let pre′ = c .before .before .before .before .before .before .before .before .before .before .before .before .before .before .before .before .before .before .before .before .before .before .before .before .before .before .before .before .before .before .before .pre in
-    let new-name′ = c .before .before .before .before .before .before .before .before .before .before .before .before .before .before .before .before .before .before .before .before .before .before .before .before .before .before .new-name in
-    let refuse-if′ = c .before .before .before .before .before .before .before .before .before .before .before .before .before .before .before .before .before .before .before .before .before .before .before .before .before .refuse-if in
-    let due′ = c .before .before .before .before .before .before .before .before .before .before .before .before .before .before .before .before .before .before .before .before .before .before .before .due in
-    let due2′ = c .before .before .before .before .before .before .before .before .before .before .before .before .before .before .before .before .before .before .before .before .before .due2 in
-    let expression′ = c .before .before .before .before .before .before .before .before .before .before .before .before .before .before .before .before .before .before .expression in
-    let due3′ = c .before .before .before .before .before .before .before .before .before .before .before .before .before .before .due3 in
-    let is-empty′ = c .before .before .before .before .before .before .before .before .before .before .before .before .before .is-empty in
-    let refuse-if2′ = c .before .before .before .before .before .before .before .before .before .before .before .before .refuse-if2 in
-    let due4′ = c .before .before .before .before .before .before .before .before .before .before .due4 in
-    let if1′ = c .before .before .before .before .before .before .before .before .if1 in
-    let put-name′ = c .before .before .before .before .before .before .put-name in
-    let put-set′ = c .before .before .put-set in
-    let few = group-fits (args′ .places .now) (args′ .lists .now) (args′ .count) (args′ .n) (new-name′ .ensures) (refuse-if′ .ensures) (due′ .ensures) (due2′ .ensures) (expression′ .ensures) (due3′ .ensures) (refuse-if2′ .ensures) (is-empty′ .ensures) (due4′ .ensures)
-    (eq-eqb _ _ (if1′ .left)) in
-    record {
-      goes = group-goes (args′ .places .now) (args′ .lists .now) (args′ .count) (args′ .n) (new-name′ .ensures) (refuse-if′ .ensures) (due′ .ensures) (due2′ .ensures) (expression′ .ensures) (due3′ .ensures) (refuse-if2′ .ensures) (is-empty′ .ensures) (due4′ .ensures)
-          (λ on. names-added (args′ .text .now) (args′ .places .now) _ (args′ .lists .now) _ (args′ .count) (args′ .c) (put-name′ .ensures) (omega (arith, pre′ .0 .sized .all, pre′ .1)) (put-set′ .ensures) refl);
-      sized = record { all = ap length (put-name′ .ensures) ∙ simp length-set (pre′ .0 .sized .all); rows = put-set′ .ensures .long ∙ pre′ .0 .sized .rows };
-    }
+    let args′ = c .before .before .before .before .before .before .before .before .before .before .before .before .before .before .before .before .before .before .before .before .before .before .before .before .before .before .before .before .before .before .args in
+    let add′ = c .before .before .before .before .add in
+    record { goes = group-goes (declared (c .before .before .before .before .before .before .before .before)) (λ on. add′ .ensures .names (args′ .text .now)); sized = add′ .ensures .sized }
 
 pub group-spec : {M : Type 1} → statement M
 group-spec =
@@ -174,8 +122,7 @@ group-spec =
     same-length
     same-length-2
     returns
-    put-name-requires
-    put-set-requires
+    add-requires
     same-length-3
     same-length-4
     returns-2)

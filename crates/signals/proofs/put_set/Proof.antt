@@ -10,9 +10,6 @@ use Rattle.signals.proofs.Rows.{before-kept, one-copied, written}
 use borrow.Author.Needs.{needs}
 use Rattle.signals.proofs.put_set.Statement.{statement}
 use Rattle.signals.proofs.put_set.Tie as tie
-use Rattle.signals.proofs.put_set.Reads as reads
-use Rattle.signals.proofs.put_set.Lts as lts
-use Rattle.signals.proofs.held.Reads as held-reads
 
 abbrev Inv-loop : tie.InvT-loop
 Inv-loop lists₀ i set at j₀ lists j =

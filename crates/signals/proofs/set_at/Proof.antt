@@ -9,9 +9,6 @@ use Rattle.signals.proofs.Rows.{one-more, no-row, row-read}
 use borrow.Author.Needs.{needs}
 use Rattle.signals.proofs.set_at.Statement.{statement}
 use Rattle.signals.proofs.set_at.Tie as tie
-use Rattle.signals.proofs.set_at.Reads as reads
-use Rattle.signals.proofs.set_at.Lts as lts
-use Rattle.sets.proofs.nothing.Reads as nothing-reads
 
 abbrev Inv-loop : tie.InvT-loop
 Inv-loop lists i at v₀ j₀ v j = (length v ≡ signalsMost) × ((k : ℕ) → k < j → getD v k 0 ≡ getD lists (at + 1 + k) 0)

@@ -1,5 +1,5 @@
 -- `sign` meets its contract: each of the two tokens has its law.
-use mathlib.Core.Bool.{true, false}
+use mathlib.Core.Bool.{false}
 use Rattle.tokens.specs.Written.{bytes}
 use Rattle.meaning.specs.Groups.{sign as signDue}
 use Rattle.words.proofs.Flow.{given}

@@ -1,14 +1,17 @@
 -- `signal` meets its contract: where nothing was refused there is room in the tables, and what is written there is the new name.
-use mathlib.Core.Path.{ap, _∙_}
+use mathlib.Core.Path.{refl, sym, _∙_}
 use native.Mathlib.Omega.{arith}
-use lib.ListN.{length, length-set}
 use borrow.Author.Tests.{eq-eqb, eqb-true}
 use Rattle.tokens.specs.Written.{bytes}
-use Rattle.signals.proofs.Declaring.{signal-fits, signal-goes}
-use Rattle.signals.proofs.Tables.{names-added}
+use Rattle.signals.proofs.Declaring.{Signal, signal-read, signal-fits, signal-goes}
 use borrow.Author.Needs.{needs}
 use Rattle.signals.proofs.signal.Statement.{statement}
 use Rattle.signals.proofs.signal.Tie as tie
+
+declared : (c : tie.After-struct-known)
+    → Signal (c .before .before .before .before .before .before .before .before .before .before .args .text .now) (c .before .before .before .before .before .before .before .before .before .before .args .places .now) (c .before .before .before .before .before .before .before .before .before .before .args .count) (c .before .before .before .before .before .before .before .before .before .before .args .c) (c .before .due .result)
+unfolding bytes
+declared c = signal-read (c .before .before .before .before .before .new-name .ensures) (c .before .before .before .before .refuse-if .ensures) (c .before .before .before .direction .ensures) (c .before .due .ensures)
 
 new-name-requires : tie.Need-new-name-requires
 new-name-requires c κs = search needs
@@ -29,93 +32,52 @@ same-length : tie.Need-same-length
 same-length c = search needs
 
 returns : tie.Need-returns
-unfolding bytes
 returns c =
     let args′ = c .before .before .before .before .before .before .before .before .before .before .before .args in
     let pre′ = c .before .before .before .before .before .before .before .before .before .before .before .pre in
-    let new-name′ = c .before .before .before .before .before .before .new-name in
-    let refuse-if′ = c .before .before .before .before .before .refuse-if in
-    let direction′ = c .before .before .before .before .direction in
-    let due′ = c .before .before .due in
     record {
-      goes = signal-goes (args′ .places .now) (args′ .lists .now) (args′ .count) (new-name′ .ensures) (refuse-if′ .ensures) (direction′ .ensures) (due′ .ensures)
-          (λ on. absurd (c .if1 .taken (eqb-true _ _ on)));
+      goes = signal-goes (declared (c .before)) (args′ .lists .now) refl (λ on. absurd (c .if1 .taken (eqb-true _ _ on)));
       sized = pre′;
     }
 
-put-name-requires : tie.Need-put-name-requires
-unfolding bytes
-put-name-requires c κs =
-    let args′ = c .before .before .before .before .before .before .before .before .before .before .before .before .args in
-    let pre′ = c .before .before .before .before .before .before .before .before .before .before .before .before .pre in
-    let new-name′ = c .before .before .before .before .before .before .before .new-name in
-    let refuse-if′ = c .before .before .before .before .before .before .refuse-if in
-    let direction′ = c .before .before .before .before .before .direction in
-    let due′ = c .before .before .before .due in
-    let if1′ = c .before .if1 in
-    let few = signal-fits (args′ .places .now) (args′ .lists .now) (args′ .count) (new-name′ .ensures) (refuse-if′ .ensures) (direction′ .ensures) (due′ .ensures)
-    (eq-eqb _ _ (if1′ .left)) in
-    omega (arith, pre′ .all)
-
 cast-single : tie.Need-cast-single
-unfolding bytes
 cast-single c =
-    let args′ = c .before .before .before .before .before .before .before .before .before .before .before .before .before .before .before .before .args in
-    let new-name′ = c .before .before .before .before .before .before .before .before .before .before .before .new-name in
-    let refuse-if′ = c .before .before .before .before .before .before .before .before .before .before .refuse-if in
-    let direction′ = c .before .before .before .before .before .before .before .before .before .direction in
-    let due′ = c .before .before .before .before .before .before .before .due in
-    let if1′ = c .before .before .before .before .before .if1 in
-    let few = signal-fits (args′ .places .now) (args′ .lists .now) (args′ .count) (new-name′ .ensures) (refuse-if′ .ensures) (direction′ .ensures) (due′ .ensures)
-    (eq-eqb _ _ (if1′ .left)) in
+    let if1′ = c .before .before .if1 in
+    let few = signal-fits (declared (c .before .before .before)) (eq-eqb _ _ (if1′ .left)) in
     omega arith
 
 single-requires : tie.Need-single-requires
 single-requires c κs = search needs
 
-put-set-requires : tie.Need-put-set-requires
-unfolding bytes
-put-set-requires c κs =
-    let args′ = c .before .before .before .before .before .before .before .before .before .before .before .before .before .before .before .before .before .args in
-    let pre′ = c .before .before .before .before .before .before .before .before .before .before .before .before .before .before .before .before .before .pre in
-    let new-name′ = c .before .before .before .before .before .before .before .before .before .before .before .before .new-name in
-    let refuse-if′ = c .before .before .before .before .before .before .before .before .before .before .before .refuse-if in
-    let direction′ = c .before .before .before .before .before .before .before .before .before .before .direction in
-    let due′ = c .before .before .before .before .before .before .before .before .due in
-    let if1′ = c .before .before .before .before .before .before .if1 in
-    let few = signal-fits (args′ .places .now) (args′ .lists .now) (args′ .count) (new-name′ .ensures) (refuse-if′ .ensures) (direction′ .ensures) (due′ .ensures)
-    (eq-eqb _ _ (if1′ .left)) in
-    omega (arith, pre′ .rows)
+add-requires : tie.Need-add-requires
+add-requires c κs =
+    let pre′ = c .before .before .before .before .before .before .before .before .before .before .before .before .before .before .pre in
+    let if1′ = c .before .before .before .if1 in
+    let few = signal-fits (declared (c .before .before .before .before)) (eq-eqb _ _ (if1′ .left)) in
+    (pre′, omega arith)
 
 same-length-2 : tie.Need-same-length-2
 same-length-2 c =
-    let put-name′ = c .before .before .before .before .before .before .before .put-name in
-    ap length (put-name′ .ensures) ∙ simp length-set
+    let pre′ = c .before .before .before .before .before .before .before .before .before .before .before .before .before .before .before .before .before .before .before .pre in
+    let add′ = c .before .before .before .before .add in
+    add′ .ensures .sized .all ∙ sym (pre′ .all)
 
 same-length-3 : tie.Need-same-length-3
 same-length-3 c =
-    let put-set′ = c .before .before .put-set in
-    put-set′ .ensures .long
+    let pre′ = c .before .before .before .before .before .before .before .before .before .before .before .before .before .before .before .before .before .before .before .pre in
+    let add′ = c .before .before .before .before .add in
+    add′ .ensures .sized .rows ∙ sym (pre′ .rows)
 
 returns-2 : tie.Need-returns-2
-unfolding bytes
 returns-2 c =
-    let args′ = c .before .before .before .before .before .before .before .before .before .before .before .before .before .before .before .before .before .before .before .before .args in
-    let pre′ = c .before .before .before .before .before .before .before .before .before .before .before .before .before .before .before .before .before .before .before .before .pre in
-    let new-name′ = c .before .before .before .before .before .before .before .before .before .before .before .before .before .before .before .new-name in
-    let refuse-if′ = c .before .before .before .before .before .before .before .before .before .before .before .before .before .before .refuse-if in
-    let direction′ = c .before .before .before .before .before .before .before .before .before .before .before .before .before .direction in
-    let due′ = c .before .before .before .before .before .before .before .before .before .before .before .due in
-    let if1′ = c .before .before .before .before .before .before .before .before .before .if1 in
-    let put-name′ = c .before .before .before .before .before .before .before .put-name in
-    let single′ = c .before .before .before .single in
-    let put-set′ = c .before .before .put-set in
-    let few = signal-fits (args′ .places .now) (args′ .lists .now) (args′ .count) (new-name′ .ensures) (refuse-if′ .ensures) (direction′ .ensures) (due′ .ensures)
-    (eq-eqb _ _ (if1′ .left)) in
+    let args′ = c .before .before .before .before .before .before .before .before .before .before .before .before .before .before .before .before .before .before .before .args in
+    let single′ = c .before .before .before .before .before .single in
+    let add′ = c .before .before .before .before .add in
     record {
-      goes = signal-goes (args′ .places .now) (args′ .lists .now) (args′ .count) (new-name′ .ensures) (refuse-if′ .ensures) (direction′ .ensures) (due′ .ensures)
-          (λ on. names-added (args′ .text .now) (args′ .places .now) _ (args′ .lists .now) _ (args′ .count) (args′ .c) (put-name′ .ensures) (omega (arith, pre′ .all)) (put-set′ .ensures) (single′ .ensures));
-      sized = record { all = ap length (put-name′ .ensures) ∙ simp length-set (pre′ .all); rows = put-set′ .ensures .long ∙ pre′ .rows };
+      goes =
+          signal-goes (declared (c .before .before .before .before .before .before .before .before .before)) (args′ .lists .now) (single′ .ensures)
+          (λ on. add′ .ensures .names (args′ .text .now));
+      sized = add′ .ensures .sized;
     }
 
 pub signal-spec : {M : Type 1} → statement M
@@ -129,10 +91,9 @@ signal-spec =
     due-requires
     same-length
     returns
-    put-name-requires
     cast-single
     single-requires
-    put-set-requires
+    add-requires
     same-length-2
     same-length-3
     returns-2)
