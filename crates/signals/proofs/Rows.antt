@@ -17,13 +17,13 @@ module _ (a n : ℕ) (l : List ℕ) where
   part-at : (k : ℕ) → k < n → getD (take n (drop a l)) k 0 ≡ getD l (a + k) 0
   part-at k h = getD-take n (drop a l) k 0 h ∙ getD-drop a l k 0
 
-  pub part-same : (m : List ℕ) → length m ≡ length l → ((k : ℕ) → k < n → getD m (a + k) 0 ≡ getD l (a + k) 0) → take n (drop a m) ≡ take n (drop a l)
+  part-same : (m : List ℕ) → length m ≡ length l → ((k : ℕ) → k < n → getD m (a + k) 0 ≡ getD l (a + k) 0) → take n (drop a m) ≡ take n (drop a l)
   part-same m e h =
       ext-getD 0 (take n (drop a m)) (take n (drop a l)) (simp (length-take, length-drop) (omega arith)) (λ k b.
       let c : k < n = omega (arith, simp (length-take, length-drop) at b) in
       getD-take n (drop a m) k 0 c ∙ getD-drop a m k 0 ∙ h k c ∙ sym (part-at k c))
 
-  pub part-is : (v : List ℕ) → length v ≡ n → a + n ≤ length l → ((k : ℕ) → k < n → getD l (a + k) 0 ≡ getD v k 0) → take n (drop a l) ≡ v
+  part-is : (v : List ℕ) → length v ≡ n → a + n ≤ length l → ((k : ℕ) → k < n → getD l (a + k) 0 ≡ getD v k 0) → take n (drop a l) ≡ v
   part-is v e f h =
       ext-getD 0 (take n (drop a l)) v (simp (length-take, length-drop) (omega arith)) (λ k b.
       let c : k < n = omega (arith, simp (length-take, length-drop) at b) in

@@ -40,10 +40,6 @@ module _ (text places lists : List ℕ) where
   pub names-length : (count : ℕ) → length (namesOf text places lists count) ≡ count
   names-length count = rows-length 0 count
 
-  pub no-names : namesOf text places lists 0 ≡ []
-  unfolding named namesFrom
-  no-names = refl
-
   rows-first : (i k n : ℕ) → n ≤ k → take n (rows text places lists i k) ≡ rows text places lists i n
   unfolding named namesFrom
   rows-first i zero zero h = refl

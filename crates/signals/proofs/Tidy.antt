@@ -33,7 +33,7 @@ gives-known P o n p h = record { all = λ ts a us e. h a (known-ok o n p ts e) }
 
 -- ---- tidy names
 
-pub tidy-more : {most : ℕ} {ns : Names} (t : Tok) {l : List ℕ} → AllTidy most ns → TidyBelow most l → AllTidy most (ns ++ (t, l) ∷ [])
+tidy-more : {most : ℕ} {ns : Names} (t : Tok) {l : List ℕ} → AllTidy most ns → TidyBelow most l → AllTidy most (ns ++ (t, l) ∷ [])
 tidy-more t none k = another k none
 tidy-more t (another h hs) k = another h (tidy-more t hs k)
 

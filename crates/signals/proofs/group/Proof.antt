@@ -15,8 +15,14 @@ declared : (c : tie.After-struct-known)
     (c .before .due4 .result)
 unfolding bytes
 declared c =
-    group-read (c .before .before .before .before .before .before .before .before .before .before .before .before .before .before .before .before .before .new-name .ensures) (c .before .before .before .before .before .before .before .before .before .before .before .before .before .before .before .before .refuse-if .ensures) (c .before .before .before .before .before .before .before .before .before .before .before .before .before .before .due .ensures) (c .before .before .before .before .before .before .before .before .before .before .before .before .due2 .ensures) (c .before .before .before .before .before .before .before .before .before .expression .ensures)
-    (c .before .before .before .before .before .due3 .ensures)
+    let close = c .before .before .before .before .before in
+    let sum = close .before .before .before .before in
+    let quote = sum .before .before .before in
+    let equals = quote .before .before in
+    let room = equals .before .before in
+    let name = room .before in
+    group-read (name .new-name .ensures) (room .refuse-if .ensures) (equals .due .ensures) (quote .due2 .ensures) (sum .expression .ensures)
+    (close .due3 .ensures)
     (c .before .before .before .refuse-if2 .ensures)
     (c .before .before .before .before .is-empty .ensures)
     (c .before .due4 .ensures)
