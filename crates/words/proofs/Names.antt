@@ -14,7 +14,7 @@ use Rattle.meaning.specs.Refusals.{unknownName, usedName}
 use Rattle.meaning.specs.Reader.{Res, Reader, ok, refuse, after, _>>=_, give, refuseIf}
 use Rattle.meaning.specs.Names.{name, find, isSome, known, newName, oldName}
 use Rattle.words.specs.Cursor.{ahead, Goes}
-use Rattle.words.specs.Table.{nameOf, namesFrom, names, named}
+use Rattle.words.specs.Table.{nameOf, namesFrom, names, named, firsts, seconds}
 use Rattle.words.specs.declared.Cursor.{Cursor}
 use Rattle.words.proofs.Flow.{then, given, alike}
 
@@ -81,14 +81,8 @@ module _ {A B : Type 0} (f : A → B) where
 
 -- ---- a list whose names are those of a table
 
--- its names, and what they stand for
-unfoldable pub firsts : {A : Type 0} → List (Tok × A) → List Tok
-firsts [] = []
-firsts (x ∷ xs) = x .0 ∷ firsts xs
-
-unfoldable pub seconds : {A : Type 0} → List (Tok × A) → List A
-seconds [] = []
-seconds (x ∷ xs) = x .1 ∷ seconds xs
+cons-same : {A : Type 0} {t u : Tok} {a b : A} {xs ys : List (Tok × A)} → t ≡ u → a ≡ b → xs ≡ ys → (t, a) ∷ xs ≡ (u, b) ∷ ys
+cons-same p q r = cc
 
 module _ {A : Type 0} (text places : List ℕ) (z : A) where
   -- the names of the table, numbered, stand for what stands at their numbers
@@ -99,12 +93,8 @@ module _ {A : Type 0} (text places : List ℕ) (z : A) where
   by-number [] i (suc k) f e h = let z : _≡_ {A = ℕ} 0 1 = cc in absurd (omega arith)
   by-number (x ∷ xs) i zero f e h = let z : _≡_ {A = ℕ} 0 1 = cc in absurd (omega arith)
   by-number (x ∷ xs) i (suc k) f e h =
-      let p : nameOf text places i ≡ x .0 = cc in
-      let q : f i ≡ x .1 = ap f (sym (add-zero i)) ∙ h 0 in
       let l = by-number xs (suc i) k f (cc) (λ j. ap f (suc-add i j ∙ sym (add-suc i j)) ∙ h (suc j)) in
-      ap (λ (u : Tok). (u, f i) ∷ named f (namesFrom text places (suc i) k)) p
-      ∙ ap (λ (b : A). (x .0, b) ∷ named f (namesFrom text places (suc i) k)) q
-      ∙ ap (λ (ys : List (Tok × A)). x ∷ ys) l
+      cons-same (cc) (ap f (sym (add-zero i)) ∙ h 0) l
 
   module _ (count : ℕ) (xs : List (Tok × A)) (e : firsts xs ≡ firsts (names text places count)) where
     abbrev standing : ℕ → A
