@@ -6,13 +6,13 @@ use mathlib.Core.Bool.{Bool, true, false, not, _&&_}
 use mathlib.Core.List.{List}
 use lib.Dec.{ltb}
 use lib.ListN.{length, take, drop}
-use borrow.Author.Tests.{lt-ltb, le-ltb, ne-eqb}
+use borrow.Author.Tests.{lt-ltb, le-ltb}
 use Rattle.tokens.specs.Written.{same}
 use Rattle.tokens.specs.Refusals.{notHere}
-use Rattle.tokens.specs.Tokens.{Toks, stop, tok, toks}
+use Rattle.tokens.specs.Tokens.{stop, tok, toks}
 use Rattle.tokens.proofs.Laws.{Seen, Halted, fault-real}
 use Rattle.meaning.specs.Reader.{aheadOf}
-use Rattle.words.specs.Cursor.{span, stopNo, stream, Stands, alive}
+use Rattle.words.specs.Cursor.{span, stream, Stands, alive}
 use Rattle.words.specs.declared.Cursor.{Cursor}
 use Rattle.words.proofs.Flow.{stop-fault, stream-on, stream-stop}
 

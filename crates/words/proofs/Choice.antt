@@ -8,7 +8,7 @@ use mathlib.Core.List.{List, [], _∷_}
 use lib.Dec.{ltb}
 use Rattle.tokens.specs.Written.{bytes, same}
 use Rattle.tokens.specs.Tokens.{Tok, Toks, stop, tok}
-use Rattle.meaning.specs.Reader.{Res, Reader, refuse, _>>=_, after, give, any, refuseIf, aheadOf, oneOf, choose, ifAhead, option}
+use Rattle.meaning.specs.Reader.{Res, Reader, _>>=_, after, give, any, refuseIf, aheadOf, oneOf, choose, ifAhead, option}
 use Rattle.words.specs.Cursor.{ahead, stream, alive, from, Goes, taking}
 use Rattle.words.specs.declared.Cursor.{Cursor}
 use Rattle.words.proofs.Flow.{from-on, from-stop, given, then, stream-on, stream-stop}

@@ -3,12 +3,14 @@ use Prim.Native.Nat.{ℕ}
 use native.Mathlib.Omega.{arith}
 use mathlib.Core.Path.{_≡_, refl, sym, ap, _∙_}
 use mathlib.Core.Bool.{Bool, true, false, cond, not, _&&_}
+use mathlib.Core.Option.{Option, none, some}
 use mathlib.Core.List.{List}
 use lib.Dec.{eqb, ltb}
 use borrow.Author.Tests.{eq-eqb, ne-eqb}
 use Rattle.tokens.specs.Refusals.{notHere}
 use Rattle.tokens.specs.Tokens.{Tok, Toks, stop, tok, toks}
 use Rattle.meaning.specs.Reader.{Res, Reader, ok, refuse, after, _>>=_, give, refuseIf, any}
+use Rattle.meaning.specs.Names.{isSome, known}
 use Rattle.words.specs.Cursor.{ahead, stopNo, stream, Stands, alive, from, Goes, Checked, taking}
 use Rattle.words.specs.declared.Cursor.{Cursor}
 
@@ -139,6 +141,16 @@ refused-no {c} {r} {n} {p} e z = by (alive r) refl
     by : (b : Bool) → alive r ≡ b → b ≡ false
     by true h = passed e z h
     by false h = refl
+
+-- what is known is the answer, and what is not is refused
+pub known-or : {A : Type 0} {text : List ℕ} {c r : Cursor} {b : Bool} {n p : ℕ} {o : Option A} {a : A} → Checked c b n p r → b ≡ not (isSome o)
+    → (alive r ≡ true → o ≡ some a) → eqb n 0 ≡ false → Goes text c (known o n p) r a
+unfolding known isSome refuseIf _>>=_ after give
+known-or {A} {text} {c} {r} {b} {n} {p} {o} {a} e f g z = by o f g
+  where
+    by : (o : Option A) → b ≡ not (isSome o) → (alive r ≡ true → o ≡ some a) → Goes text c (known o n p) r a
+    by none f g = then (λ u. give a) (checked {q = true} e f z) given
+    by (some x) f g = valued (then (λ u. give x) (checked {q = false} e f z) given) (λ h. let q = g h in cc)
 
 -- ---- the token ahead
 

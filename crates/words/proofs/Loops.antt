@@ -7,9 +7,9 @@ use mathlib.Core.Bool.{Bool, true, false, not, _&&_}
 use mathlib.Core.List.{List}
 use lib.Dec.{ltb}
 use lib.ListN.{length}
-use Rattle.tokens.specs.Tokens.{Toks, stop, tok, toks, left}
+use Rattle.tokens.specs.Tokens.{Toks, left}
 use Rattle.tokens.proofs.Laws.{left-most}
-use Rattle.meaning.specs.Reader.{Reader, _>>=_, after, give, ahead, due, while, closed, until}
+use Rattle.meaning.specs.Reader.{Reader, _>>=_, give, ahead, due, while, closed, until}
 use Rattle.meaning.proofs.Takes.{Takes, Keeps, while-done, while-on}
 use Rattle.words.specs.Cursor.{stream, alive, from, Goes}
 use Rattle.words.specs.declared.Cursor.{Cursor}

@@ -1,5 +1,5 @@
 -- Names by their numbers: what a table of the code says of a name holds of every list of the same names, whatever they stand for there.
-use Prim.Native.Nat.{ℕ, zero, suc, _+_, _*_, _-_, _≤_, _<_}
+use Prim.Native.Nat.{ℕ, zero, suc, _+_, _*_, _<_}
 use native.Mathlib.Omega.{arith}
 use native.Mathlib.Nat.{add-zero, zero-add, add-suc, suc-add}
 use native.Mathlib.Numerals.{add-one}
@@ -14,7 +14,7 @@ use Rattle.meaning.specs.Refusals.{unknownName, usedName}
 use Rattle.meaning.specs.Reader.{Res, Reader, ok, refuse, after, _>>=_, give, refuseIf}
 use Rattle.meaning.specs.Names.{name, find, isSome, known, newName, oldName}
 use Rattle.words.specs.Cursor.{ahead, Goes}
-use Rattle.words.specs.Table.{nameOf, namesFrom, names, named}
+use Rattle.words.specs.Table.{nameOf, namesFrom, names, named, firsts, seconds}
 use Rattle.words.specs.declared.Cursor.{Cursor}
 use Rattle.words.proofs.Flow.{then, given, alike}
 
@@ -81,14 +81,8 @@ module _ {A B : Type 0} (f : A → B) where
 
 -- ---- a list whose names are those of a table
 
--- its names, and what they stand for
-unfoldable pub firsts : {A : Type 0} → List (Tok × A) → List Tok
-firsts [] = []
-firsts (x ∷ xs) = x .0 ∷ firsts xs
-
-unfoldable pub seconds : {A : Type 0} → List (Tok × A) → List A
-seconds [] = []
-seconds (x ∷ xs) = x .1 ∷ seconds xs
+cons-same : {A : Type 0} {t u : Tok} {a b : A} {xs ys : List (Tok × A)} → t ≡ u → a ≡ b → xs ≡ ys → (t, a) ∷ xs ≡ (u, b) ∷ ys
+cons-same p q r = cc
 
 module _ {A : Type 0} (text places : List ℕ) (z : A) where
   -- the names of the table, numbered, stand for what stands at their numbers
@@ -99,12 +93,8 @@ module _ {A : Type 0} (text places : List ℕ) (z : A) where
   by-number [] i (suc k) f e h = let z : _≡_ {A = ℕ} 0 1 = cc in absurd (omega arith)
   by-number (x ∷ xs) i zero f e h = let z : _≡_ {A = ℕ} 0 1 = cc in absurd (omega arith)
   by-number (x ∷ xs) i (suc k) f e h =
-      let p : nameOf text places i ≡ x .0 = cc in
-      let q : f i ≡ x .1 = ap f (sym (add-zero i)) ∙ h 0 in
       let l = by-number xs (suc i) k f (cc) (λ j. ap f (suc-add i j ∙ sym (add-suc i j)) ∙ h (suc j)) in
-      ap (λ (u : Tok). (u, f i) ∷ named f (namesFrom text places (suc i) k)) p
-      ∙ ap (λ (b : A). (x .0, b) ∷ named f (namesFrom text places (suc i) k)) q
-      ∙ ap (λ (ys : List (Tok × A)). x ∷ ys) l
+      cons-same (cc) (ap f (sym (add-zero i)) ∙ h 0) l
 
   module _ (count : ℕ) (xs : List (Tok × A)) (e : firsts xs ≡ firsts (names text places count)) where
     abbrev standing : ℕ → A
@@ -114,47 +104,61 @@ module _ {A : Type 0} (text places : List ℕ) (z : A) where
     all = by-number xs 0 count standing e (λ j. ap standing (zero-add j))
 
     -- a name of number i in the table stands for what stands at i in the list
-    pub old-by-number : {c r : Cursor} {t : Tok} {i : ℕ} → Goes text c (oldName (names text places count)) r (t, i) → Goes text c (oldName xs) r (t, getD (seconds xs) i z)
+    pub old-by-number : {c r : Cursor} {t : Tok} {i : ℕ} → Goes text c (oldName (names text places count)) r (t, i)
+        → Goes text c (oldName xs) r (t, getD (seconds xs) i z)
     old-by-number {c} {r} {t} {i} g =
         subst (λ (ys : List (Tok × A)). Goes text c (oldName ys) r (t, standing i)) all (old-named standing (names text places count) g)
 
     -- a name that is not in the table is not in the list
     pub new-by-number : {c r : Cursor} {t : Tok} → Goes text c (newName (names text places count)) r t → Goes text c (newName xs) r t
-    new-by-number {c} {r} {t} g = subst (λ (ys : List (Tok × A)). Goes text c (newName ys) r t) all (new-named standing (names text places count) g)
+    new-by-number {c} {r} {t} g =
+        subst (λ (ys : List (Tok × A)). Goes text c (newName ys) r t) all (new-named standing (names text places count) g)
 
 -- ---- a table with one name more
 
-module _ (text p q : List ℕ) where
-  -- names whose places are the same
-  agree : (i k : ℕ) → ((j : ℕ) → j < (i + k) * 2 → getD q j 0 ≡ getD p j 0) → namesFrom text q i k ≡ namesFrom text p i k
-  unfolding namesFrom
-  agree i zero h = refl
-  agree i (suc k) h =
-      let a = h (i * 2) (omega arith) in
-      let b = h (i * 2 + 1) (omega arith) in
-      rw (a, b) (ap (λ (l : List (Tok × ℕ)). (nameOf text p i, i) ∷ l) (agree (suc i) k (λ j l. h j (omega arith))))
-
-pub names-more : (text places : List ℕ) (i k : ℕ) → namesFrom text places i (suc k) ≡ namesFrom text places i k ++ (nameOf text places (i + k), i + k) ∷ []
+-- names whose places are the same
+pub names-agree : (text p q : List ℕ) (i k : ℕ) → ((j : ℕ) → j < (i + k) * 2 → getD q j 0 ≡ getD p j 0) → namesFrom text q i k ≡ namesFrom text p i k
 unfolding namesFrom
-names-more text places i zero = rw (add-zero i)
-names-more text places i (suc k) =
-    ap (λ (l : List (Tok × ℕ)). (nameOf text places i, i) ∷ l) (names-more text places (suc i) k)
-    ∙ ap (λ (n : ℕ). (nameOf text places i, i) ∷ namesFrom text places (suc i) k ++ (nameOf text places n, n) ∷ []) (suc-add i k ∙ sym (add-suc i k))
+names-agree text p q i zero h = refl
+names-agree text p q i (suc k) h =
+    let a = h (i * 2) (omega arith) in
+    let b = h (i * 2 + 1) (omega arith) in
+    rw (a, b) (ap (λ (l : List (Tok × ℕ)). (nameOf text p i, i) ∷ l) (names-agree text p q (suc i) k (λ j l. h j (omega arith))))
 
-firsts-append : {A : Type 0} (xs : List (Tok × A)) (x : Tok × A) → firsts (xs ++ x ∷ []) ≡ firsts xs ++ x .0 ∷ []
-unfolding firsts
-firsts-append [] x = refl
-firsts-append (y ∷ xs) x = ap (λ (l : List Tok). y .0 ∷ l) (firsts-append xs x)
+names-last : (text places : List ℕ) (i k : ℕ)
+    → namesFrom text places i (suc k) ≡ namesFrom text places i k ++ (nameOf text places (i + k), i + k) ∷ []
+unfolding namesFrom
+names-last text places i zero = rw (add-zero i)
+names-last text places i (suc k) =
+    ap (λ (l : List (Tok × ℕ)). (nameOf text places i, i) ∷ l) (names-last text places (suc i) k)
+    ∙ ap (λ (n : ℕ). (nameOf text places i, i) ∷ namesFrom text places (suc i) k ++ (nameOf text places n, n) ∷ [])
+    (suc-add i k ∙ sym (add-suc i k))
+
+pub names-more : (text places : List ℕ) (count : ℕ)
+    → names text places (count + 1) ≡ names text places count ++ (nameOf text places count, count) ∷ []
+names-more text places count =
+    ap (names text places) (add-one count) ∙ names-last text places 0 count
+    ∙ ap (λ (k : ℕ). names text places count ++ (nameOf text places k, k) ∷ []) (zero-add count)
+
+module _ {A : Type 0} where
+  pub firsts-append : (xs : List (Tok × A)) (x : Tok × A) → firsts (xs ++ x ∷ []) ≡ firsts xs ++ x .0 ∷ []
+  unfolding firsts
+  firsts-append [] x = refl
+  firsts-append (y ∷ xs) x = ap (λ (l : List Tok). y .0 ∷ l) (firsts-append xs x)
+
+  pub seconds-append : (xs : List (Tok × A)) (x : Tok × A) → seconds (xs ++ x ∷ []) ≡ seconds xs ++ x .1 ∷ []
+  unfolding seconds
+  seconds-append [] x = refl
+  seconds-append (y ∷ xs) x = ap (λ (l : List A). y .1 ∷ l) (seconds-append xs x)
 
 -- the name at the cursor, behind the others, with its place and its end behind theirs
 pub one-more : {A : Type 0} (text p q : List ℕ) (count : ℕ) (xs : List (Tok × A)) (c : Cursor) (a : A) → firsts xs ≡ firsts (names text p count)
     → ((j : ℕ) → j < count * 2 → getD q j 0 ≡ getD p j 0) → getD q (count * 2) 0 ≡ c .at → getD q (count * 2 + 1) 0 ≡ c .end
     → firsts (xs ++ (ahead text c, a) ∷ []) ≡ firsts (names text q (count + 1))
 one-more text p q count xs c a e h s f =
-    let old : names text q count ≡ names text p count = agree text p q 0 count (λ j l. h j (omega arith)) in
-    let new : names text q (count + 1) ≡ names text q count ++ (nameOf text q count, count) ∷ [] =
-    ap (λ (k : ℕ). namesFrom text q 0 k) (add-one count) ∙ names-more text q 0 count
-    ∙ ap (λ (k : ℕ). namesFrom text q 0 count ++ (nameOf text q k, k) ∷ []) (zero-add count) in
-    let it : nameOf text q count ≡ ahead text c = rw (s, f) in
-    firsts-append xs (ahead text c, a) ∙ ap (λ (l : List Tok). l ++ ahead text c ∷ []) (e ∙ ap firsts (sym old))
-    ∙ ap (λ (u : Tok). firsts (names text q count) ++ u ∷ []) (sym it) ∙ sym (ap firsts new ∙ firsts-append (names text q count) (nameOf text q count, count))
+    let old : names text q count ≡ names text p count = names-agree text p q 0 count (λ j l. h j (omega arith)) in
+    let new : nameOf text q count ≡ ahead text c = rw (s, f) in
+    firsts-append xs (ahead text c, a)
+    ∙ ap (λ (l : List Tok). l ++ ahead text c ∷ []) (e ∙ ap firsts (sym old))
+    ∙ ap (λ (u : Tok). firsts (names text q count) ++ u ∷ []) (sym new)
+    ∙ sym (ap firsts (names-more text q count) ∙ firsts-append (names text q count) (nameOf text q count, count))

@@ -6,18 +6,18 @@ use mathlib.Core.Bool.{Bool, true, false, not, _&&_, and-false}
 use mathlib.Core.Option.{Option, none, some}
 use mathlib.Core.List.{List, [], _∷_}
 use lib.Dec.{leb, ltb}
-use lib.ListN.{length, getD, drop, drop-of-length-le}
-use borrow.Author.Tests.{lt-ltb, le-leb, lt-leb, leb-true, leb-false}
+use lib.ListN.{length, getD, take, drop, drop-of-length-le}
+use borrow.Author.Tests.{lt-ltb, lt-leb, leb-true, leb-false}
 use Rattle.tokens.specs.Written.{bytes, same}
 use Rattle.tokens.specs.Bytes.{between, digit}
 use Rattle.meaning.specs.Refusals.{badNumber}
-use Rattle.meaning.specs.Reader.{Reader, ok, refuse, after, _>>=_, give, refuseIf}
+use Rattle.meaning.specs.Reader.{ok, refuse, after, _>>=_, give, refuseIf}
 use Rattle.meaning.specs.Names.{value, number, within}
 use Rattle.meaning.specs.Timing.{unit, picoseconds}
 use Rattle.words.specs.Cursor.{Goes, Checked}
 use Rattle.words.specs.Values.{most, capped, told}
 use Rattle.words.specs.declared.Cursor.{Cursor}
-use Rattle.words.proofs.Words.{cut, same-eq}
+use Rattle.words.proofs.Words.{cut, rest, same-eq}
 use Rattle.words.proofs.Flow.{then, given, valued, checked, refused-by}
 
 pub digit-bounds : (b : ℕ) → digit b ≡ true → (48 ≤ b) × (b ≤ 57)
@@ -124,10 +124,18 @@ unfolding picoseconds unit
 time-some [] d = refl
 time-some (b ∷ s) d = rw (d, picoseconds)
 
-pub time-none : (w : List ℕ) → digit (getD w 0 0) ≡ false → picoseconds w ≡ none
+pub time-none : (w : List ℕ) (i : ℕ) → i ≡ 0 → digit (getD w i 0) ≡ false → picoseconds w ≡ none
 unfolding picoseconds
-time-none [] d = refl
-time-none (b ∷ s) d = rw (d, picoseconds)
+time-none [] i e d = refl
+time-none (b ∷ s) i e d = rw (rw e at d, picoseconds)
+
+pub first-digit : (w : List ℕ) (i : ℕ) → (0 < i → digit (getD w 0 0) ≡ true) → digit (getD w i 0) ≡ true → digit (getD w 0 0) ≡ true
+first-digit w zero h d = d
+first-digit w (suc i) h d = h (omega arith)
+
+pub time-unit : (w : List ℕ) (n i : ℕ) {o : Option ℕ} → digit (getD w 0 0) ≡ true → capped (unit 0 w) ≡ capped (unit n (drop i w))
+    → o ≡ capped (unit n (take (length w - i) (drop i w))) → o ≡ capped (picoseconds w)
+time-unit w n i d e f = f ∙ ap (λ (u : List ℕ). capped (unit n u)) (rest w i) ∙ sym (ap capped (time-some w d) ∙ e)
 
 pub time-end : (w : List ℕ) (n i : ℕ) → (0 < i → digit (getD w 0 0) ≡ true) → length w ≤ i → capped (unit 0 w) ≡ capped (unit n (drop i w))
     → capped (picoseconds w) ≡ none

@@ -7,16 +7,14 @@ use mathlib.Core.Bool.{Bool, true, false, not}
 use mathlib.Core.Option.{Option, none, some}
 use mathlib.Core.List.{List, _∷_}
 use lib.Dec.{eqb, leb, ltb}
-use borrow.Author.Tests.{lt-ltb, le-ltb, le-leb, lt-leb, ltb-true, ltb-false}
+use borrow.Author.Tests.{lt-ltb, le-leb, lt-leb, ltb-true, ltb-false, leb-false}
 use Rattle.tokens.specs.Written.{same}
-use Rattle.tokens.specs.Tokens.{Tok}
-use Rattle.meaning.specs.Reader.{Reader, _>>=_, after, give, refuseIf}
 use Rattle.meaning.specs.Names.{find, isSome, known}
 use Rattle.words.specs.Cursor.{Goes, Checked}
 use Rattle.words.specs.Table.{nameOf, namesFrom, names}
 use Rattle.words.specs.Values.{told}
 use Rattle.words.specs.declared.Cursor.{Cursor}
-use Rattle.words.proofs.Flow.{then, given, checked}
+use Rattle.words.proofs.Flow.{passed, known-or}
 
 module _ (text places w : List ℕ) (count i : ℕ) where
   -- what is found among the names from number i on
@@ -51,19 +49,17 @@ unfolding isSome
 told-some true n = refl
 told-some false n = refl
 
-pub not-below : (a b : ℕ) → leb a b ≡ not (ltb b a)
+not-below : (a b : ℕ) → leb a b ≡ not (ltb b a)
 not-below a b = by (ltb b a) refl
   where
     by : (x : Bool) → ltb b a ≡ x → leb a b ≡ not x
     by true e = lt-leb a b (ltb-true b a e)
     by false e = le-leb a b (ltb-false b a e)
 
--- a name that is found, or refused
-pub known-by : {text : List ℕ} {c r : Cursor} {n p : ℕ} {b : Bool} {i : ℕ} {o : Option ℕ} (y : Bool) → Checked c b n p r → b ≡ not y → told y i ≡ o
+-- the number that the code found, or a refusal
+pub known-by : {text : List ℕ} {c r : Cursor} {n p i : ℕ} {o : Option ℕ} (count : ℕ) → Checked c (leb count i) n p r → told (ltb i count) i ≡ o
     → eqb n 0 ≡ false → Goes text c (known o n p) r i
-unfolding known _>>=_ after refuseIf give
-known-by {text} {c} {r} {n} {p} {b} {i} {o} y e f g z = rw (← g) (by y (rw f at e))
-  where
-    by : (y : Bool) → Checked c (not y) n p r → Goes text c (known (told y i) n p) r i
-    by true e = then (λ u. give i) (checked {q = false} e refl z) given
-    by false e = then (λ u. give i) (checked {q = true} e refl z) given
+known-by {text} {c} {r} {n} {p} {i} {o} count e f z =
+    known-or e (not-below count i ∙ ap not (sym (told-some (ltb i count) i) ∙ ap isSome f))
+    (λ h. sym f ∙ (rw (lt-ltb i count (leb-false count i (passed e z h)))))
+    z

@@ -1,15 +1,16 @@
 -- The definitions on words, at a place of a word: one turn of a loop is one step of a definition.
-use Prim.Native.Nat.{ℕ, _+_, _≤_, _<_}
+use Prim.Native.Nat.{ℕ, _+_, _-_, _≤_, _<_}
 use Prim.Native.String.{String}
 use mathlib.Core.Path.{_≡_, refl, sym, ap, _∙_}
 use native.Mathlib.Omega.{arith}
+use native.Mathlib.Nat.{add-zero}
 use native.Mathlib.Numerals.{add-one}
 use mathlib.Core.Bool.{Bool, true, false, not, _&&_, _||_, and-false, or-false}
 use mathlib.Core.List.{List, [], _∷_}
 use borrow.Author.Tests.{eq-eqb, ne-eqb, eqb-true, eqb-false}
 use lib.Dec.{leb, eqb}
-use lib.Seq.{drop-cons}
-use lib.ListN.{length, getD, drop, drop-of-length-le}
+use lib.Seq.{drop-cons, take-all, getD-drop}
+use lib.ListN.{length, getD, take, drop, length-drop, drop-of-length-le}
 use Rattle.tokens.specs.Written.{bytes, same}
 use Rattle.tokens.specs.Bytes.{wordy, digit}
 use Rattle.meaning.specs.Bounds.{nameMost}
@@ -19,6 +20,13 @@ use Rattle.meaning.specs.Names.{reserved, among, isName}
 
 pub cut : (t : List ℕ) (i : ℕ) → i < length t → drop i t ≡ getD t i 0 ∷ drop (i + 1) t
 cut t i h = rw (add-one, drop-cons t i 0)
+
+-- what is left of a word from a place on, as the code takes it
+pub rest : (w : List ℕ) (i : ℕ) → take (length w - i) (drop i w) ≡ drop i w
+rest w i = take-all (length w - i) (drop i w) (omega (arith, length-drop i w))
+
+pub rest-first : (w : List ℕ) (i : ℕ) → getD (take (length w - i) (drop i w)) 0 0 ≡ getD w i 0
+rest-first w i = ap (λ (u : List ℕ). getD u 0 0) (rest w i) ∙ getD-drop i w 0 0 ∙ ap (λ (k : ℕ). getD w k 0) (add-zero i)
 
 -- ---- equal words
 
@@ -122,15 +130,21 @@ unfolding lengthsIn ofLength
 none-of-length ls n [] h e = refl
 none-of-length ls n (k ∷ ks) h e = by (has (length (bytes k)) ls) refl h (λ t. none-of-length ls n ks t e)
   where
+    differ : true ≡ false → ⊥
+    differ o = let z : _≡_ {A = ℕ} 0 1 = cc in omega arith
+
     by : (x : Bool) → has (length (bytes k)) ls ≡ x → (x && lengthsIn ls ks) ≡ true → (lengthsIn ls ks ≡ true → ofLength n ks ≡ [])
         → _≡_ {A = List String} (elim (eqb (length (bytes k)) n) [ true ↦ k ∷ ofLength n ks | false ↦ ofLength n ks ]) []
-    by true f h ih = rw (ne-eqb (length (bytes k)) n (λ q. let o : true ≡ false = sym f ∙ ap (λ (m : ℕ). has m ls) q ∙ e in let z : _≡_ {A = ℕ} 0 1 = cc in omega arith)) (ih h)
+    by true f h ih = rw (ne-eqb (length (bytes k)) n (λ q. differ (sym f ∙ ap (λ (m : ℕ). has m ls) q ∙ e))) (ih h)
     by false f h ih = let z : _≡_ {A = ℕ} 0 1 = cc in absurd (omega arith)
 
 -- a word whose length is not among them is none of the words
 pub reserved-not : (ls : List ℕ) (w : List ℕ) → lengthsIn ls reserved ≡ true → NoneOf ls (length w) → false ≡ among reserved w
 unfolding among
-reserved-not ls w h k = sym (among-of-length reserved w ∙ ap (λ (ks : List String). among ks w) (none-of-length ls (length w) reserved h (none-has ls (length w) k)))
+reserved-not ls w h k =
+    sym
+    (among-of-length reserved w
+    ∙ ap (λ (ks : List String). among ks w) (none-of-length ls (length w) reserved h (none-has ls (length w) k)))
 
 pub or-both : {a b x y : Bool} → a ≡ x → b ≡ y → (a || b) ≡ (x || y)
 or-both {a} {b} {x} {y} p q = ap (λ (c : Bool). c || b) p ∙ ap (λ (c : Bool). x || c) q

@@ -1,11 +1,11 @@
 -- `bytes_of` meets its contract: an end behind the text's is the text's own, and where the place is not before the end there are no bytes.
 use Prim.Native.Nat.{_-_}
-use mathlib.Core.Path.{_≡_, refl, sym, ap, _∙_}
-use native.Mathlib.Omega.{arith}
+use mathlib.Core.Path.{_≡_, sym, ap, _∙_}
 use mathlib.Core.Logic.{⊎-elim}
+use native.Mathlib.Omega.{arith}
+use borrow.Author.Needs.{needs}
 use lib.ListN.{length, take, drop, length-drop, drop-of-length-le}
 use lib.Seq.{take-all, take-nil}
-use borrow.Author.Needs.{needs}
 use Rattle.words.proofs.bytes_of.Statement.{statement}
 use Rattle.words.proofs.bytes_of.Tie as tie
 
@@ -32,9 +32,10 @@ part-result-end-2 c = search needs
 
 returns-2 : tie.Need-returns-2
 returns-2 c =
-    let t = c .before .before .before .before .args .text .now in
-    let p = c .before .before .before .before .args .at in
-    take-all (length t - p) (drop p t) (omega (arith, length-drop p t)) ∙ sym (take-all (c .before .before .before .before .args .end - p) (drop p t) (omega (arith, length-drop p t)))
+    let text = c .before .before .before .before .args .text .now in
+    let at = c .before .before .before .before .args .at in
+    take-all (length text - at) (drop at text) (omega (arith, length-drop at text))
+    ∙ sym (take-all (c .before .before .before .before .args .end - at) (drop at text) (omega (arith, length-drop at text)))
 
 sub-result-3 : tie.Need-sub-result-3
 sub-result-3 c = search needs
@@ -47,10 +48,14 @@ part-result-end-3 c = search needs
 
 returns-3 : tie.Need-returns-3
 returns-3 c =
-    let t = c .before .before .args .text .now in
-    let p = c .before .before .args .at in
-    let n = c .before .before .args .end - c .before .before .args .at in
-    sym (⊎-elim (λ w. ap (take n) (drop-of-length-le t {i = p} (omega arith)) ∙ take-nil n) (λ w. let e : n ≡ 0 = omega arith in rw e) (c .before .if1 .came))
+    let text = c .before .before .args .text .now in
+    let at = c .before .before .args .at in
+    let n = c .before .before .args .end - at in
+    sym
+    (⊎-elim
+    (λ w. ap (take n) (drop-of-length-le text {i = at} (omega arith)) ∙ take-nil n)
+    (λ w. let e : n ≡ 0 = omega arith in rw e)
+    (c .before .if1 .came))
 
 pub bytes-of-spec : {M : Type 1} → statement M
 bytes-of-spec =

@@ -1,17 +1,18 @@
 -- `cursor_at` meets its contract: the cursor holds what the first token, the end or the fault tells of the stream.
 use mathlib.Core.Path.{_≡_, sym, _∙_, ap}
 use native.Mathlib.Omega.{arith}
+use borrow.Author.Needs.{needs}
 use Rattle.tokens.specs.Tokens.{toks, first}
 use Rattle.tokens.specs.Answers.{nextOf}
 use Rattle.tokens.specs.declared.Step.{Step}
 use Rattle.tokens.proofs.Laws.{first-token, first-end, first-fault}
 use Rattle.words.proofs.Ahead.{at-token, at-end, at-fault}
-use borrow.Author.Needs.{needs}
 use Rattle.words.proofs.cursor_at.Statement.{statement}
 use Rattle.words.proofs.cursor_at.Tie as tie
 
 -- what the step tells, once its case is known
-told : (c : tie.After-first-from) {s : Step} → c .first-from .result ≡ s → first (toks (c .before .before .args .text .now) (c .before .before .args .at)) ≡ nextOf s
+told : (c : tie.After-first-from) {s : Step} → c .first-from .result ≡ s
+    → first (toks (c .before .before .args .text .now) (c .before .before .args .at)) ≡ nextOf s
 told c e = sym (c .first-from .ensures) ∙ ap nextOf e
 
 first-from-requires : tie.Need-first-from-requires

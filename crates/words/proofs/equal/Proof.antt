@@ -2,10 +2,10 @@
 use Prim.Native.Nat.{_-_}
 use mathlib.Core.Path.{_≡_, refl, sym, _∙_}
 use native.Mathlib.Omega.{arith}
-use lib.ListN.{length, drop}
+use borrow.Author.Needs.{needs}
+use lib.ListN.{drop}
 use Rattle.tokens.specs.Written.{same}
 use Rattle.words.proofs.Words.{same-long, same-more, same-differ, same-end}
-use borrow.Author.Needs.{needs}
 use Rattle.words.proofs.equal.Statement.{statement}
 use Rattle.words.proofs.equal.Tie as tie
 
@@ -28,7 +28,10 @@ shared-slice-read-if2-2 : tie.Need-shared-slice-read-if2-2 Inv-loop μ-loop
 shared-slice-read-if2-2 c = search needs
 
 returns-2 : tie.Need-returns-2 Inv-loop μ-loop
-returns-2 c = sym (c .before .before .before .before .loop .inv ∙ same-differ _ _ _ (c .before .before .before .loop-test .taken) (omega arith) (c .if2 .taken))
+returns-2 c =
+    let w = c .before .before .before .before .before .before .args .w .now in
+    let v = c .before .before .before .before .before .before .args .v .now in
+    sym (c .before .before .before .before .loop .inv ∙ same-differ w v _ (omega arith) (omega arith) (c .if2 .taken))
 
 add-i : tie.Need-add-i Inv-loop μ-loop
 add-i c = search needs
@@ -37,10 +40,16 @@ loop-less : tie.Need-loop-less Inv-loop μ-loop
 loop-less c = search needs
 
 loop-again : tie.Need-loop-again Inv-loop μ-loop
-loop-again c = c .before .before .before .before .loop .inv ∙ same-more _ _ _ (c .before .before .before .loop-test .taken) (omega arith) (c .if2 .left)
+loop-again c =
+    let w = c .before .before .before .before .before .before .args .w .now in
+    let v = c .before .before .before .before .before .before .args .v .now in
+    c .before .before .before .before .loop .inv ∙ same-more w v _ (omega arith) (omega arith) (c .if2 .left)
 
 returns-3 : tie.Need-returns-3 Inv-loop μ-loop
-returns-3 c = sym (c .before .loop .inv ∙ same-end _ _ _ (c .loop-test .left) (omega arith))
+returns-3 c =
+    let w = c .before .before .before .args .w .now in
+    let v = c .before .before .before .args .v .now in
+    sym (c .before .loop .inv ∙ same-end w v (c .before .loop .i) (omega arith) (omega arith))
 
 pub equal-spec : {M : Type 1} → statement M
 equal-spec =

@@ -1,7 +1,7 @@
 -- `expect` meets its contract: a step, and then a test on the token that it took.
 use mathlib.Core.Path.{refl}
-use Rattle.words.proofs.Flow.{then, checked, given}
 use borrow.Author.Needs.{needs}
+use Rattle.words.proofs.Flow.{then, checked, given}
 use Rattle.words.proofs.expect.Statement.{statement}
 use Rattle.words.proofs.expect.Tie as tie
 

@@ -1,10 +1,10 @@
 -- `holds` meets its contract. The invariant: the byte stands in the word if it stands in what is left of it.
 use Prim.Native.Nat.{_-_}
 use mathlib.Core.Path.{_≡_, refl, sym, _∙_}
+use borrow.Author.Needs.{needs}
 use lib.ListN.{length, drop}
 use Rattle.meaning.specs.Lists.{has}
 use Rattle.words.proofs.Words.{has-more, has-here, has-end}
-use borrow.Author.Needs.{needs}
 use Rattle.words.proofs.holds.Statement.{statement}
 use Rattle.words.proofs.holds.Tie as tie
 

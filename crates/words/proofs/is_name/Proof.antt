@@ -1,7 +1,7 @@
 -- `is_name` meets its contract: the four tests of a name, in their order.
-use mathlib.Core.Path.{sym, _∙_}
-use Rattle.words.proofs.Words.{name-none, name-some}
+use mathlib.Core.Path.{sym}
 use borrow.Author.Needs.{needs}
+use Rattle.words.proofs.Words.{name-none, name-some}
 use Rattle.words.proofs.is_name.Statement.{statement}
 use Rattle.words.proofs.is_name.Tie as tie
 

@@ -1,7 +1,7 @@
 -- `is_word` meets its contract: a word is known by its first byte.
 use mathlib.Core.Path.{sym, _∙_}
-use Rattle.words.proofs.Words.{word-first, word-none}
 use borrow.Author.Needs.{needs}
+use Rattle.words.proofs.Words.{word-first, word-none}
 use Rattle.words.proofs.is_word.Statement.{statement}
 use Rattle.words.proofs.is_word.Tie as tie
 

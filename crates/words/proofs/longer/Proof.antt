@@ -1,11 +1,11 @@
 -- `longer` meets its contract: up to the largest number, a digit behind it is ten times the number and the digit.
-use mathlib.Core.Path.{_≡_, sym, _∙_}
-use native.Mathlib.Omega.{arith}
 use Prim.Native.Nat.{ℕ}
+use mathlib.Core.Path.{_≡_, sym, _∙_}
 use mathlib.Core.Bool.{true, false}
+use native.Mathlib.Omega.{arith}
+use borrow.Author.Needs.{needs}
 use borrow.Author.Tests.{not-true, not-false}
 use Rattle.words.proofs.Numbers.{digit-bounds}
-use borrow.Author.Needs.{needs}
 use Rattle.words.proofs.longer.Statement.{statement}
 use Rattle.words.proofs.longer.Tie as tie
 
@@ -16,7 +16,13 @@ is-digit-requires : tie.Need-is-digit-requires
 is-digit-requires c κs = search needs
 
 returns-2 : tie.Need-returns-2
-returns-2 c = record { is = λ d m e. let f : true ≡ false = sym d ∙ sym (c .before .is-digit .ensures) ∙ not-true _ (c .if2 .taken) in let z : _≡_ {A = ℕ} 0 1 = cc in absurd (omega arith) }
+returns-2 c =
+    record {
+      is = λ d m e.
+          let f : true ≡ false = sym d ∙ sym (c .before .is-digit .ensures) ∙ not-true _ (c .if2 .taken) in
+          let z : _≡_ {A = ℕ} 0 1 = cc in
+          absurd (omega arith);
+    }
 
 mul-m : tie.Need-mul-m
 mul-m c = search needs

@@ -1,8 +1,8 @@
 -- `name` meets its contract: a word, and then the test on it.
 use mathlib.Core.Path.{refl}
+use borrow.Author.Needs.{needs}
 use Rattle.meaning.specs.Names.{name}
 use Rattle.words.proofs.Flow.{then, checked, given}
-use borrow.Author.Needs.{needs}
 use Rattle.words.proofs.name.Statement.{statement}
 use Rattle.words.proofs.name.Tie as tie
 

@@ -1,9 +1,8 @@
 -- `name_bytes` meets its contract: past the table's end the places read as 0, and there are no bytes between them.
 use Prim.Native.Nat.{_+_, _*_}
-use mathlib.Core.Path.{_≡_}
 use native.Mathlib.Omega.{arith}
-use lib.ListN.{length, List·getD-eq-default}
 use borrow.Author.Needs.{needs}
+use lib.ListN.{List·getD-eq-default}
 use Rattle.words.proofs.name_bytes.Statement.{statement}
 use Rattle.words.proofs.name_bytes.Tie as tie
 
@@ -41,7 +40,10 @@ returns-2 : tie.Need-returns-2
 returns-2 c =
     let places = c .before .before .before .before .args .places .now in
     let i = c .before .before .before .before .args .i in
-    rw (List·getD-eq-default places 0 {n = i * 2} (omega arith), List·getD-eq-default places 0 {n = i * 2 + 1} (omega arith))
+    rw (
+      List·getD-eq-default places 0 {n = i * 2} (omega arith),
+      List·getD-eq-default places 0 {n = i * 2 + 1} (omega arith),
+    )
 
 pub name-bytes-spec : {M : Type 1} → statement M
 name-bytes-spec =

@@ -2,12 +2,12 @@
 use Prim.Native.Nat.{_-_, _≤_}
 use mathlib.Core.Path.{_≡_, refl, sym, ap, _∙_}
 use native.Mathlib.Omega.{arith}
+use borrow.Author.Needs.{needs}
 use borrow.Author.Tests.{not-true, not-false}
 use lib.ListN.{length, drop}
 use Rattle.meaning.specs.Names.{value}
 use Rattle.words.specs.Values.{most, capped}
 use Rattle.words.proofs.Numbers.{value-next, value-none, value-end, number-some, number-all}
-use borrow.Author.Needs.{needs}
 use Rattle.words.proofs.number.Statement.{statement}
 use Rattle.words.proofs.number.Tie as tie
 
@@ -27,7 +27,10 @@ is-digit-requires : tie.Need-is-digit-requires Inv-loop μ-loop
 is-digit-requires c κs = search needs
 
 returns : tie.Need-returns Inv-loop μ-loop
-returns c = sym (ap capped (number-some _ (omega arith)) ∙ c .before .before .before .before .loop .inv .1 ∙ value-none _ _ _ (c .before .before .before .loop-test .taken) (sym (c .before .is-digit .ensures) ∙ not-true _ (c .if1 .taken)))
+returns c =
+    let turn = c .before .before .before in
+    let other = sym (c .before .is-digit .ensures) ∙ not-true _ (c .if1 .taken) in
+    sym (ap capped (number-some _ (omega arith)) ∙ turn .before .loop .inv .1 ∙ value-none _ _ _ (turn .loop-test .taken) other)
 
 shared-slice-read-longer : tie.Need-shared-slice-read-longer Inv-loop μ-loop
 shared-slice-read-longer c = search needs
@@ -43,9 +46,10 @@ loop-less c = search needs
 
 loop-again : tie.Need-loop-again Inv-loop μ-loop
 loop-again c =
-    let d = sym (c .before .before .before .is-digit .ensures) ∙ not-false _ (c .before .before .if1 .left) in
-    let e = c .longer .ensures .is d (c .before .before .before .before .before .before .loop .n) (omega arith) in
-    (omega arith, c .before .before .before .before .before .before .loop .inv .1 ∙ value-next _ _ _ (c .before .before .before .before .before .loop-test .taken) d e)
+    let turn = c .before .before .before .before .before in
+    let digit = sym (c .before .before .before .is-digit .ensures) ∙ not-false _ (c .before .before .if1 .left) in
+    let grown = c .longer .ensures .is digit (turn .before .loop .n) (omega arith) in
+    (omega arith, turn .before .loop .inv .1 ∙ value-next _ _ _ (turn .loop-test .taken) digit grown)
 
 returns-2 : tie.Need-returns-2 Inv-loop μ-loop
 returns-2 c = number-all _ _ (c .before .loop .inv .1 ∙ value-end _ _ _ (c .loop-test .left) (c .before .loop .inv .0))

@@ -1,7 +1,7 @@
 -- `number_at` meets its contract: past the end a list reads as 0.
 use mathlib.Core.Path.{sym}
-use lib.ListN.{List·getD-eq-default}
 use borrow.Author.Needs.{needs}
+use lib.ListN.{List·getD-eq-default}
 use Rattle.words.proofs.number_at.Statement.{statement}
 use Rattle.words.proofs.number_at.Tie as tie
 

@@ -1,7 +1,7 @@
 -- `number_in` meets its contract: a word, and then the bounds on its number.
+use borrow.Author.Needs.{needs}
 use Rattle.meaning.specs.Names.{numberIn}
 use Rattle.words.proofs.Flow.{then}
-use borrow.Author.Needs.{needs}
 use Rattle.words.proofs.number_in.Statement.{statement}
 use Rattle.words.proofs.number_in.Tie as tie
 

@@ -1,12 +1,9 @@
 -- `old_name` meets its contract: a name, and then what is found for it.
-use mathlib.Core.Path.{refl, ap, _∙_}
-use mathlib.Core.List.{List}
-use Prim.Native.Nat.{ℕ}
-use lib.Dec.{ltb}
+use mathlib.Core.Path.{refl}
+use borrow.Author.Needs.{needs}
 use Rattle.meaning.specs.Names.{oldName}
 use Rattle.words.proofs.Flow.{then, given}
-use Rattle.words.proofs.Tables.{known-by, not-below}
-use borrow.Author.Needs.{needs}
+use Rattle.words.proofs.Tables.{known-by}
 use Rattle.words.proofs.old_name.Statement.{statement}
 use Rattle.words.proofs.old_name.Tie as tie
 
@@ -24,7 +21,9 @@ refuse-if-requires c κs = search needs
 
 returns : tie.Need-returns
 unfolding oldName
-returns c = then _ (c .before .before .before .name .ensures) (then _ (known-by (ltb (c .before .find .result) (c .before .before .before .before .before .before .args .count)) (c .refuse-if .ensures) (not-below (c .before .before .before .before .before .before .args .count) (c .before .find .result)) (cc) refl) given)
+returns c =
+    let count = c .before .before .before .before .before .before .args .count in
+    then _ (c .before .before .before .name .ensures) (then _ (known-by count (c .refuse-if .ensures) (cc) refl) given)
 
 pub old-name-spec : {M : Type 1} → statement M
 old-name-spec =

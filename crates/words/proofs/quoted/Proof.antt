@@ -1,8 +1,8 @@
 -- `quoted` meets its contract: a quote, a word with the bounds on its time, a quote.
+use borrow.Author.Needs.{needs}
 use Rattle.tokens.specs.Written.{bytes}
 use Rattle.meaning.specs.Timing.{quoted}
 use Rattle.words.proofs.Flow.{then, given}
-use borrow.Author.Needs.{needs}
 use Rattle.words.proofs.quoted.Statement.{statement}
 use Rattle.words.proofs.quoted.Tie as tie
 
@@ -32,7 +32,9 @@ due-requires-2 c κs = search needs
 
 returns : tie.Need-returns
 unfolding quoted bytes
-returns c = then _ (c .before .before .before .before .before .before .due .ensures) (then _ (c .before .before .before .before .before .word .ensures) (then _ (c .before .before .within .ensures _ _ (cc)) (then _ (c .due2 .ensures) given)))
+returns c =
+    let word = c .before .before .before .before .before in
+    then _ (word .before .due .ensures) (then _ (word .word .ensures) (then _ (c .before .before .within .ensures _ _ (cc)) (then _ (c .due2 .ensures) given)))
 
 pub quoted-spec : {M : Type 1} → statement M
 quoted-spec =

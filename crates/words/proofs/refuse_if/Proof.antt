@@ -1,6 +1,4 @@
 -- `refuse_if` meets its contract: its test is the one that `refusing` makes.
-use mathlib.Core.Path.{refl}
-use Rattle.words.specs.Cursor.{refusing}
 use Rattle.words.proofs.refuse_if.Statement.{statement}
 use Rattle.words.proofs.refuse_if.Tie as tie
 

@@ -1,11 +1,11 @@
 -- `reserved` meets its contract: only the reserved words of w's length can be w, and those are the ones that each arm compares it with.
 use mathlib.Core.Path.{refl, _∙_}
 use mathlib.Core.List.{[], _∷_}
+use borrow.Author.Needs.{needs}
 use Rattle.tokens.specs.Written.{bytes}
 use Rattle.meaning.specs.Lists.{has}
 use Rattle.meaning.specs.Names.{reserved, among}
 use Rattle.words.proofs.Words.{ofLength, lengthsIn, reserved-of, reserved-not, or-both, or-last}
-use borrow.Author.Needs.{needs}
 use Rattle.words.proofs.reserved.Statement.{statement}
 use Rattle.words.proofs.reserved.Tie as tie
 
@@ -149,7 +149,9 @@ equal-requires-23 c κs = search needs
 
 returns : tie.Need-returns
 unfolding ofLength among reserved bytes
-returns c = or-both (c .before .before .before .before .equal .ensures) (or-both (c .before .before .equal2 .ensures) (or-last (c .equal3 .ensures))) ∙ reserved-of 1 _ (c .before .before .before .before .before .before .match .keys1)
+returns c =
+    or-both (c .before .before .before .before .equal .ensures) (or-both (c .before .before .equal2 .ensures) (or-last (c .equal3 .ensures)))
+    ∙ reserved-of 1 _ (c .before .before .before .before .before .before .match .keys1)
 
 returns-2 : tie.Need-returns-2
 unfolding ofLength among reserved bytes
@@ -161,23 +163,33 @@ returns-3 c = or-last (c .equal5 .ensures) ∙ reserved-of 3 _ (c .before .befor
 
 returns-4 : tie.Need-returns-4
 unfolding ofLength among reserved bytes
-returns-4 c = or-both (c .before .before .before .before .equal6 .ensures) (or-both (c .before .before .equal7 .ensures) (or-last (c .equal8 .ensures))) ∙ reserved-of 4 _ (c .before .before .before .before .before .before .match .keys4)
+returns-4 c =
+    or-both (c .before .before .before .before .equal6 .ensures) (or-both (c .before .before .equal7 .ensures) (or-last (c .equal8 .ensures)))
+    ∙ reserved-of 4 _ (c .before .before .before .before .before .before .match .keys4)
 
 returns-5 : tie.Need-returns-5
 unfolding ofLength among reserved bytes
-returns-5 c = or-both (c .before .before .before .before .equal9 .ensures) (or-both (c .before .before .equal10 .ensures) (or-last (c .equal11 .ensures))) ∙ reserved-of 5 _ (c .before .before .before .before .before .before .match .keys5)
+returns-5 c =
+    or-both (c .before .before .before .before .equal9 .ensures) (or-both (c .before .before .equal10 .ensures) (or-last (c .equal11 .ensures)))
+    ∙ reserved-of 5 _ (c .before .before .before .before .before .before .match .keys5)
 
 returns-6 : tie.Need-returns-6
 unfolding ofLength among reserved bytes
-returns-6 c = or-both (c .before .before .equal12 .ensures) (or-last (c .equal13 .ensures)) ∙ reserved-of 6 _ (c .before .before .before .before .match .keys6)
+returns-6 c =
+    or-both (c .before .before .equal12 .ensures) (or-last (c .equal13 .ensures))
+    ∙ reserved-of 6 _ (c .before .before .before .before .match .keys6)
 
 returns-7 : tie.Need-returns-7
 unfolding ofLength among reserved bytes
-returns-7 c = or-both (c .before .before .before .before .equal14 .ensures) (or-both (c .before .before .equal15 .ensures) (or-last (c .equal16 .ensures))) ∙ reserved-of 7 _ (c .before .before .before .before .before .before .match .keys7)
+returns-7 c =
+    or-both (c .before .before .before .before .equal14 .ensures) (or-both (c .before .before .equal15 .ensures) (or-last (c .equal16 .ensures)))
+    ∙ reserved-of 7 _ (c .before .before .before .before .before .before .match .keys7)
 
 returns-8 : tie.Need-returns-8
 unfolding ofLength among reserved bytes
-returns-8 c = or-both (c .before .before .equal17 .ensures) (or-last (c .equal18 .ensures)) ∙ reserved-of 9 _ (c .before .before .before .before .match .keys8)
+returns-8 c =
+    or-both (c .before .before .equal17 .ensures) (or-last (c .equal18 .ensures))
+    ∙ reserved-of 9 _ (c .before .before .before .before .match .keys8)
 
 returns-9 : tie.Need-returns-9
 unfolding ofLength among reserved bytes
@@ -189,7 +201,9 @@ returns-10 c = or-last (c .equal20 .ensures) ∙ reserved-of 11 _ (c .before .be
 
 returns-11 : tie.Need-returns-11
 unfolding ofLength among reserved bytes
-returns-11 c = or-both (c .before .before .equal21 .ensures) (or-last (c .equal22 .ensures)) ∙ reserved-of 12 _ (c .before .before .before .before .match .keys11)
+returns-11 c =
+    or-both (c .before .before .equal21 .ensures) (or-last (c .equal22 .ensures))
+    ∙ reserved-of 12 _ (c .before .before .before .before .match .keys11)
 
 returns-12 : tie.Need-returns-12
 unfolding ofLength among reserved bytes

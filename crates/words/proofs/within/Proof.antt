@@ -1,7 +1,7 @@
 -- `within` meets its contract: whether the code holds the number or only the largest one, the test says the same.
 use native.Mathlib.Omega.{arith}
-use Rattle.words.proofs.Numbers.{within-by}
 use borrow.Author.Needs.{needs}
+use Rattle.words.proofs.Numbers.{within-by}
 use Rattle.words.proofs.within.Statement.{statement}
 use Rattle.words.proofs.within.Tie as tie
 
@@ -9,7 +9,10 @@ refuse-if-requires : tie.Need-refuse-if-requires
 refuse-if-requires c κs = search needs
 
 returns : tie.Need-returns
-returns c = λ text o e. within-by (c .before .before .args .lo) (c .before .before .args .hi) (c .before .before .args .v .n) (omega arith) (c .before .before .args .v .right) o (c .refuse-if .ensures) e
+returns c =
+    let start = c .before .before in
+    let v = c .before .before .args .v in
+    λ text o e. within-by (start .args .lo) (start .args .hi) (v .n) (omega arith) (v .right) o (c .refuse-if .ensures) e
 
 pub within-spec : {M : Type 1} → statement M
 within-spec = tie.close (tie.spec refuse-if-requires returns)

@@ -1,9 +1,7 @@
 -- `word` meets its contract: the token ahead is tested and taken.
-use mathlib.Core.Path.{ap, _∙_}
-use Rattle.tokens.specs.Tokens.{Tok}
+use borrow.Author.Needs.{needs}
 use Rattle.meaning.specs.Reader.{isWord, word}
 use Rattle.words.proofs.Flow.{tested}
-use borrow.Author.Needs.{needs}
 use Rattle.words.proofs.word.Statement.{statement}
 use Rattle.words.proofs.word.Tie as tie
 
