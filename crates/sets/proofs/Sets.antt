@@ -4,7 +4,7 @@ use Prim.Native.Nat.{ℕ, zero, suc, _+_, _≤_, _<_, min}
 use native.Mathlib.Numerals.{add-one}
 use native.Mathlib.Omega.{arith}
 use mathlib.Core.Bool.{true, false}
-use mathlib.Core.List.{List, [], _∷_, _++_, append-assoc}
+use mathlib.Core.List.{List, [], _∷_, _++_, append-assoc, append-nil}
 use lib.ListN.{length, getD, take, drop, set, length-take, length-map, drop-of-length-le}
 use lib.Seq.{take-suc-set, drop-cons, getD-take}
 use lib.Dec.{eqb}
@@ -20,21 +20,17 @@ use Rattle.sets.proofs.Set.{the-row}
 pub sized : (s : Set) {w : List Val} → shadow (the-row .own s w) → length (s .v) ≡ signalsMost
 sized s g = sym (length-map (s .v) _) ∙ g .1 .1 .1 .0 .1 .0 .1
 
-pub append-nil : (xs : List ℕ) → xs ++ [] ≡ xs
-append-nil [] = refl
-append-nil (x ∷ xs) = ap (λ (l : List ℕ). x ∷ l) (append-nil xs)
-
 -- the first n of v from place i on
 abbrev pub rest : List ℕ → ℕ → ℕ → List ℕ
 rest v n i = drop i (take n v)
 
 module _ (v : List ℕ) (n i : ℕ) where
   module _ (h : i < min n (length v)) where
-    cut : rest v n i ≡ getD v i 0 ∷ rest v n (i + 1)
+    pub cut : rest v n i ≡ getD v i 0 ∷ rest v n (i + 1)
     cut =
         let l : i < length (take n v) = omega (arith, length-take n v) in
         let f : i < n = omega arith in
-        rw add-one (drop-cons (take n v) i 0 l ∙ ap (λ (x : ℕ). x ∷ drop (suc i) (take n v)) (getD-take n v i 0 f))
+        rw (add-one, drop-cons (take n v) i 0 l, getD-take n v i 0 f)
 
     pub has-here : (x : ℕ) → getD v i 0 ≡ x → has x (rest v n i) ≡ true
     unfolding has
@@ -62,7 +58,7 @@ module _ (v : List ℕ) (n i : ℕ) where
       inside-next e = rw cut (rw e)
 
   module _ (h : min n (length v) ≤ i) where
-    none : rest v n i ≡ []
+    pub none : rest v n i ≡ []
     none = let k : length (take n v) ≤ i = omega (arith, length-take n v) in drop-of-length-le (take n v) k
 
     pub has-end : (x : ℕ) → has x (rest v n i) ≡ false
@@ -83,7 +79,8 @@ pub more : (v : List ℕ) (k x : ℕ) → k < length v → take (k + 1) (set v k
 more v k x h = rw add-one (take-suc-set v k x h)
 
 module _ (v : List ℕ) (k : ℕ) (x : List ℕ) (n i : ℕ) where
-  pub moved : i < min n (length x) → k + i < length v → take (k + (i + 1)) (set v (k + i) (getD x i 0)) ++ rest x n (i + 1) ≡ take (k + i) v ++ rest x n i
+  pub moved : i < min n (length x) → k + i < length v
+      → take (k + (i + 1)) (set v (k + i) (getD x i 0)) ++ rest x n (i + 1) ≡ take (k + i) v ++ rest x n i
   moved h r =
       let e : k + (i + 1) ≡ (k + i) + 1 = omega arith in
       rw (e, more v (k + i) (getD x i 0) r, append-assoc, cut x n i h)
