@@ -1,20 +1,20 @@
 -- Statements are read one turn at a time, whatever the count: a head takes a token, and nothing that follows it gives one back.
-use mathlib.Core.Path.{_≡_, refl, ap}
-use Prim.Native.Nat.{ℕ, zero, suc, _≤_, _<_}
+use mathlib.Core.Path.{_≡_, refl}
+use Prim.Native.Nat.{ℕ, zero, suc, _<_}
 use native.Mathlib.Omega.{arith}
 use mathlib.Core.Bool.{Bool, true, false}
 use mathlib.Core.Option.{Option, none, some}
 use mathlib.Core.List.{List, []}
 use Rattle.tokens.specs.Tokens.{Tok, Toks, left}
 use Rattle.meaning.specs.Refusals.{tooDeep}
-use Rattle.meaning.specs.Reader.{Res, Reader, ok, refuse, after, _>>=_, give, isWord}
+use Rattle.meaning.specs.Reader.{Res, Reader, ok, refuse, after, _>>=_, isWord}
 use Rattle.meaning.specs.Signals.{Names}
 use Rattle.meaning.specs.Timing.{Tables}
-use Rattle.meaning.specs.Body.{Assigns, Args, Kind, looped, shifted, entered, Body, vec, set′, inner}
+use Rattle.meaning.specs.Body.{Assigns, Args, Kind, Body}
 use Rattle.meaning.specs.Data.{charsOf, times, repeated, piece, part, dataRead, assign, assigns, argument, arguments}
 use Rattle.meaning.specs.Statements.{Decls, Env, Head, ends, vecs, sets, loops, shifts, uses, used, chosen, looping, shiftHead, head, inShift, behind, statementsF, statements}
 use Rattle.meaning.proofs.Takes.{Takes, Keeps}
-use Rattle.meaning.proofs.Taking.{taking, takes-keeps, takes-any, takes-due, takes-word, takes-old, takes-number, keeps-give, keeps-if, keeps-within, takes-bind, keeps-bind, keeps-oneOf, takes-choose, takes-closed, takes-until}
+use Rattle.meaning.proofs.Taking.{taking, takes-keeps, takes-any, takes-due, takes-number, keeps-give, keeps-within, takes-bind, keeps-bind, keeps-oneOf, takes-choose, takes-closed, takes-until}
 use Rattle.meaning.proofs.Choices.{_also_}
 
 -- ---- nothing refused takes or keeps, and either of two
