@@ -4,3 +4,8 @@ pub mod Leads
 pub mod Due
 pub mod Held
 pub mod Only
+pub mod Declared
+pub mod Bodies
+pub mod Parts
+pub mod Whole
+pub mod Accepted
