@@ -1,39 +1,46 @@
 -- What each declaration of a macro or procedure keeps, all of them keep.
 use mathlib.Core.Path.{_≡_, refl}
-use Rattle.meaning.specs.Reader.{ahead, option}
+use Rattle.tokens.specs.Tokens.{Toks}
+use Rattle.meaning.specs.Reader.{Reader, _>>=_, ahead, option}
 use Rattle.meaning.specs.Signals.{Names}
 use Rattle.meaning.specs.Timing.{Tables}
 use Rattle.meaning.specs.Statements.{Env}
 use Rattle.meaning.specs.Document.{oneMacro, oneProcedure, macroDefs, procedures, bodies}
-use Rattle.meaning.proofs.Gives.{Gives, gives-bind, gives-after, gives-give, gives-option, gives-until}
-use Rattle.meaning.proofs.Choices.{gives-either}
+use Rattle.held.proofs.Rest.{Rest, moves-leaves, moves-due}
+use Rattle.held.proofs.Leads.{Leads, leads-bind, leads-give, leads-either, leads-option, leads-until}
 
-module _ (P : Env → Type 0) (macro : (e : Env) → P e → Gives P (oneMacro e)) (procedure : (e : Env) → P e → Gives P (oneProcedure e)) where
-  gives-macros : (e : Env) → P e → Gives P (macroDefs e)
-  unfolding macroDefs
-  gives-macros e h = gives-after P _ _ λ p. gives-after P _ _ λ q. gives-until P "}" oneMacro macro e h
+module _ (I : Env → Toks → Type 0) (stable : (e : Env) (us ts : Toks) → Rest us ts → I e ts → I e us) where
+  abbrev pub Keeping : (Env → Reader Env) → Type 0
+  Keeping step = (e : Env) (ts : Toks) → I e ts → Leads (step e) ts I
 
-  gives-procedures : (e : Env) → P e → Gives P (procedures e)
-  unfolding procedures
-  gives-procedures e h = gives-after P _ _ λ p. gives-after P _ _ λ q. gives-until P "}" oneProcedure procedure e h
+  module _ (macro : Keeping oneMacro) (procedure : Keeping oneProcedure) where
+    leads-macros : Keeping macroDefs
+    unfolding macroDefs
+    leads-macros e ts i = leads-bind _ _ λ p vs v. leads-bind _ _ λ q ws w. leads-until I oneMacro macro stable "}" e ws
+        (stable e ws vs (moves-leaves (moves-due _) .rest vs q ws w) (stable e vs ts (moves-leaves (moves-due _) .rest ts p vs v) i))
 
-  pub gives-bodies : (e : Env) → P e → Gives P (bodies e)
-  unfolding bodies
-  gives-bodies e h = record { all = λ ts. gives-either P (ahead "MacroDefs" ts) _ _ (gives-bind P P _ _ (gives-macros e h) ps) (gives-bind P P _ _ (ps e h) ms) .all ts }
-    where
-      ms : (e : Env) → P e → Gives P (option "MacroDefs" macroDefs e)
-      ms = gives-option P "MacroDefs" macroDefs gives-macros
+    leads-procedures : Keeping procedures
+    unfolding procedures
+    leads-procedures e ts i = leads-bind _ _ λ p vs v. leads-bind _ _ λ q ws w. leads-until I oneProcedure procedure stable "}" e ws
+        (stable e ws vs (moves-leaves (moves-due _) .rest vs q ws w) (stable e vs ts (moves-leaves (moves-due _) .rest ts p vs v) i))
 
-      ps : (e : Env) → P e → Gives P (option "Procedures" procedures e)
-      ps = gives-option P "Procedures" procedures gives-procedures
+    both : (m n : Env → Reader Env) → Keeping m → Keeping n → (e : Env) (ts : Toks) → I e ts → Leads (m e >>= n) ts I
+    both m n f g e ts i = leads-bind (m e) n λ e′ us q. g e′ us (f e ts i .all e′ us q)
+
+    -- THE LAW: in either order
+    pub leads-bodies : Keeping bodies
+    unfolding bodies
+    leads-bodies e ts i =
+        let ms : Keeping (option "MacroDefs" macroDefs) = leads-option I macroDefs leads-macros "MacroDefs" in
+        let ps : Keeping (option "Procedures" procedures) = leads-option I procedures leads-procedures "Procedures" in
+        record { all = leads-either (ahead "MacroDefs" ts) _ _ (both macroDefs _ leads-macros ps e ts i) (both (option "Procedures" procedures) _ ps ms e ts i) .all }
 
 -- names and tables stay
 abbrev pub Stays : Names → Tables → Env → Type 0
 Stays ns tabs e = (e .names ≡ ns) × (e .tables ≡ tabs)
 
-pub bodies-stay : (e : Env) → Gives (Stays (e .names) (e .tables)) (bodies e)
+pub bodies-stay : (e : Env) (ts : Toks) → Leads (bodies e) ts (λ f us. Stays (e .names) (e .tables) f)
 unfolding oneMacro oneProcedure
-bodies-stay e = gives-bodies P (λ f h. gives-after P _ _ λ l. gives-give P _ h) (λ f h. gives-after P _ _ λ l. gives-give P _ h) e (refl, refl)
-  where
-    P : Env → Type 0
-    P = Stays (e .names) (e .tables)
+bodies-stay e ts =
+    leads-bodies (λ f us. Stays (e .names) (e .tables) f) (λ f us ts r h. h)
+    (λ f ts h. leads-bind _ _ λ l us q. leads-give _ h) (λ f ts h. leads-bind _ _ λ l us q. leads-give _ h) e ts (refl, refl)

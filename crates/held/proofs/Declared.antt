@@ -36,15 +36,15 @@ declared-from e own ts = record { all = read .all }
 pub one-body : (e : Env) (n : ℕ) (complete : Decls) (ts : Toks) → Leads (oneBody e n complete) ts (More e true complete complete ts)
 unfolding oneBody
 one-body e n complete ts =
-    leads-bind _ _ λ t vs v. leads-if _ _ _ _ (leads-bind _ _ λ p ws w. leads-bind _ _ λ d us u.
+    leads-bind _ _ λ t vs v. leads-if _ _ _ _ λ c. leads-bind _ _ λ p ws w. leads-bind _ _ λ d us u.
     let f = declared-from e true ws .all d us u in
-    leads-give _ (record { name = t; brace = p; body = d; named = rw (f .0, ← due-is (bytes "{") vs p ws w) v; read = rw (f .0) (f .1); is = refl }))
+    leads-give _ (record { name = t; brace = p; body = d; named = rw (f .0, ← due-is (bytes "{") vs .all p ws w) v; read = rw (f .0) (f .1); is = refl })
 
 -- behind `Pattern`
 pub one-pattern : (e : Env) (b : Tok) (ps : Decls) (ts : Toks)
     → Leads (pattern e b ps) ts (λ l us. (p : ℕ) × (vs : Toks) × (due "Pattern" ts ≡ ok p vs) × More e false (besides b ps) ps vs l us)
 unfolding pattern
 one-pattern e b ps ts =
-    leads-bind _ _ λ q vs v. leads-if _ _ _ _ (leads-bind _ _ λ t ws w. leads-bind _ _ λ p xs x. leads-bind _ _ λ d us u.
+    leads-bind _ _ λ q vs v. leads-if _ _ _ _ λ c. leads-bind _ _ λ t ws w. leads-bind _ _ λ p xs x. leads-bind _ _ λ d us u.
     let f = declared-from e false xs .all d us u in
-    leads-give _ (q, vs, v, record { name = t; brace = p; body = d; named = rw (f .0, ← due-is (bytes "{") ws p xs x) w; read = rw (f .0) (f .1); is = refl }))
+    leads-give _ (q, vs, v, record { name = t; brace = p; body = d; named = rw (f .0, ← due-is (bytes "{") ws .all p xs x) w; read = rw (f .0) (f .1); is = refl })

@@ -7,12 +7,13 @@ use mathlib.Core.List.{List, [], _∷_}
 use lib.Dec.{eqb}
 use borrow.Author.Tests.{eqb-true}
 use Rattle.tokens.specs.Written.{bytes, same}
-use Rattle.tokens.specs.Refusals.{notHere}
-use Rattle.tokens.specs.Tokens.{Toks, stop, tok}
-use Rattle.meaning.specs.Reader.{ok, after, _>>=_, give, refuseIf, any, due, dueOf, oneOf, choose}
+use Rattle.tokens.specs.Tokens.{Tok, Toks, stop, tok}
+use Rattle.meaning.specs.Reader.{ok, after, _>>=_, give, any, due, dueOf, oneOf, choose, word}
+use Rattle.meaning.specs.Names.{name, newName}
 use Rattle.meaning.specs.Data.{assigns}
 use Rattle.meaning.specs.Statements.{Env, ends, vecs, head}
 use Rattle.held.specs.Held.{freeHead}
+use Rattle.held.proofs.Leads.{Leads, leads-bind, leads-give, leads-if}
 
 pub same-is : (s t : List ℕ) → same s t ≡ true → s ≡ t
 unfolding same
@@ -25,19 +26,39 @@ same-is (a ∷ s) (b ∷ t) e = by (eqb a b) refl e (same-is s t)
     by true q e ih = let x = ih e in let y = eqb-true a b q in cc
     by false q e ih = let z : _≡_ {A = ℕ} 0 1 = cc in absurd (omega arith)
 
-pub due-is : (w : List ℕ) (ts : Toks) (p : ℕ) (us : Toks) → dueOf w ts ≡ ok p us → ts ≡ tok (record { at = p; word = w }) us
-unfolding dueOf any _>>=_ after refuseIf give
-due-is w (stop n q) p us e = let z : _≡_ {A = ℕ} 0 1 = cc in absurd (omega arith)
-due-is w (tok t vs) p us e = by (same (t .word) w) refl e
-  where
-    by : (b : Bool) → same (t .word) w ≡ b → after (refuseIf (not b) notHere (t .at) vs) (λ u. give (t .at)) ≡ ok p us → _≡_ {A = Toks} (tok t vs) (tok (record { at = p; word = w }) us)
-    by true q e = let x = same-is (t .word) w q in let y : t .at ≡ p = cc in let z : vs ≡ us = cc in rw (← x, ← y, ← z)
-    by false q e = let z : _≡_ {A = ℕ} 0 1 = cc in absurd (omega arith)
+-- ---- a token that was read is the one that stood there
+
+pub any-is : (ts : Toks) → Leads any ts (λ t us. ts ≡ tok t us)
+unfolding any
+any-is (stop n p) = record { all = λ s us e. (let z : _≡_ {A = ℕ} 0 1 = cc in absurd (omega arith)) }
+any-is (tok t ts) = record { all = λ s us e. cc }
+
+word-is : (ts : Toks) → Leads word ts (λ t us. ts ≡ tok t us)
+unfolding word
+word-is ts = leads-bind _ _ λ t us q. leads-if _ _ _ _ λ c. leads-give t (any-is ts .all t us q)
+
+pub name-is : (ts : Toks) → Leads name ts (λ t us. ts ≡ tok t us)
+unfolding name
+name-is ts = leads-bind _ _ λ t us q. leads-if _ _ _ _ λ c. leads-give t (word-is ts .all t us q)
+
+pub new-is : {A : Type 0} (used : List (Tok × A)) (ts : Toks) → Leads (newName used) ts (λ t us. ts ≡ tok t us)
+unfolding newName
+new-is used ts = leads-bind _ _ λ t us q. leads-if _ _ _ _ λ c. leads-give t (name-is ts .all t us q)
+
+no-not : (b : Bool) → not b ≡ false → b ≡ true
+no-not true e = refl
+no-not false e = let z : _≡_ {A = ℕ} 0 1 = cc in absurd (omega arith)
+
+pub due-is : (w : List ℕ) (ts : Toks) → Leads (dueOf w) ts (λ p us. ts ≡ tok (record { at = p; word = w }) us)
+unfolding dueOf
+due-is w ts = leads-bind _ _ λ t us q. leads-if _ _ _ _ λ c. leads-give _ (rw (← same-is (t .word) w (no-not _ c)) (any-is ts .all t us q))
+
+-- ---- heads
 
 pub head-end : (e : Env) (ts : Toks) (p : ℕ) (us : Toks) → due "}" ts ≡ ok p us → freeHead e ts ≡ ok ends us
 unfolding head choose oneOf any _>>=_ after bytes same give
-head-end e ts p us q = rw (due-is (bytes "}") ts p us q)
+head-end e ts p us q = rw (due-is (bytes "}") ts .all p us q)
 
 pub head-vector : (e : Env) (ts : Toks) (p : ℕ) (us : Toks) → due "V" ts ≡ ok p us → freeHead e ts ≡ (assigns (e .names) true >>= λ a. give (vecs p a)) us
 unfolding head choose oneOf any _>>=_ after bytes same give
-head-vector e ts p us q = rw (due-is (bytes "V") ts p us q)
+head-vector e ts p us q = rw (due-is (bytes "V") ts .all p us q)

@@ -77,8 +77,8 @@ module _ (E : Env) where
   holding-shift : Holding (inShift (E .names))
   unfolding inShift Holds give
   holding-shift ts =
-      leads-bind _ _ λ p vs v. leads-bind _ _ λ a ws w. leads-bind _ _ λ q us u. leads-if _ _ _ _ (leads-give _
-      (ws, head-vector E ts p vs v ∙ bind-go _ _ vs a ws w, head-end E ws q us u))
+      leads-bind _ _ λ p vs v. leads-bind _ _ λ a ws w. leads-bind _ _ λ q us u. leads-if _ _ _ _ λ c. leads-give _
+      (ws, head-vector E ts p vs v ∙ bind-go _ _ vs a ws w, head-end E ws q us u)
 
   module _ (ns : Names) (names : ns ≡ E .names) (within : Reader Body) (inside : Holding within) (on : Bool → Reader Body) (rest : (seen : Bool) → Holding (on seen)) where
     holding-behind : (seen : Bool) (h : Head) → Sound h → (ts vs : Toks) → freeHead E ts ≡ ok h vs → Leads (behind ns within on seen h) vs (Holds E ts)

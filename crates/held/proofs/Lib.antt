@@ -1,3 +1,5 @@
+pub mod Rest
+pub mod Grammar
 pub mod Turn
 pub mod Again
 pub mod Leads
@@ -8,4 +10,5 @@ pub mod Declared
 pub mod Bodies
 pub mod Parts
 pub mod Whole
+pub mod Places
 pub mod Accepted

@@ -1,5 +1,5 @@
 -- At most one body stands at a place: once a head was read, the body is one that begins so.
-use mathlib.Core.Path.{_≡_, refl, sym, _∙_, subst}
+use mathlib.Core.Path.{_≡_, refl, sym, _∙_}
 use Rattle.tokens.specs.Tokens.{Toks}
 use Rattle.meaning.specs.Reader.{ok}
 use Rattle.meaning.specs.Body.{looped, shifted, entered, Way, Body, done, vec, set′, inner}
@@ -20,24 +20,24 @@ module _ (E : Env) where
   Split shifts vs b us = Opened shifted vs b us
   Split (uses k x t a) vs b us = (r : Body) × (b ≡ inner (entered k t a) (x .body) r) × Stands E x × Holds E vs r us
 
-  -- a place is read one way
-  along : (P : Head → Toks → Type 0) {g h : Head} {us vs : Toks} (ts : Toks) → freeHead E ts ≡ ok g us → freeHead E ts ≡ ok h vs → P g us → P h vs
-  along P {g} {h} {us} {vs} ts e f p =
-      let z : ok g us ≡ ok h vs = sym e ∙ f in
-      let q : g ≡ h = cc in
-      let s : us ≡ vs = cc in
-      subst (P h) s (subst (λ g. P g us) q p)
+  -- where a body is held a head is read, with the rest of the body behind it
+  pub head-held : (ts : Toks) (b : Body) (us : Toks) → Holds E ts b us → (h : Head) × (vs : Toks) × (freeHead E ts ≡ ok h vs) × Split h vs b us
+  unfolding Holds
+  head-held ts done us x = (ends, us, x, (refl, refl))
+  head-held ts (vec p a r) us x = (vecs p a, x .0, x .1, (r, refl, x .2))
+  head-held ts (set′ s r) us x = (sets s, x .0, x .1, (r, refl, x .2))
+  head-held ts (inner (looped n) b r) us x = (loops n, x .0, x .2, (b, r, x .1, refl, x .3, x .4))
+  head-held ts (inner shifted b r) us x = (shifts, x .0, x .2, (b, r, x .1, refl, x .3, x .4))
+  head-held ts (inner (entered k t a) b r) us x = (uses k (x .2) t a, x .0, x .3, (r, rw (x .4), (x .1, rw (x .4) (x .5)), x .6))
 
   -- THE LAW: a head that was read gives the body's shape
   pub split : (ts : Toks) (b : Body) (us : Toks) → Holds E ts b us → (h : Head) (vs : Toks) → freeHead E ts ≡ ok h vs → Split h vs b us
-  unfolding Holds
-  split ts done us x h vs e = along (λ h vs. Split h vs done us) ts x e (refl, refl)
-  split ts (vec p a r) us x h vs e = along (λ h vs. Split h vs (vec p a r) us) ts (x .1) e (r, refl, x .2)
-  split ts (set′ s r) us x h vs e = along (λ h vs. Split h vs (set′ s r) us) ts (x .1) e (r, refl, x .2)
-  split ts (inner (looped n) b r) us x h vs e = along (λ h vs. Split h vs (inner (looped n) b r) us) ts (x .2) e (b, r, x .1, refl, x .3, x .4)
-  split ts (inner shifted b r) us x h vs e = along (λ h vs. Split h vs (inner shifted b r) us) ts (x .2) e (b, r, x .1, refl, x .3, x .4)
-  split ts (inner (entered k t a) b r) us x h vs e =
-      along (λ h vs. Split h vs (inner (entered k t a) b r) us) ts (x .3) e (r, rw (x .4) refl, (x .1, rw (x .4) (x .5)), x .6)
+  split ts b us x h vs e =
+      let i = head-held ts b us x in
+      let z : ok (i .0) (i .1) ≡ ok h vs = sym (i .2) ∙ e in
+      let q : i .0 ≡ h = cc in
+      let s : i .1 ≡ vs = cc in
+      rw (← q, ← s) (i .3)
 
   one-opened : (w : Way) (vs : Toks) (c : Body) (ws : Toks) (z : Opened w vs c ws) (b r : Body) (bs us : Toks)
       → (b ≡ z .0) × (bs ≡ z .2) → (Holds E bs (z .1) ws → (r ≡ z .1) × (us ≡ ws)) → (inner w b r ≡ c) × (us ≡ ws)

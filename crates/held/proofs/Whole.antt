@@ -14,14 +14,14 @@ use Rattle.meaning.specs.Signals.{Names}
 use Rattle.meaning.specs.Timing.{Tables}
 use Rattle.meaning.specs.Body.{Body, done, inner, entered, listed}
 use Rattle.meaning.specs.Statements.{Decl, Decls, Env}
-use Rattle.meaning.specs.Document.{oneBody, oneMacro, oneProcedure, bodies, pattern, patterns, Read}
+use Rattle.meaning.specs.Document.{oneMacro, oneProcedure, bodies, pattern, patterns, Read}
 use Rattle.meaning.specs.Meaning.{Answer, given, refused, answering, runOf}
-use Rattle.meaning.proofs.Gives.{Gives, gives-bind, gives-give, gives-while}
 use Rattle.held.specs.Held.{Stands, AllStand, Listed}
+use Rattle.held.proofs.Leads.{Leads, leads-bind, leads-give, leads-while}
 use Rattle.held.proofs.Again.{Later}
 use Rattle.held.proofs.Held.{found-stands, held}
 use Rattle.held.proofs.Declared.{More, one-body, one-pattern}
-use Rattle.held.proofs.Bodies.{gives-bodies, bodies-stay}
+use Rattle.held.proofs.Bodies.{leads-bodies, bodies-stay}
 use Rattle.held.proofs.Parts.{firstEnv, Parts}
 
 pub later-self : (e : Env) → Later e e
@@ -49,60 +49,54 @@ module _ (E : Env) where
   pub record Growing (e : Env) : Type 0 where
     pub all : Later e E → AllStand E (e .macros) × AllStand E (e .procs)
 
-  abbrev OneMore : Env → Decls → Decls → Type 0
-  OneMore e complete l = (ts : Toks) × (us : Toks) × More e true complete complete ts l us
-
-  gives-more : (e : Env) (n : ℕ) (complete : Decls) → Gives (OneMore e complete) (oneBody e n complete)
-  gives-more e n complete = record { all = λ ts l us q. (ts, us, one-body e n complete ts .all l us q) }
-
-  pub growing-macro : (e : Env) → Growing e → Gives Growing (oneMacro e)
+  pub growing-macro : (e : Env) (ts : Toks) → Growing e → Leads (oneMacro e) ts (λ f us. Growing f)
   unfolding oneMacro
-  growing-macro e h = gives-bind (OneMore e (e .macros)) Growing _ _ (gives-more e _ (e .macros)) λ l q. gives-give Growing _ (record {
+  growing-macro e ts h = leads-bind _ _ λ l us q. leads-give _ (record {
     all = λ later. (
-        let x : Tok × Decl = (q .2 .name, q .2 .body) in
+        let m = one-body e _ (e .macros) ts .all l us q in
         let p : Later e E = record {
           names = later .names;
           tables = later .tables;
-          macros = x ∷ later .macros;
+          macros = (m .name, m .body) ∷ later .macros;
           procs = later .procs;
-          macros-is = earlier (e .macros) x l (later .macros) (E .macros) (q .2 .is) (later .macros-is);
+          macros-is = earlier (e .macros) (m .name, m .body) l (later .macros) (E .macros) (m .is) (later .macros-is);
           procs-is = later .procs-is;
         } in
         let k = h .all p in
-        (more-stands e p (k .0) (k .1) true _ (e .macros) _ l _ (q .2) (k .0), k .1));
+        (more-stands e p (k .0) (k .1) true _ (e .macros) ts l us m (k .0), k .1));
   })
 
-  pub growing-procedure : (e : Env) → Growing e → Gives Growing (oneProcedure e)
+  pub growing-procedure : (e : Env) (ts : Toks) → Growing e → Leads (oneProcedure e) ts (λ f us. Growing f)
   unfolding oneProcedure
-  growing-procedure e h = gives-bind (OneMore e (e .procs)) Growing _ _ (gives-more e _ (e .procs)) λ l q. gives-give Growing _ (record {
+  growing-procedure e ts h = leads-bind _ _ λ l us q. leads-give _ (record {
     all = λ later. (
-        let x : Tok × Decl = (q .2 .name, q .2 .body) in
+        let m = one-body e _ (e .procs) ts .all l us q in
         let p : Later e E = record {
           names = later .names;
           tables = later .tables;
           macros = later .macros;
-          procs = x ∷ later .procs;
+          procs = (m .name, m .body) ∷ later .procs;
           macros-is = later .macros-is;
-          procs-is = earlier (e .procs) x l (later .procs) (E .procs) (q .2 .is) (later .procs-is);
+          procs-is = earlier (e .procs) (m .name, m .body) l (later .procs) (E .procs) (m .is) (later .procs-is);
         } in
         let k = h .all p in
-        (k .0, more-stands e p (k .0) (k .1) true _ (e .procs) _ l _ (q .2) (k .1)));
+        (k .0, more-stands e p (k .0) (k .1) true _ (e .procs) ts l us m (k .1)));
   })
 
   -- ---- patterns
 
   module _ (ms : AllStand E (E .macros)) (ps : AllStand E (E .procs)) where
-    pattern-stands : (b : Tok) (l : Decls) → AllStand E l → Gives (AllStand E) (pattern E b l)
-    pattern-stands b l h = record {
-      all = λ ts m us q. (
+    pattern-stands : (b : Tok) (l : Decls) (ts : Toks) → AllStand E l → Leads (pattern E b l) ts (λ l us. AllStand E l)
+    pattern-stands b l ts h = record {
+      all = λ m us q. (
           let i = one-pattern E b l ts .all m us q in
           more-stands E (later-self E) ms ps false _ l _ m us (i .3) h);
     }
 
-    pub patterns-stand : (b : Tok) → Gives (AllStand E) (patterns E b)
+    pub patterns-stand : (b : Tok) (ts : Toks) → Leads (patterns E b) ts (λ l us. AllStand E l)
     unfolding patterns AllStand
-    patterns-stand b =
-        gives-bind (AllStand E) (AllStand E) _ _ (pattern-stands b [] tt) λ l h. gives-while (AllStand E) _ _ (pattern-stands b) l h
+    patterns-stand b ts =
+        leads-bind _ _ λ l us q. leads-while (λ l us. AllStand E l) (pattern E b) (pattern-stands b) _ l us (pattern-stands b [] ts tt .all l us q)
 
   -- ---- the run
 
@@ -129,7 +123,8 @@ module _ (E : Env) where
 pub bodies-stand : (ns : Names) (tabs : Tables) (ts : Toks) (E : Env) (us : Toks) → bodies (firstEnv ns tabs) ts ≡ ok E us → AllStand E (E .macros) × AllStand E (E .procs)
 unfolding AllStand
 bodies-stand ns tabs ts E us q =
-    gives-bodies (Growing E) (growing-macro E) (growing-procedure E) (firstEnv ns tabs) (record { all = λ later. (tt, tt) }) .all ts E us q .all (later-self E)
+    leads-bodies (λ e us. Growing E e) (λ e us ts r h. h) (growing-macro E) (growing-procedure E) (firstEnv ns tabs) ts (record { all = λ later. (tt, tt) })
+    .all E us q .all (later-self E)
 
 -- in a text that was read, all that is declared stands, and names and tables are the text's
 pub record Whole (E : Env) (ns : Names) (d : Read) : Type 0 where
@@ -141,6 +136,6 @@ pub record Whole (E : Env) (ns : Names) (d : Read) : Type 0 where
 
 pub whole : (ts : Toks) (d : Read) (us : Toks) (p : Parts ts d us) → Whole (p .env) (p .names) d
 whole ts d us p =
-    let s = bodies-stay (firstEnv (p .names) (d .tables)) .all _ _ _ (p .bodies-read) in
+    let s = bodies-stay (firstEnv (p .names) (d .tables)) (p .bodies-at) .all _ _ (p .bodies-read) in
     let k = bodies-stand (p .names) (d .tables) _ _ _ (p .bodies-read) in
-    record { names = s .0; tables = s .1; macros = k .0; procs = k .1; patterns = patterns-stand (p .env) (k .0) (k .1) (p .burst-name) .all _ _ _ (p .patterns-read) }
+    record { names = s .0; tables = s .1; macros = k .0; procs = k .1; patterns = patterns-stand (p .env) (k .0) (k .1) (p .burst-name) (p .patterns-at) .all _ _ (p .patterns-read) }

@@ -1,9 +1,12 @@
--- Where tokens hold a body: one statement's head at a time, as a player reads it; a used body is held where it was declared.
+-- Where tokens hold a body: one statement's head at a time, as a player reads it; a used body is held where it was declared. And where
+-- in a text a declared body begins.
 use mathlib.Core.Path.{_≡_}
+use Prim.Native.Nat.{ℕ, _+_}
 use mathlib.Core.Bool.{true, false}
 use mathlib.Core.Option.{some}
 use mathlib.Core.List.{List, [], _∷_}
-use Rattle.tokens.specs.Tokens.{Tok, Toks}
+use Rattle.tokens.specs.Written.{bytes}
+use Rattle.tokens.specs.Tokens.{Tok, Toks, tok, toks}
 use Rattle.meaning.specs.Bounds.{depthMost}
 use Rattle.meaning.specs.Reader.{Reader, ok}
 use Rattle.meaning.specs.Names.{find}
@@ -39,3 +42,15 @@ module _ (e : Env) where
   Listed ps [] r = r ≡ done
   Listed ps (t ∷ l) r =
       (x : Decl) × (s : Body) × (r ≡ inner (entered listed 0 []) (x .body) s) × (find ps (t .word) ≡ some x) × Stands x × Listed ps l s
+
+-- a declared body in a text: from some place on its name is next, then `{`, and then the body, from the byte behind the `{` on
+pub record Placed (text : List ℕ) (x : Tok × Decl) : Type 0 where
+  pub at : ℕ
+  pub brace : ℕ
+  pub named : toks text at ≡ tok (x .0) (tok (record { at = brace; word = bytes "{" }) (x .1 .from))
+  pub from : x .1 .from ≡ toks text (brace + 1)
+
+-- each of some
+unfoldable pub AllPlaced : List ℕ → Decls → Type 0
+AllPlaced text [] = Unit {0}
+AllPlaced text (x ∷ l) = Placed text x × AllPlaced text l
