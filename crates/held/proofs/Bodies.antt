@@ -1,7 +1,8 @@
 -- What each declaration of a macro or procedure keeps, all of them keep.
 use mathlib.Core.Path.{_≡_, refl}
+use Prim.Native.String.{String}
 use Rattle.tokens.specs.Tokens.{Toks}
-use Rattle.meaning.specs.Reader.{Reader, _>>=_, ahead, option}
+use Rattle.meaning.specs.Reader.{Reader, _>>=_, _>>_, ahead, due, until, option}
 use Rattle.meaning.specs.Signals.{Names}
 use Rattle.meaning.specs.Timing.{Tables}
 use Rattle.meaning.specs.Statements.{Env}
@@ -13,16 +14,19 @@ module _ (I : Env → Toks → Type 0) (stable : (e : Env) (us ts : Toks) → Re
   abbrev pub Keeping : (Env → Reader Env) → Type 0
   Keeping step = (e : Env) (ts : Toks) → I e ts → Leads (step e) ts I
 
+  -- a block of them
+  block : (w : String) (step : Env → Reader Env) → Keeping step → Keeping (λ e. do due w; due "{"; until "}" step e)
+  block w step h e ts i = leads-bind _ _ λ p vs v. leads-bind _ _ λ q ws u. leads-until I step h stable "}" e ws
+      (stable e ws vs (moves-leaves (moves-due _) .rest vs q ws u) (stable e vs ts (moves-leaves (moves-due _) .rest ts p vs v) i))
+
   module _ (macro : Keeping oneMacro) (procedure : Keeping oneProcedure) where
     leads-macros : Keeping macroDefs
     unfolding macroDefs
-    leads-macros e ts i = leads-bind _ _ λ p vs v. leads-bind _ _ λ q ws w. leads-until I oneMacro macro stable "}" e ws
-        (stable e ws vs (moves-leaves (moves-due _) .rest vs q ws w) (stable e vs ts (moves-leaves (moves-due _) .rest ts p vs v) i))
+    leads-macros = block "MacroDefs" oneMacro macro
 
     leads-procedures : Keeping procedures
     unfolding procedures
-    leads-procedures e ts i = leads-bind _ _ λ p vs v. leads-bind _ _ λ q ws w. leads-until I oneProcedure procedure stable "}" e ws
-        (stable e ws vs (moves-leaves (moves-due _) .rest vs q ws w) (stable e vs ts (moves-leaves (moves-due _) .rest ts p vs v) i))
+    leads-procedures = block "Procedures" oneProcedure procedure
 
     both : (m n : Env → Reader Env) → Keeping m → Keeping n → (e : Env) (ts : Toks) → I e ts → Leads (m e >>= n) ts I
     both m n f g e ts i = leads-bind (m e) n λ e′ us q. g e′ us (f e ts i .all e′ us q)

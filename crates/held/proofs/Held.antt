@@ -1,22 +1,20 @@
 -- A body that is read is held where it is read.
-use mathlib.Core.Path.{_≡_, refl, _∙_, subst}
+use mathlib.Core.Path.{_≡_, refl, _∙_}
 use Prim.Native.Nat.{ℕ, zero, suc, _≤_}
 use native.Mathlib.Omega.{arith}
 use mathlib.Core.Bool.{Bool, true, false}
-use mathlib.Core.Option.{Option, some}
-use mathlib.Core.List.{List, [], _∷_}
-use Rattle.tokens.specs.Written.{same}
 use Rattle.tokens.specs.Tokens.{Tok, Toks, left}
 use Rattle.meaning.specs.Refusals.{tooDeep}
 use Rattle.meaning.specs.Bounds.{depthMost}
 use Rattle.meaning.specs.Reader.{Reader, ok, give}
-use Rattle.meaning.specs.Names.{find, oldName}
+use Rattle.meaning.specs.Names.{oldName}
 use Rattle.meaning.specs.Signals.{Names}
 use Rattle.meaning.specs.Body.{Kind, Body}
 use Rattle.meaning.specs.Statements.{Decl, Decls, Env, Head, ends, vecs, sets, loops, shifts, uses, used, chosen, looping, shiftHead, head, inShift, behind, statementsF, statements}
 use Rattle.meaning.proofs.Gives.{known-ok, bind-go, Gives, gives-bind, gives-after, gives-give, gives-choose}
 use Rattle.meaning.proofs.Choices.{_also_}
-use Rattle.held.specs.Held.{freeHead, Holds, Stands, AllStand}
+use Rattle.held.specs.Held.{HeadAt, Holds, Stands, AllStand}
+use Rattle.held.proofs.All.{all-found}
 use Rattle.held.proofs.Again.{Later, grows-head}
 use Rattle.held.proofs.Leads.{Leads, leads-bind, leads-give, leads-if, leads-refuse}
 use Rattle.held.proofs.Due.{head-end, head-vector}
@@ -24,19 +22,10 @@ use Rattle.held.proofs.Due.{head-end, head-vector}
 module _ (E : Env) where
   -- ---- a used body stands, for it was declared
 
-  pub found-stands : (l : Decls) → AllStand E l → (w : List ℕ) (d : Decl) → find l w ≡ some d → Stands E d
-  unfolding find AllStand
-  found-stands [] h w d e = let z : _≡_ {A = ℕ} 0 1 = cc in absurd (omega arith)
-  found-stands (x ∷ l) h w d e = by (same (x .0 .word) w) e (found-stands l (h .1) w d)
-    where
-      by : (c : Bool) → _≡_ {A = Option Decl} (elim c [ true ↦ some (x .1) | false ↦ find l w ]) (some d) → (find l w ≡ some d → Stands E d) → Stands E d
-      by true e ih = let q : x .1 ≡ d = cc in subst (Stands E) q (h .0)
-      by false e ih = ih e
-
   name-stands : (l : Decls) → AllStand E l → Gives (λ x. Stands E (x .1)) (oldName l)
   unfolding oldName
   name-stands l h =
-      gives-after Q _ _ λ t. gives-bind (Stands E) Q _ _ (record { all = λ ts d us e. found-stands l h (t .word) d (known-ok _ _ _ ts e) }) λ d q. gives-give Q (t, d) q
+      gives-after Q _ _ λ t. gives-bind (Stands E) Q _ _ (record { all = λ ts d us e. all-found _ l h (t .word) d (known-ok _ _ _ ts e) .1 }) λ d q. gives-give Q (t, d) q
     where
       Q : Tok × Decl → Type 0
       Q x = Stands E (x .1)
@@ -81,7 +70,7 @@ module _ (E : Env) where
       (ws, head-vector E ts p vs v ∙ bind-go _ _ vs a ws w, head-end E ws q us u)
 
   module _ (ns : Names) (names : ns ≡ E .names) (within : Reader Body) (inside : Holding within) (on : Bool → Reader Body) (rest : (seen : Bool) → Holding (on seen)) where
-    holding-behind : (seen : Bool) (h : Head) → Sound h → (ts vs : Toks) → freeHead E ts ≡ ok h vs → Leads (behind ns within on seen h) vs (Holds E ts)
+    holding-behind : (seen : Bool) (h : Head) → Sound h → (ts vs : Toks) → HeadAt E ts h vs → Leads (behind ns within on seen h) vs (Holds E ts)
     unfolding behind Holds
     holding-behind seen ends s ts vs x = leads-give _ x
     holding-behind seen (vecs p a) s ts vs x = leads-bind _ _ λ r us q. leads-give _ (vs, x, rest seen vs .all r us q)

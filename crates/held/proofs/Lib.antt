@@ -4,6 +4,7 @@ pub mod Turn
 pub mod Again
 pub mod Leads
 pub mod Due
+pub mod All
 pub mod Held
 pub mod Only
 pub mod Declared

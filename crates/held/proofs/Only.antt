@@ -4,7 +4,7 @@ use Rattle.tokens.specs.Tokens.{Toks}
 use Rattle.meaning.specs.Reader.{ok}
 use Rattle.meaning.specs.Body.{looped, shifted, entered, Way, Body, done, vec, set′, inner}
 use Rattle.meaning.specs.Statements.{Env, Head, ends, vecs, sets, loops, shifts, uses}
-use Rattle.held.specs.Held.{freeHead, Holds, Stands}
+use Rattle.held.specs.Held.{HeadAt, Holds, Stands}
 
 module _ (E : Env) where
   -- a statement that plays a body in some way, both held: the body from vs, what is behind from where the body ends
@@ -21,7 +21,7 @@ module _ (E : Env) where
   Split (uses k x t a) vs b us = (r : Body) × (b ≡ inner (entered k t a) (x .body) r) × Stands E x × Holds E vs r us
 
   -- where a body is held a head is read, with the rest of the body behind it
-  pub head-held : (ts : Toks) (b : Body) (us : Toks) → Holds E ts b us → (h : Head) × (vs : Toks) × (freeHead E ts ≡ ok h vs) × Split h vs b us
+  pub head-held : (ts : Toks) (b : Body) (us : Toks) → Holds E ts b us → (h : Head) × (vs : Toks) × HeadAt E ts h vs × Split h vs b us
   unfolding Holds
   head-held ts done us x = (ends, us, x, (refl, refl))
   head-held ts (vec p a r) us x = (vecs p a, x .0, x .1, (r, refl, x .2))
@@ -31,7 +31,7 @@ module _ (E : Env) where
   head-held ts (inner (entered k t a) b r) us x = (uses k (x .2) t a, x .0, x .3, (r, rw (x .4), (x .1, rw (x .4) (x .5)), x .6))
 
   -- THE LAW: a head that was read gives the body's shape
-  pub split : (ts : Toks) (b : Body) (us : Toks) → Holds E ts b us → (h : Head) (vs : Toks) → freeHead E ts ≡ ok h vs → Split h vs b us
+  pub split : (ts : Toks) (b : Body) (us : Toks) → Holds E ts b us → (h : Head) (vs : Toks) → HeadAt E ts h vs → Split h vs b us
   split ts b us x h vs e =
       let i = head-held ts b us x in
       let z : ok (i .0) (i .1) ≡ ok h vs = sym (i .2) ∙ e in

@@ -2,7 +2,7 @@
 use mathlib.Core.Path.{_≡_, refl, sym, _∙_}
 use Prim.Native.Nat.{ℕ}
 use mathlib.Core.Bool.{Bool}
-use mathlib.Core.List.{List, [], _∷_, _++_}
+use mathlib.Core.List.{List, []}
 use Rattle.tokens.specs.Written.{bytes}
 use Rattle.tokens.specs.Tokens.{Tok, Toks, tok, toks}
 use Rattle.tokens.proofs.Laws.{unfolds}
@@ -11,7 +11,8 @@ use Rattle.meaning.specs.Groups.{groups}
 use Rattle.meaning.specs.Timing.{Tables}
 use Rattle.meaning.specs.Statements.{Decl, Decls, Env}
 use Rattle.meaning.specs.Document.{oneBody, oneMacro, oneProcedure, bodies, pattern, patterns, Read}
-use Rattle.held.specs.Held.{Placed, AllPlaced}
+use Rattle.held.specs.Held.{All, Placed}
+use Rattle.held.proofs.All.{all-more}
 use Rattle.held.proofs.Rest.{Rest, all, behind, moving, moves-leaves, moves-bind, moves-due, leaves-option}
 use Rattle.held.proofs.Grammar.{moves-signals, moves-groups, moves-timing, moves-body, moves-burst, moves-exec, moves-pattern}
 use Rattle.held.proofs.Leads.{Leads, leads-bind, leads-give, leads-while}
@@ -37,20 +38,15 @@ module _ (text : List ℕ) where
       let v = unfolds text _ (record { at = p; word = bytes "{" }) (d .from) (sym (u .rest)) in
       record { at = h .0; brace = p; named = f; from = v .rest }
 
-  all-more : (l : Decls) (x : Tok × Decl) → AllPlaced text l → Placed text x → AllPlaced text (l ++ x ∷ [])
-  unfolding AllPlaced
-  all-more [] x h k = (k, tt)
-  all-more (y ∷ l) x h k = (h .0, all-more l x (h .1) k)
-
   -- THE LAW of one declaration
-  pub more-placed : (e : Env) (own : Bool) (names complete : Decls) (ts : Toks) (l : Decls) (us : Toks) → More e own names complete ts l us → Stream ts → AllPlaced text complete → AllPlaced text l
+  pub more-placed : (e : Env) (own : Bool) (names complete : Decls) (ts : Toks) (l : Decls) (us : Toks) → More e own names complete ts l us → Stream ts → All (Placed text) complete → All (Placed text) l
   more-placed e own names complete ts l us m s h =
-      rw (m .is) (all-more complete (m .name, m .body) h (placed ts s (m .name) (m .brace) (m .body) (new-is names ts .all _ _ (m .named))))
+      rw (m .is) (all-more _ complete (m .name, m .body) h (placed ts s (m .name) (m .brace) (m .body) (new-is names ts .all _ _ (m .named))))
 
   -- some declared bodies, and what stands behind them
   pub record PlacedAll (l : Decls) (ts : Toks) : Type 0 where
     pub stream : Stream ts
-    pub placed : AllPlaced text l
+    pub placed : All (Placed text) l
 
   -- ---- macros and procedures
 
@@ -64,8 +60,8 @@ module _ (text : List ℕ) where
 
   pub record PlacedIn (e : Env) (ts : Toks) : Type 0 where
     pub stream : Stream ts
-    pub macros : AllPlaced text (e .macros)
-    pub procs : AllPlaced text (e .procs)
+    pub macros : All (Placed text) (e .macros)
+    pub procs : All (Placed text) (e .procs)
 
   macro-placed : (e : Env) (ts : Toks) → PlacedIn e ts → Leads (oneMacro e) ts PlacedIn
   unfolding oneMacro
@@ -80,7 +76,7 @@ module _ (text : List ℕ) where
       leads-give _ (record { stream = k .stream; macros = h .macros; procs = k .placed })
 
   pub bodies-placed : (ns : Names) (tabs : Tables) (ts : Toks) → Stream ts → Leads (bodies (firstEnv ns tabs)) ts PlacedIn
-  unfolding AllPlaced
+  unfolding All
   bodies-placed ns tabs ts s =
       leads-bodies PlacedIn (λ e us ts r h. record { stream = rest-stream r (h .stream); macros = h .macros; procs = h .procs }) macro-placed procedure-placed
       (firstEnv ns tabs) ts (record { stream = s; macros = tt; procs = tt })
@@ -98,16 +94,16 @@ module _ (text : List ℕ) where
   }
 
   pub patterns-placed : (e : Env) (b : Tok) (ts : Toks) → Stream ts → Leads (patterns e b) ts PlacedAll
-  unfolding patterns AllPlaced
+  unfolding patterns All
   patterns-placed e b ts s =
       leads-bind _ _ λ l us q. leads-while PlacedAll (pattern e b) (pattern-placed e b) _ l us (pattern-placed e b [] ts (record { stream = s; placed = tt }) .all l us q)
 
   -- ---- the whole text
 
   pub record Places (E : Env) (d : Read) : Type 0 where
-    pub macros : AllPlaced text (E .macros)
-    pub procs : AllPlaced text (E .procs)
-    pub patterns : AllPlaced text (d .patterns)
+    pub macros : All (Placed text) (E .macros)
+    pub procs : All (Placed text) (E .procs)
+    pub patterns : All (Placed text) (d .patterns)
 
   -- THE LAW: every body that a text declares has its place in the text
   pub places : (d : Read) (us : Toks) (p : Parts (toks text 0) d us) → Places (p .env) d

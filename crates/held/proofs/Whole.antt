@@ -16,10 +16,11 @@ use Rattle.meaning.specs.Body.{Body, done, inner, entered, listed}
 use Rattle.meaning.specs.Statements.{Decl, Decls, Env}
 use Rattle.meaning.specs.Document.{oneMacro, oneProcedure, bodies, pattern, patterns, Read}
 use Rattle.meaning.specs.Meaning.{Answer, given, refused, answering, runOf}
-use Rattle.held.specs.Held.{Stands, AllStand, Listed}
+use Rattle.held.specs.Held.{All, AllStand, Listed}
+use Rattle.held.proofs.All.{all-more, all-found}
 use Rattle.held.proofs.Leads.{Leads, leads-bind, leads-give, leads-while}
 use Rattle.held.proofs.Again.{Later}
-use Rattle.held.proofs.Held.{found-stands, held}
+use Rattle.held.proofs.Held.{held}
 use Rattle.held.proofs.Declared.{More, one-body, one-pattern}
 use Rattle.held.proofs.Bodies.{leads-bodies, bodies-stay}
 use Rattle.held.proofs.Parts.{firstEnv, Parts}
@@ -32,16 +33,11 @@ earlier : (known : Decls) (x : Tok × Decl) (l more all : Decls) → l ≡ known
 earlier known x l more all is e = sym (append-assoc known (x ∷ []) more) ∙ (rw is at e)
 
 module _ (E : Env) where
-  all-more : (l : Decls) (t : Tok) (d : Decl) → AllStand E l → Stands E d → AllStand E (l ++ (t, d) ∷ [])
-  unfolding AllStand
-  all-more [] t d h x = (x, tt)
-  all-more (y ∷ l) t d h x = (h .0, all-more l t d (h .1) x)
-
   -- THE LAW of one declaration: it stands with those before it
   pub more-stands : (e : Env) → Later e E → AllStand E (e .macros) → AllStand E (e .procs)
       → (own : Bool) (names complete : Decls) (ts : Toks) (l : Decls) (us : Toks) → More e own names complete ts l us → AllStand E complete → AllStand E l
   more-stands e later ms ps own names complete ts l us m h =
-      rw (m .is) (all-more complete (m .name) (m .body) h (us, held E e later ms ps depthMost (omega arith) own (m .body .from) (m .body .body) us (m .read)))
+      rw (m .is) (all-more _ complete (m .name, m .body) h (us, held E e later ms ps depthMost (omega arith) own (m .body .from) (m .body .body) us (m .read)))
 
   -- ---- macros and procedures
 
@@ -94,7 +90,7 @@ module _ (E : Env) where
     }
 
     pub patterns-stand : (b : Tok) (ts : Toks) → Leads (patterns E b) ts (λ l us. AllStand E l)
-    unfolding patterns AllStand
+    unfolding patterns All
     patterns-stand b ts =
         leads-bind _ _ λ l us q. leads-while (λ l us. AllStand E l) (pattern E b) (pattern-stands b) _ l us (pattern-stands b [] ts tt .all l us q)
 
@@ -107,7 +103,7 @@ module _ (E : Env) where
     where
       on : (x : Decl) → find ps (t .word) ≡ some x → (a : Answer Body) → answering a (λ s. given (inner (entered listed 0 []) (x .body) s)) ≡ given r
           → ((s : Body) → a ≡ given s → Listed E ps l s) → Listed E ps (t ∷ l) r
-      on x f (given s) e ih = let q : inner (entered listed 0 []) (x .body) s ≡ r = cc in (x, s, sym q, f, found-stands E ps h (t .word) x f, ih s refl)
+      on x f (given s) e ih = let q : inner (entered listed 0 []) (x .body) s ≡ r = cc in (x, s, sym q, f, all-found _ ps h (t .word) x f .1, ih s refl)
       on x f (refused n p) e ih = let z : _≡_ {A = ℕ} 0 1 = cc in absurd (omega arith)
 
       by : (o : Option Decl) → find ps (t .word) ≡ o
@@ -121,7 +117,7 @@ module _ (E : Env) where
 
 -- where the declarations were read, every macro and procedure stands
 pub bodies-stand : (ns : Names) (tabs : Tables) (ts : Toks) (E : Env) (us : Toks) → bodies (firstEnv ns tabs) ts ≡ ok E us → AllStand E (E .macros) × AllStand E (E .procs)
-unfolding AllStand
+unfolding All
 bodies-stand ns tabs ts E us q =
     leads-bodies (λ e us. Growing E e) (λ e us ts r h. h) (growing-macro E) (growing-procedure E) (firstEnv ns tabs) ts (record { all = λ later. (tt, tt) })
     .all E us q .all (later-self E)

@@ -17,25 +17,32 @@ use Rattle.meaning.specs.Statements.{Decl, Decls, Env, Head, ends, vecs, sets, 
 abbrev pub freeHead : Env → Reader Head
 freeHead e = head e true depthMost false
 
+-- each of some declared bodies
+unfoldable pub All : (Tok × Decl → Type 0) → Decls → Type 0
+All P [] = Unit {0}
+All P (x ∷ l) = P x × All P l
+
 module _ (e : Env) where
+  -- at ts the head h stands, and vs behind it
+  abbrev pub HeadAt : Toks → Head → Toks → Type 0
+  HeadAt ts h vs = freeHead e ts ≡ ok h vs
+
   -- from ts the tokens hold the statements of a body and its `}`, behind which us stand
   unfoldable pub Holds : Toks → Body → Toks → Type 0
-  Holds ts done us = freeHead e ts ≡ ok ends us
-  Holds ts (vec p a r) us = (vs : Toks) × (freeHead e ts ≡ ok (vecs p a) vs) × Holds vs r us
-  Holds ts (set′ x r) us = (vs : Toks) × (freeHead e ts ≡ ok (sets x) vs) × Holds vs r us
-  Holds ts (inner (looped n) b r) us = (vs : Toks) × (ws : Toks) × (freeHead e ts ≡ ok (loops n) vs) × Holds vs b ws × Holds ws r us
-  Holds ts (inner shifted b r) us = (vs : Toks) × (ws : Toks) × (freeHead e ts ≡ ok shifts vs) × Holds vs b ws × Holds ws r us
+  Holds ts done us = HeadAt ts ends us
+  Holds ts (vec p a r) us = (vs : Toks) × HeadAt ts (vecs p a) vs × Holds vs r us
+  Holds ts (set′ x r) us = (vs : Toks) × HeadAt ts (sets x) vs × Holds vs r us
+  Holds ts (inner (looped n) b r) us = (vs : Toks) × (ws : Toks) × HeadAt ts (loops n) vs × Holds vs b ws × Holds ws r us
+  Holds ts (inner shifted b r) us = (vs : Toks) × (ws : Toks) × HeadAt ts shifts vs × Holds vs b ws × Holds ws r us
   Holds ts (inner (entered k t a) b r) us =
-      (vs : Toks) × (ws : Toks) × (x : Decl) × (freeHead e ts ≡ ok (uses k x t a) vs) × (x .body ≡ b) × Holds (x .from) b ws × Holds vs r us
+      (vs : Toks) × (ws : Toks) × (x : Decl) × HeadAt ts (uses k x t a) vs × (x .body ≡ b) × Holds (x .from) b ws × Holds vs r us
 
   -- a declared body is held where it was declared
   abbrev pub Stands : Decl → Type 0
   Stands d = (us : Toks) × Holds (d .from) (d .body) us
 
-  -- each of some
-  unfoldable pub AllStand : Decls → Type 0
-  AllStand [] = Unit {0}
-  AllStand (x ∷ l) = Stands (x .1) × AllStand l
+  abbrev pub AllStand : Decls → Type 0
+  AllStand = All (λ x. Stands (x .1))
 
   -- the run: each listed name's pattern, held where it stands
   unfoldable pub Listed : Decls → List Tok → Body → Type 0
@@ -49,8 +56,3 @@ pub record Placed (text : List ℕ) (x : Tok × Decl) : Type 0 where
   pub brace : ℕ
   pub named : toks text at ≡ tok (x .0) (tok (record { at = brace; word = bytes "{" }) (x .1 .from))
   pub from : x .1 .from ≡ toks text (brace + 1)
-
--- each of some
-unfoldable pub AllPlaced : List ℕ → Decls → Type 0
-AllPlaced text [] = Unit {0}
-AllPlaced text (x ∷ l) = Placed text x × AllPlaced text l
