@@ -30,6 +30,7 @@ module _ (E : Env) where
       Q : Tok × Decl → Type 0
       Q x = Stands E (x .1)
 
+  -- a head that uses no body, or one that stands
   abbrev Sound : Head → Type 0
   Sound ends = Unit {0}
   Sound (vecs p a) = Unit {0}

@@ -8,7 +8,7 @@ use Rattle.held.specs.Held.{HeadAt, Holds, Stands}
 
 module _ (E : Env) where
   -- a statement that plays a body in some way, both held: the body from vs, what is behind from where the body ends
-  abbrev Opened : Way → Toks → Body → Toks → Type 0
+  abbrev pub Opened : Way → Toks → Body → Toks → Type 0
   Opened w vs b us = (c : Body) × (r : Body) × (ws : Toks) × (b ≡ inner w c r) × Holds E vs c ws × Holds E ws r us
 
   -- what the body b is, once a head was read, behind which vs stand
@@ -39,6 +39,7 @@ module _ (E : Env) where
       let s : i .1 ≡ vs = cc in
       rw (← q, ← s) (i .3)
 
+  -- two statements opened alike, with one body in them and one rest behind it, are one
   one-opened : (w : Way) (vs : Toks) (c : Body) (ws : Toks) (z : Opened w vs c ws) (b r : Body) (bs us : Toks)
       → (b ≡ z .0) × (bs ≡ z .2) → (Holds E bs (z .1) ws → (r ≡ z .1) × (us ≡ ws)) → (inner w b r ≡ c) × (us ≡ ws)
   one-opened w vs c ws z b r bs us i h = let j = h (rw (i .1) (z .5)) in (cc, j .1)

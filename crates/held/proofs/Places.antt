@@ -30,6 +30,7 @@ module _ (text : List ℕ) where
   rest-stream all h = h
   rest-stream (behind {t} {us} {ts} r) h = rest-stream r (_, unfolds text (h .0) t ts (sym (h .1)) .rest)
 
+  -- a name and a `{` at the front of a stream of the text place the body
   placed : (ts : Toks) → Stream ts → (t : Tok) (p : ℕ) (d : Decl) → ts ≡ tok t (tok (record { at = p; word = bytes "{" }) (d .from)) → Placed text (t, d)
   unfolding bytes
   placed ts h t p d e =
@@ -38,7 +39,7 @@ module _ (text : List ℕ) where
       let v = unfolds text _ (record { at = p; word = bytes "{" }) (d .from) (sym (u .rest)) in
       record { at = h .0; brace = p; named = f; from = v .rest }
 
-  -- THE LAW of one declaration
+  -- THE LAW of one declaration: it has its place, with those before it
   pub more-placed : (e : Env) (own : Bool) (names complete : Decls) (ts : Toks) (l : Decls) (us : Toks) → More e own names complete ts l us → Stream ts → All (Placed text) complete → All (Placed text) l
   more-placed e own names complete ts l us m s h =
       rw (m .is) (all-more _ complete (m .name, m .body) h (placed ts s (m .name) (m .brace) (m .body) (new-is names ts .all _ _ (m .named))))
