@@ -1,0 +1,8 @@
+pub mod Flow
+mod Ahead
+pub mod Choice
+pub mod Loops
+pub mod Words
+mod Numbers
+mod Tables
+pub mod Names

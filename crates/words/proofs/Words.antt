@@ -1,0 +1,152 @@
+-- The definitions on words, at a place of a word: one turn of a loop is one step of a definition.
+use Prim.Native.Nat.{ℕ, _+_, _≤_, _<_}
+use Prim.Native.String.{String}
+use mathlib.Core.Path.{_≡_, refl, sym, ap, _∙_}
+use native.Mathlib.Omega.{arith}
+use native.Mathlib.Numerals.{add-one}
+use mathlib.Core.Bool.{Bool, true, false, not, _&&_, _||_, and-false, or-false}
+use mathlib.Core.List.{List, [], _∷_}
+use borrow.Author.Tests.{eq-eqb, ne-eqb, eqb-true, eqb-false}
+use lib.Dec.{leb, eqb}
+use lib.Seq.{drop-cons}
+use lib.ListN.{length, getD, drop, drop-of-length-le}
+use Rattle.tokens.specs.Written.{bytes, same}
+use Rattle.tokens.specs.Bytes.{wordy, digit}
+use Rattle.meaning.specs.Bounds.{nameMost}
+use Rattle.meaning.specs.Reader.{isWord}
+use Rattle.meaning.specs.Lists.{has}
+use Rattle.meaning.specs.Names.{reserved, among, isName}
+
+pub cut : (t : List ℕ) (i : ℕ) → i < length t → drop i t ≡ getD t i 0 ∷ drop (i + 1) t
+cut t i h = rw (add-one, drop-cons t i 0)
+
+-- ---- equal words
+
+-- words of different lengths differ
+pub same-long : (w v : List ℕ) → (length w ≡ length v → ⊥) → same w v ≡ false
+unfolding same
+same-long [] [] h = absurd (h refl)
+same-long [] (b ∷ v) h = refl
+same-long (a ∷ w) [] h = refl
+same-long (a ∷ w) (b ∷ v) h = ap (λ (x : Bool). eqb a b && x) (same-long w v (λ e. h (omega arith))) ∙ and-false (eqb a b)
+
+module _ (w v : List ℕ) (i : ℕ) where
+  pub same-more : i < length w → i < length v → getD w i 0 ≡ getD v i 0 → same (drop i w) (drop i v) ≡ same (drop (i + 1) w) (drop (i + 1) v)
+  unfolding same
+  same-more h k e = rw (cut w i h, cut v i k) (rw (eq-eqb _ _ e))
+
+  pub same-differ : i < length w → i < length v → (getD w i 0 ≡ getD v i 0 → ⊥) → same (drop i w) (drop i v) ≡ false
+  unfolding same
+  same-differ h k e = rw (cut w i h, cut v i k) (rw (ne-eqb _ _ e))
+
+  pub same-end : length w ≤ i → length v ≤ i → same (drop i w) (drop i v) ≡ true
+  unfolding same
+  same-end h k = rw (drop-of-length-le w h, drop-of-length-le v k)
+
+pub same-eq : (w v : List ℕ) → same w v ≡ true → w ≡ v
+unfolding same
+same-eq [] [] h = refl
+same-eq [] (b ∷ v) h = let z : _≡_ {A = ℕ} 0 1 = cc in absurd (omega arith)
+same-eq (a ∷ w) [] h = let z : _≡_ {A = ℕ} 0 1 = cc in absurd (omega arith)
+same-eq (a ∷ w) (b ∷ v) h = by (eqb a b) refl h (same-eq w v)
+  where
+    by : (x : Bool) → eqb a b ≡ x → (x && same w v) ≡ true → (same w v ≡ true → w ≡ v) → a ∷ w ≡ b ∷ v
+    by true e h ih = rw (eqb-true a b e, ih h)
+    by false e h ih = let z : _≡_ {A = ℕ} 0 1 = cc in absurd (omega arith)
+
+-- ---- a byte in a word
+
+module _ (w : List ℕ) (b i : ℕ) where
+  pub has-more : i < length w → (getD w i 0 ≡ b → ⊥) → has b (drop i w) ≡ has b (drop (i + 1) w)
+  unfolding has
+  has-more h e = rw (cut w i h) (rw (ne-eqb _ _ e))
+
+  pub has-here : i < length w → getD w i 0 ≡ b → has b (drop i w) ≡ true
+  unfolding has
+  has-here h e = rw (cut w i h) (rw (eq-eqb _ _ e))
+
+  pub has-end : length w ≤ i → has b (drop i w) ≡ false
+  unfolding has
+  has-end h = rw (drop-of-length-le w h)
+
+-- ---- words
+
+pub word-first : (w : List ℕ) → 0 < length w → isWord w ≡ wordy (getD w 0 0)
+unfolding isWord
+word-first (b ∷ s) h = refl
+word-first [] h = absurd (omega arith)
+
+pub word-none : (w : List ℕ) → length w ≤ 0 → isWord w ≡ false
+unfolding isWord
+word-none [] h = refl
+word-none (b ∷ s) h = absurd (omega arith)
+
+-- ---- reserved words
+
+-- those of some words that have n bytes
+unfoldable pub ofLength : ℕ → List String → List String
+ofLength n [] = []
+ofLength n (k ∷ ks) = elim (eqb (length (bytes k)) n) [ true ↦ k ∷ ofLength n ks | false ↦ ofLength n ks ]
+
+-- only those of a word's length can be it
+pub among-of-length : (ks : List String) (w : List ℕ) → among ks w ≡ among (ofLength (length w) ks) w
+unfolding among ofLength
+among-of-length [] w = refl
+among-of-length (k ∷ ks) w = by (eqb (length (bytes k)) (length w)) refl (among-of-length ks w)
+  where
+    by : (b : Bool) → eqb (length (bytes k)) (length w) ≡ b → among ks w ≡ among (ofLength (length w) ks) w
+        → (same w (bytes k) || among ks w) ≡ among (elim b [ true ↦ k ∷ ofLength (length w) ks | false ↦ ofLength (length w) ks ]) w
+    by true e ih = ap (λ (x : Bool). same w (bytes k) || x) ih
+    by false e ih = rw (same-long w (bytes k) (λ q. eqb-false _ _ e (sym q))) ih
+
+pub reserved-of : (n : ℕ) (w : List ℕ) → length w ≡ n → among (ofLength n reserved) w ≡ among reserved w
+reserved-of n w e = sym (among-of-length reserved w ∙ ap (λ (m : ℕ). among (ofLength m reserved) w) e)
+
+-- n is none of some numbers, as the last arm of a match tells it
+abbrev pub NoneOf : List ℕ → ℕ → Type 0
+NoneOf [] n = Unit {0}
+NoneOf (l ∷ ls) n = NoneOf ls n × (n ≡ l → ⊥)
+
+none-has : (ls : List ℕ) (n : ℕ) → NoneOf ls n → has n ls ≡ false
+unfolding has
+none-has [] n h = refl
+none-has (l ∷ ls) n h = rw (ne-eqb l n (λ e. h .1 (sym e))) (none-has ls n (h .0))
+
+-- are the lengths of some words among some numbers
+unfoldable pub lengthsIn : List ℕ → List String → Bool
+lengthsIn ls [] = true
+lengthsIn ls (k ∷ ks) = has (length (bytes k)) ls && lengthsIn ls ks
+
+none-of-length : (ls : List ℕ) (n : ℕ) (ks : List String) → lengthsIn ls ks ≡ true → has n ls ≡ false → ofLength n ks ≡ []
+unfolding lengthsIn ofLength
+none-of-length ls n [] h e = refl
+none-of-length ls n (k ∷ ks) h e = by (has (length (bytes k)) ls) refl h (λ t. none-of-length ls n ks t e)
+  where
+    by : (x : Bool) → has (length (bytes k)) ls ≡ x → (x && lengthsIn ls ks) ≡ true → (lengthsIn ls ks ≡ true → ofLength n ks ≡ [])
+        → _≡_ {A = List String} (elim (eqb (length (bytes k)) n) [ true ↦ k ∷ ofLength n ks | false ↦ ofLength n ks ]) []
+    by true f h ih = rw (ne-eqb (length (bytes k)) n (λ q. let o : true ≡ false = sym f ∙ ap (λ (m : ℕ). has m ls) q ∙ e in let z : _≡_ {A = ℕ} 0 1 = cc in omega arith)) (ih h)
+    by false f h ih = let z : _≡_ {A = ℕ} 0 1 = cc in absurd (omega arith)
+
+-- a word whose length is not among them is none of the words
+pub reserved-not : (ls : List ℕ) (w : List ℕ) → lengthsIn ls reserved ≡ true → NoneOf ls (length w) → false ≡ among reserved w
+unfolding among
+reserved-not ls w h k = sym (among-of-length reserved w ∙ ap (λ (ks : List String). among ks w) (none-of-length ls (length w) reserved h (none-has ls (length w) k)))
+
+pub or-both : {a b x y : Bool} → a ≡ x → b ≡ y → (a || b) ≡ (x || y)
+or-both {a} {b} {x} {y} p q = ap (λ (c : Bool). c || b) p ∙ ap (λ (c : Bool). x || c) q
+
+pub or-last : {a x : Bool} → a ≡ x → a ≡ (x || false)
+or-last {a} {x} p = p ∙ sym (or-false x)
+
+-- ---- names
+
+pub name-none : (w : List ℕ) → length w ≡ 0 → isName w ≡ false
+unfolding isName
+name-none [] h = refl
+name-none (b ∷ s) h = absurd (omega arith)
+
+pub name-some : (w : List ℕ) → (length w ≡ 0 → ⊥)
+    → isName w ≡ (leb (length w) nameMost && not (has 46 w) && not (digit (getD w 0 0)) && not (among reserved w))
+unfolding isName
+name-some [] h = absurd (h refl)
+name-some (b ∷ s) h = refl

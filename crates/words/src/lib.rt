@@ -1,0 +1,424 @@
+// Readers of single tokens: a cursor over the text, names, reserved words, numbers and times.
+ghost use mathlib.Core.Path.{_≡_};
+ghost use Prim.Native.Nat.{ℕ, _+_, min};
+ghost use mathlib.Core.List.{List};
+ghost use mathlib.Core.Option.{Option};
+ghost use lib.ListN.{getD};
+ghost use mathlib.Core.Bool.{false, _&&_, not};
+ghost use lib.Dec.{eqb, ltb};
+ghost use Rattle.tokens.specs.Written.{same};
+ghost use Rattle.tokens.specs.Bytes.{wordy, digit};
+ghost use Rattle.meaning.specs.Reader.{any, aheadOf, dueOf, isWord, word as wordDue};
+ghost use Rattle.meaning.specs.Lists.{has};
+ghost use Rattle.meaning.specs.Names.{reserved as reservedWords, among, isName, name as nameDue, find as findOf, newName, oldName, number as numberOf, within as withinDue, numberIn};
+ghost use Rattle.meaning.specs.Timing.{unit as unitOf, picoseconds, quoted as quotedDue};
+ghost use Rattle.words.specs.Cursor.{span, ahead as aheadTok, stream, alive, Stands, Goes, Checked, taking};
+ghost use Rattle.words.specs.Values.{most, told, capped, valueOf, Longer};
+ghost use Rattle.words.specs.Table.{nameOf, names};
+
+// Where reading stands. With `no` 0 the token ahead is the text from `at` to `end`; where `end` is not behind `at` there is none: the text has
+// ended at `at`, or has the fault `fault` there. With another `no` reading was refused so at `at`, and every reader hands that on.
+pub struct Cursor {
+    pub no: u8,
+    pub fault: u8,
+    pub at: usize,
+    pub end: usize,
+}
+
+// A number, if it is one (`right`), and at most the largest that the code holds.
+pub struct Value {
+    pub right: bool,
+    pub n: u64,
+}
+
+// The number of a name in its table, and the cursor behind it.
+pub struct Named {
+    pub cursor: Cursor,
+    pub number: usize,
+}
+
+// A number that was read, and the cursor behind it.
+pub struct Numbered {
+    pub cursor: Cursor,
+    pub n: u64,
+}
+
+// ---- the text and the cursor
+
+// The bytes of the text from a place up to an end, as far as there are any.
+pub fn bytes_of(text: &[u8], at: usize, end: usize) -> &[u8]
+    ensures { λ r. ⌜ now r ≡ span (now (text .entry)) at «end» ⌝ }
+{
+    if at < end {
+        if end <= text.len() {
+            return &text[at..end];
+        }
+        if at < text.len() {
+            return &text[at..];
+        }
+    }
+    &text[0..0]
+}
+
+// The cursor at the first token from a place on.
+pub fn cursor_at(text: &[u8], at: usize) -> Cursor
+    ensures { λ r. ⌜ Stands (now (text .entry)) at r ⌝ }
+{
+    match tokens::first_from(text, at) {
+        tokens::Step::Token(p, l) => Cursor {
+            no: 0,
+            fault: 0,
+            at: p,
+            end: p + l,
+        },
+        tokens::Step::Nothing => {
+            let e = if at < text.len() { text.len() } else { at };
+            Cursor {
+                no: 0,
+                fault: 0,
+                at: e,
+                end: 0,
+            }
+        }
+        tokens::Step::Refused(n, p) => Cursor {
+            no: 0,
+            fault: n,
+            at: p,
+            end: 0,
+        },
+    }
+}
+
+// Refused with n at p where the test holds.
+pub fn refuse_if(c: Cursor, test: bool, n: u8, p: usize) -> Cursor
+    ensures { λ r. ⌜ Checked c test n p r ⌝ }
+{
+    if (c.no == 0) & test {
+        return Cursor {
+            no: n,
+            fault: 0,
+            at: p,
+            end: 0,
+        };
+    }
+    c
+}
+
+// Past the token ahead.
+pub fn step(text: &[u8], c: Cursor) -> Cursor
+    ensures { λ r. ⌜ Goes (now (text .entry)) c any r (aheadTok (now (text .entry)) c) ⌝ }
+{
+    if c.no != 0 {
+        return c;
+    }
+    let at = c.at;
+    let end = c.end;
+    if at < end {
+        return cursor_at(text, end);
+    }
+    let fault = c.fault;
+    Cursor {
+        no: if fault == 0 { 4 } else { fault },
+        fault: 0,
+        at,
+        end: 0,
+    }
+}
+
+// Past the token ahead, if it is the right one.
+pub fn expect(text: &[u8], c: Cursor, right: bool) -> Cursor
+    ensures { λ r. ⌜ Goes (now (text .entry)) c (taking right) r (aheadTok (now (text .entry)) c) ⌝ }
+{
+    let r = step(text, c);
+    refuse_if(r, !right, 4, c.at)
+}
+
+// ---- tokens that are due
+
+pub fn equal(w: &[u8], v: &[u8]) -> bool
+    ensures { λ r. ⌜ r ≡ same (now (w .entry)) (now (v .entry)) ⌝ }
+{
+    let n = w.len();
+    if n != v.len() {
+        return false;
+    }
+    let mut i = 0;
+    while i < n {
+        if w[i] != v[i] {
+            return false;
+        }
+        i += 1;
+    }
+    true
+}
+
+// Is the token w ahead?
+pub fn is(text: &[u8], c: Cursor, w: &[u8]) -> bool
+    ensures { λ r. ⌜ r ≡ (alive c && aheadOf (now (w .entry)) (stream (now (text .entry)) c)) ⌝ }
+{
+    let at = c.at;
+    let end = c.end;
+    (c.no == 0) & (at < end) & equal(bytes_of(text, at, end), w)
+}
+
+// The token w is due.
+pub fn due(text: &[u8], c: Cursor, w: &[u8]) -> Cursor
+    ensures { λ r. ⌜ Goes (now (text .entry)) c (dueOf (now (w .entry))) r (c .at) ⌝ }
+{
+    expect(text, c, equal(bytes_of(text, c.at, c.end), w))
+}
+
+// Does reading go on, with another token than w?
+pub fn until(text: &[u8], c: Cursor, w: &[u8]) -> bool
+    ensures { λ r. ⌜ r ≡ (alive c && not (aheadOf (now (w .entry)) (stream (now (text .entry)) c))) ⌝ }
+{
+    (c.no == 0) & !is(text, c, w)
+}
+
+// ---- words and names
+
+pub fn is_word(w: &[u8]) -> bool
+    ensures { λ r. ⌜ r ≡ isWord (now (w .entry)) ⌝ }
+{
+    if 0 < w.len() {
+        tokens::is_wordy(w[0])
+    } else {
+        false
+    }
+}
+
+// A word is due.
+pub fn word(text: &[u8], c: Cursor) -> Cursor
+    ensures { λ r. ⌜ Goes (now (text .entry)) c wordDue r (aheadTok (now (text .entry)) c) ⌝ }
+{
+    expect(text, c, is_word(bytes_of(text, c.at, c.end)))
+}
+
+// Does a byte stand there?
+pub fn holds(w: &[u8], b: u8) -> bool
+    ensures { λ r. ⌜ r ≡ has b (now (w .entry)) ⌝ }
+{
+    let mut i = 0;
+    while i < w.len() {
+        if w[i] == b {
+            return true;
+        }
+        i += 1;
+    }
+    false
+}
+
+// Is w one of the words that are no names? Only words of its length are looked at.
+pub fn reserved(w: &[u8]) -> bool
+    ensures { λ r. ⌜ r ≡ among reservedWords (now (w .entry)) ⌝ }
+{
+    let n = w.len();
+    match n {
+        1 => equal(w, b"V") | (equal(w, b"W") | equal(w, b"C")),
+        2 => equal(w, b"In"),
+        3 => equal(w, b"Out"),
+        4 => equal(w, b"STIL") | (equal(w, b"Call") | equal(w, b"Loop")),
+        5 => equal(w, b"InOut") | (equal(w, b"Macro") | equal(w, b"Shift")),
+        6 => equal(w, b"Timing") | equal(w, b"Period"),
+        7 => equal(w, b"Signals") | (equal(w, b"PatList") | equal(w, b"Pattern")),
+        9 => equal(w, b"Waveforms") | equal(w, b"MacroDefs"),
+        10 => equal(w, b"Procedures"),
+        11 => equal(w, b"PatternExec"),
+        12 => equal(w, b"SignalGroups") | equal(w, b"PatternBurst"),
+        13 => equal(w, b"WaveformTable"),
+        _ => false,
+    }
+}
+
+pub fn is_name(w: &[u8]) -> bool
+    ensures { λ r. ⌜ r ≡ isName (now (w .entry)) ⌝ }
+{
+    let n = w.len();
+    if n == 0 {
+        return false;
+    }
+    (n <= 32) & !holds(w, 46) & !is_digit(w[0]) & !reserved(w)
+}
+
+// A name is due.
+pub fn name(text: &[u8], c: Cursor) -> Cursor
+    ensures { λ r. ⌜ Goes (now (text .entry)) c nameDue r (aheadTok (now (text .entry)) c) ⌝ }
+{
+    let r = word(text, c);
+    refuse_if(r, !is_name(bytes_of(text, c.at, c.end)), 5, c.at)
+}
+
+// ---- names in their name space
+
+// The number at a place of a list, or 0 past its end.
+pub fn number_at(list: &[usize], i: usize) -> usize
+    ensures { λ r. ⌜ r ≡ getD (now (list .entry)) i 0 ⌝ }
+{
+    if i < list.len() { list[i] } else { 0 }
+}
+
+// The bytes of the name of number i.
+pub fn name_bytes<'a>(text: &'a [u8], places: &'a [usize], i: usize) -> &'a [u8]
+    ensures { λ r. ⌜ now r ≡ nameOf (now (text .entry)) (now (places .entry)) i .word ⌝ }
+{
+    if i < places.len() {
+        return bytes_of(text, number_at(places, i * 2), number_at(places, i * 2 + 1));
+    }
+    &text[0..0]
+}
+
+// The number of the first of `count` names that is w; `count` where none is.
+pub fn find<'a>(text: &'a [u8], w: &'a [u8], places: &'a [usize], count: usize) -> usize
+    ensures { λ r. ⌜ told (ltb r count) r ≡ findOf (names (now (text .entry)) (now (places .entry)) count) (now (w .entry)) ⌝ }
+{
+    let mut i = 0;
+    while i < count {
+        if equal(name_bytes(text, places, i), w) {
+            return i;
+        }
+        i += 1;
+    }
+    count
+}
+
+// A name that none of `count` names is.
+pub fn new_name<'a>(text: &'a [u8], c: Cursor, places: &'a [usize], count: usize) -> Cursor
+    ensures { λ r. ⌜ Goes (now (text .entry)) c (newName (names (now (text .entry)) (now (places .entry)) count)) r (aheadTok (now (text .entry)) c) ⌝ }
+{
+    let r = name(text, c);
+    let i = find(text, bytes_of(text, c.at, c.end), places, count);
+    refuse_if(r, i < count, 7, c.at)
+}
+
+// A name that one of `count` names is, and that one's number.
+pub fn old_name<'a>(text: &'a [u8], c: Cursor, places: &'a [usize], count: usize) -> Named
+    ensures { λ r. ⌜ Goes (now (text .entry)) c (oldName (names (now (text .entry)) (now (places .entry)) count)) (r .cursor) (aheadTok (now (text .entry)) c, r .number) ⌝ }
+{
+    let r = name(text, c);
+    let number = find(text, bytes_of(text, c.at, c.end), places, count);
+    let cursor = refuse_if(r, count <= number, 6, c.at);
+    Named { cursor, number }
+}
+
+// ---- numbers and times
+
+pub fn is_digit(b: u8) -> bool
+    ensures { λ r. ⌜ r ≡ digit b ⌝ }
+{
+    (48 <= b) & (b <= 57)
+}
+
+fn wide(b: u8) -> u64
+    ensures { λ r. ⌜ r ≡ b ⌝ }
+{
+    b as u64
+}
+
+// A number with one digit more, at most the largest that is held.
+pub fn longer(n: u64, b: u8) -> u64
+    ensures { λ r. ⌜ Longer n b r ⌝ }
+{
+    if 10_000_000_000 <= n {
+        return 10_000_000_000;
+    }
+    if !is_digit(b) {
+        return 10_000_000_000;
+    }
+    let m = n * 10 + wide(b) - 48;
+    if 10_000_000_000 <= m {
+        10_000_000_000
+    } else {
+        m
+    }
+}
+
+// The number that decimal digits stand for.
+pub fn number(w: &[u8]) -> Value
+    ensures { λ r. ⌜ valueOf r ≡ capped (numberOf (now (w .entry))) ⌝ }
+{
+    let mut n: u64 = 0;
+    let mut i = 0;
+    while i < w.len() {
+        if !is_digit(w[i]) {
+            return Value { right: false, n: 0 };
+        }
+        n = longer(n, w[i]);
+        i += 1;
+    }
+    Value {
+        right: 0 < w.len(),
+        n,
+    }
+}
+
+// A number before its unit, which begins with no digit, in ps.
+fn in_ps(n: u64, unit: &[u8]) -> Value
+    ensures { λ r. ⌜ ((m : ℕ) → n ≡ min most m → digit (getD (now (unit .entry)) 0 0) ≡ false → valueOf r ≡ capped (unitOf m (now (unit .entry)))) ⌝ }
+{
+    if equal(unit, b"ps") {
+        return Value { right: true, n };
+    }
+    if !equal(unit, b"ns") {
+        return Value { right: false, n: 0 };
+    }
+    if 10_000_000 <= n {
+        return Value {
+            right: true,
+            n: 10_000_000_000,
+        };
+    }
+    Value {
+        right: true,
+        n: n * 1000,
+    }
+}
+
+// The time that a word stands for, in ps.
+pub fn time(w: &[u8]) -> Value
+    ensures { λ r. ⌜ valueOf r ≡ capped (picoseconds (now (w .entry))) ⌝ }
+{
+    let mut n: u64 = 0;
+    let mut i = 0;
+    while i < w.len() {
+        if !is_digit(w[i]) {
+            if i == 0 {
+                return Value { right: false, n: 0 };
+            }
+            return in_ps(n, &w[i..]);
+        }
+        n = longer(n, w[i]);
+        i += 1;
+    }
+    Value { right: false, n: 0 }
+}
+
+// Refused with 9 at p, unless it is a number from lo to hi.
+pub fn within(c: Cursor, v: Value, lo: u32, hi: u32, p: usize) -> Cursor
+    ensures { λ r. ⌜ ((text : List ℕ) (o : Option ℕ) → valueOf v ≡ capped o → Goes text c (withinDue lo hi o p) r (v .n)) ⌝ }
+{
+    let n = v.n;
+    let right = v.right & (lo as u64 <= n) & (n <= hi as u64);
+    refuse_if(c, !right, 9, p)
+}
+
+// A number from lo to hi is due.
+pub fn number_in(text: &[u8], c: Cursor, lo: u32, hi: u32) -> Numbered
+    ensures { λ r. ⌜ Goes (now (text .entry)) c (numberIn lo hi) (r .cursor) (r .n) ⌝ }
+{
+    let d = word(text, c);
+    let v = number(bytes_of(text, c.at, c.end));
+    let cursor = within(d, v, lo, hi, c.at);
+    Numbered { cursor, n: v.n }
+}
+
+// A time in quotes, from lo on, is due.
+pub fn quoted(text: &[u8], c: Cursor, lo: u32) -> Numbered
+    ensures { λ r. ⌜ Goes (now (text .entry)) c (quotedDue lo) (r .cursor) (r .n) ⌝ }
+{
+    let d = due(text, c, b"'");
+    let e = word(text, d);
+    let v = time(bytes_of(text, d.at, d.end));
+    let f = within(e, v, lo, 1_000_000_000, d.at);
+    let cursor = due(text, f, b"'");
+    Numbered { cursor, n: v.n }
+}
