@@ -1,0 +1,4 @@
+pub mod Over
+mod Pieces
+pub mod Characters
+mod Turns

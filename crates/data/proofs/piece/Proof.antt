@@ -1,0 +1,129 @@
+-- The token ahead is taken; its bytes say which piece it is.
+use mathlib.Core.Path.{_≡_, refl, sym, _∙_}
+use mathlib.Core.Bool.{true, false}
+use mathlib.Core.List.{[], _∷_}
+use Rattle.tokens.specs.Written.{bytes}
+use Rattle.meaning.specs.Body.{mark}
+use Rattle.words.proofs.Words.{same-eq}
+use Rattle.words.proofs.Flow.{then, given, checked, refused-by}
+use Rattle.data.proofs.Over.{adds-none, adds-same}
+use Rattle.data.proofs.Pieces.{chars-read, piece-word, piece-mark, piece-repeat, piece-none}
+use borrow.Author.Needs.{needs}
+use Rattle.data.proofs.piece.Statement.{statement}
+use Rattle.data.proofs.piece.Tie as tie
+
+bytes-of-requires : tie.Need-bytes-of-requires
+bytes-of-requires c κs = search needs
+
+step-requires : tie.Need-step-requires
+step-requires c κs = search needs
+
+is-word-requires : tie.Need-is-word-requires
+is-word-requires c κs = search needs
+
+all-chars-requires : tie.Need-all-chars-requires
+all-chars-requires c κs = search needs
+
+refuse-if-requires : tie.Need-refuse-if-requires
+refuse-if-requires c κs = search needs
+
+copy-requires : tie.Need-copy-requires
+copy-requires c κs = search needs
+
+same-length : tie.Need-same-length
+same-length c = search needs
+
+returns : tie.Need-returns
+returns c = 
+  record {
+    ds = _;
+    goes = then _ (c .before .before .before .before .before .before .before .before .step .ensures) (piece-word _ _ (cc) (chars-read _ (c .before .before .before .before .refuse-if .ensures) (cc)));
+    kept = c .before .before .copy .ensures .kept;
+    puts = λ h. adds-same (c .before .before .copy .ensures) (c .before .before .before .before .before .before .before .before .before .bytes-of .ensures);
+    }
+
+slice-aggregate-equal : tie.Need-slice-aggregate-equal
+slice-aggregate-equal c = search needs
+
+equal-requires : tie.Need-equal-requires
+equal-requires c κs = search needs
+
+refuse-if-requires-2 : tie.Need-refuse-if-requires-2
+refuse-if-requires-2 c κs = search needs
+
+copy-requires-2 : tie.Need-copy-requires-2
+copy-requires-2 c κs = search needs
+
+same-length-2 : tie.Need-same-length-2
+same-length-2 c = search needs
+
+returns-2 : tie.Need-returns-2
+unfolding bytes
+returns-2 c = 
+  record {
+    ds = mark ∷ [];
+    goes = then _ (c .before .before .before .before .before .before .before .before .before .before .step .ensures) (piece-mark _ _ (cc) (cc) (then _ (checked (c .before .before .before .before .refuse-if2 .ensures) refl refl) given));
+    kept = c .before .before .copy2 .ensures .kept;
+    puts = λ h. adds-same (c .before .before .copy2 .ensures) (same-eq _ (bytes "#") (cc));
+    }
+
+slice-aggregate-equal-2 : tie.Need-slice-aggregate-equal-2
+slice-aggregate-equal-2 c = search needs
+
+equal-requires-2 : tie.Need-equal-requires-2
+equal-requires-2 c κs = search needs
+
+repeat-requires : tie.Need-repeat-requires
+repeat-requires c κs = search needs
+
+same-length-3 : tie.Need-same-length-3
+same-length-3 c = search needs
+
+returns-3 : tie.Need-returns-3
+unfolding bytes
+returns-3 c = 
+  record {
+    ds = c .before .before .repeat .ensures .ds;
+    goes = then _ (c .before .before .before .before .before .before .before .before .before .before .before .before .step .ensures) (piece-repeat _ _ (cc) (cc) (cc) (c .before .before .repeat .ensures .goes));
+    kept = c .before .before .repeat .ensures .kept;
+    puts = c .before .before .repeat .ensures .puts;
+    }
+
+refuse-if-requires-3 : tie.Need-refuse-if-requires-3
+refuse-if-requires-3 c κs = search needs
+
+returns-4 : tie.Need-returns-4
+unfolding bytes
+returns-4 c = 
+  record {
+    ds = [];
+    goes = then _ (c .before .before .before .before .before .before .before .before .before .step .ensures) (piece-none _ _ (cc) (cc) (cc) (refused-by (c .refuse-if3 .ensures) refl));
+    kept = refl;
+    puts = λ h. adds-none;
+    }
+
+pub piece-spec : {M : Type 1} → statement M
+piece-spec =
+    tie.close
+    (tie.spec
+    bytes-of-requires
+    step-requires
+    is-word-requires
+    all-chars-requires
+    refuse-if-requires
+    copy-requires
+    same-length
+    returns
+    slice-aggregate-equal
+    equal-requires
+    refuse-if-requires-2
+    copy-requires-2
+    same-length-2
+    returns-2
+    slice-aggregate-equal-2
+    equal-requires-2
+    repeat-requires
+    same-length-3
+    returns-3
+    refuse-if-requires-3
+    returns-4)
