@@ -150,7 +150,3 @@ no-mark = without-data mark refl false (λ h. let z : _≡_ {A = ℕ} 0 1 = cc i
 pub no-zero : (m : Bool) → Gives (λ x. has 0 (x .0) ≡ false) (dataRead m)
 unfolding waveChar letter digit between
 no-zero m = without-data 0 refl m (λ h. refl)
-
--- what holds of all that a reader gives holds of what the code has, where reading goes on
-pub told : {A : Type 0} {text : List ℕ} {c r : Cursor} {k : Reader A} {a : A} (P : A → Type 0) → Gives P k → Goes text c k r a → alive r ≡ true → P a
-told P h g e = h .all _ _ _ (read g e .gave)

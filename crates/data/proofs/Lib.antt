@@ -2,3 +2,4 @@ pub mod Over
 mod Pieces
 pub mod Characters
 mod Turns
+pub mod Held

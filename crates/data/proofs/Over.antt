@@ -32,7 +32,7 @@ over-past [] ds (b ∷ e) h = absurd (omega arith)
 over-past (c ∷ cs) ds [] h = refl
 over-past (c ∷ cs) ds (b ∷ e) h = ap (λ (l : List ℕ). c ∷ l) (over-past cs ds e (omega arith))
 
-over-front : (cs e : List ℕ) → length cs ≤ length e → take (length cs) (over cs e) ≡ cs
+pub over-front : (cs e : List ℕ) → length cs ≤ length e → take (length cs) (over cs e) ≡ cs
 unfolding over
 over-front [] e h = refl
 over-front (c ∷ cs) [] h = absurd (omega arith)
@@ -102,19 +102,3 @@ module _ {before : List ℕ} {n : ℕ} where
 pub holds-none : (entry : List ℕ) → Holds entry entry 0 []
 unfolding over
 holds-none entry = record { count = refl; front = refl }
-
--- ---- for callers
-
-module _ {entry buffer : List ℕ} {n : ℕ} {cs : List ℕ} (h : Holds entry buffer n cs) where
-  pub held-length : length buffer ≡ length entry
-  held-length = ap length (h .front) ∙ over-length cs entry
-
-  -- a count that is below the largest is exact
-  pub held-count : n < countMost → n ≡ length cs
-  held-count k = omega (arith, h .count)
-
-  -- characters that have room are at the front
-  pub held : n ≤ length entry → n < countMost → take n buffer ≡ cs
-  held k l =
-      let e : n ≡ length cs = held-count l in
-      rw (h .front, e) (over-front cs entry (omega arith))

@@ -14,8 +14,8 @@ const COUNT_MOST: usize = 9_223_372_036_854_775_808;
 
 // The cursor behind a piece, and how many characters there are with it.
 struct Put {
-    pub cursor: Cursor,
-    pub n: usize,
+    cursor: Cursor,
+    n: usize,
 }
 
 // The cursor behind the `;`, how many characters there are, and where the `;` stands.
@@ -80,9 +80,9 @@ fn fitting(len: usize, n: usize, k: usize) -> usize
 fn copy(buffer: &mut [u8], n: usize, w: &[u8]) -> usize
     ensures { λ r. ⌜ Adds (now (buffer .entry)) n (now (w .entry)) (now (buffer .exit)) r ⌝ }
 {
-    let m = fitting(buffer.len(), n, w.len());
+    let bytes = fitting(buffer.len(), n, w.len());
     let mut i = 0;
-    while i < m {
+    while i < bytes {
         let at = n + i;
         buffer[at] = w[i];
         i += 1;
@@ -94,9 +94,9 @@ fn copy(buffer: &mut [u8], n: usize, w: &[u8]) -> usize
 fn fill(buffer: &mut [u8], n: usize, k: usize, x: u8) -> usize
     ensures { λ r. ⌜ Adds (now (buffer .entry)) n (replicate k x) (now (buffer .exit)) r ⌝ }
 {
-    let m = fitting(buffer.len(), n, k);
+    let times = fitting(buffer.len(), n, k);
     let mut i = 0;
-    while i < m {
+    while i < times {
         let at = n + i;
         buffer[at] = x;
         i += 1;
@@ -183,5 +183,9 @@ pub fn data(text: &[u8], c: Cursor, may: bool, buffer: &mut [u8]) -> Filled
     }
     let last = cursor.at;
     let end = words::due(text, cursor, b";");
-    Filled { cursor: end, n, last }
+    Filled {
+        cursor: end,
+        n,
+        last,
+    }
 }

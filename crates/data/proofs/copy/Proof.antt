@@ -8,10 +8,10 @@ use Rattle.data.proofs.copy.Statement.{statement}
 use Rattle.data.proofs.copy.Tie as tie
 
 abbrev Inv-loop : tie.InvT-loop
-Inv-loop buffer₀ n w m i₀ buffer i = (i ≤ m) × Wrote buffer₀ n w i buffer
+Inv-loop buffer₀ n w bytes i₀ buffer i = (i ≤ bytes) × Wrote buffer₀ n w i buffer
 
 abbrev μ-loop : tie.MeasureT-loop
-μ-loop buffer₀ n w m i₀ buffer i = m - i
+μ-loop buffer₀ n w bytes i₀ buffer i = bytes - i
 
 fitting-requires : tie.Need-fitting-requires Inv-loop μ-loop
 fitting-requires c κs = search needs

@@ -9,10 +9,10 @@ use Rattle.data.proofs.fill.Statement.{statement}
 use Rattle.data.proofs.fill.Tie as tie
 
 abbrev Inv-loop : tie.InvT-loop
-Inv-loop buffer₀ n k x m i₀ buffer i = (i ≤ m) × Wrote buffer₀ n (replicate k x) i buffer
+Inv-loop buffer₀ n k x times i₀ buffer i = (i ≤ times) × Wrote buffer₀ n (replicate k x) i buffer
 
 abbrev μ-loop : tie.MeasureT-loop
-μ-loop buffer₀ n k x m i₀ buffer i = m - i
+μ-loop buffer₀ n k x times i₀ buffer i = times - i
 
 fitting-requires : tie.Need-fitting-requires Inv-loop μ-loop
 fitting-requires c κs = search needs
@@ -33,9 +33,9 @@ loop-less : tie.Need-loop-less Inv-loop μ-loop
 loop-less c = search needs
 
 loop-again : tie.Need-loop-again Inv-loop μ-loop
-loop-again c = 
-  let l = length-replicate (c .before .before .before .before .args .k) (c .before .before .before .before .args .x) in
-  let h : c .before .loop .i < c .before .before .before .before .args .k = omega (arith, c .before .before .fitting .ensures) in
+loop-again c =
+    let l = length-replicate (c .before .before .before .before .args .k) (c .before .before .before .before .args .x) in
+    let h : c .before .loop .i < c .before .before .before .before .args .k = omega (arith, c .before .before .fitting .ensures) in
     (omega arith, wrote-more (c .before .loop .inv .1) (omega (arith, c .before .before .fitting .ensures)) (omega (arith, c .before .before .before .before .good .0 .1)) (omega arith) (sym (getD-replicate (c .before .before .before .before .args .k) (c .before .loop .i) (c .before .before .before .before .args .x) 0 h)))
 
 counted-requires : tie.Need-counted-requires Inv-loop μ-loop
@@ -45,8 +45,8 @@ same-length : tie.Need-same-length Inv-loop μ-loop
 same-length c = c .before .before .loop .inv .1 .kept
 
 returns : tie.Need-returns Inv-loop μ-loop
-returns c = 
-  let l = length-replicate (c .before .before .before .before .before .args .k) (c .before .before .before .before .before .args .x) in
+returns c =
+    let l = length-replicate (c .before .before .before .before .before .args .k) (c .before .before .before .before .before .args .x) in
     wrote-all (c .before .before .loop .inv .1) (omega (arith, c .before .before .before .fitting .ensures)) (omega (arith, c .before .before .before .before .before .good .0 .1)) (omega (arith, c .counted .ensures))
 
 pub fill-spec : {M : Type 1} → statement M

@@ -34,12 +34,12 @@ same-length : tie.Need-same-length
 same-length c = search needs
 
 returns : tie.Need-returns
-returns c = 
-  record {
-    ds = _;
-    goes = then _ (c .before .before .before .before .before .before .before .before .step .ensures) (piece-word _ _ (cc) (chars-read _ (c .before .before .before .before .refuse-if .ensures) (cc)));
-    kept = c .before .before .copy .ensures .kept;
-    puts = λ h. adds-same (c .before .before .copy .ensures) (c .before .before .before .before .before .before .before .before .before .bytes-of .ensures);
+returns c =
+    record {
+      ds = _;
+      goes = then _ (c .before .before .before .before .before .before .before .before .step .ensures) (piece-word _ _ (cc) (chars-read _ (c .before .before .before .before .refuse-if .ensures) (cc)));
+      kept = c .before .before .copy .ensures .kept;
+      puts = λ h. adds-same (c .before .before .copy .ensures) (c .before .before .before .before .before .before .before .before .before .bytes-of .ensures);
     }
 
 slice-aggregate-equal : tie.Need-slice-aggregate-equal
@@ -59,12 +59,12 @@ same-length-2 c = search needs
 
 returns-2 : tie.Need-returns-2
 unfolding bytes
-returns-2 c = 
-  record {
-    ds = mark ∷ [];
-    goes = then _ (c .before .before .before .before .before .before .before .before .before .before .step .ensures) (piece-mark _ _ (cc) (cc) (then _ (checked (c .before .before .before .before .refuse-if2 .ensures) refl refl) given));
-    kept = c .before .before .copy2 .ensures .kept;
-    puts = λ h. adds-same (c .before .before .copy2 .ensures) (same-eq _ (bytes "#") (cc));
+returns-2 c =
+    record {
+      ds = mark ∷ [];
+      goes = then _ (c .before .before .before .before .before .before .before .before .before .before .step .ensures) (piece-mark _ _ (cc) (cc) (then _ (checked (c .before .before .before .before .refuse-if2 .ensures) refl refl) given));
+      kept = c .before .before .copy2 .ensures .kept;
+      puts = λ h. adds-same (c .before .before .copy2 .ensures) (same-eq _ (bytes "#") (cc));
     }
 
 slice-aggregate-equal-2 : tie.Need-slice-aggregate-equal-2
@@ -81,12 +81,12 @@ same-length-3 c = search needs
 
 returns-3 : tie.Need-returns-3
 unfolding bytes
-returns-3 c = 
-  record {
-    ds = c .before .before .repeat .ensures .ds;
-    goes = then _ (c .before .before .before .before .before .before .before .before .before .before .before .before .step .ensures) (piece-repeat _ _ (cc) (cc) (cc) (c .before .before .repeat .ensures .goes));
-    kept = c .before .before .repeat .ensures .kept;
-    puts = c .before .before .repeat .ensures .puts;
+returns-3 c =
+    record {
+      ds = c .before .before .repeat .ensures .ds;
+      goes = then _ (c .before .before .before .before .before .before .before .before .before .before .before .before .step .ensures) (piece-repeat _ _ (cc) (cc) (cc) (c .before .before .repeat .ensures .goes));
+      kept = c .before .before .repeat .ensures .kept;
+      puts = c .before .before .repeat .ensures .puts;
     }
 
 refuse-if-requires-3 : tie.Need-refuse-if-requires-3
@@ -94,12 +94,12 @@ refuse-if-requires-3 c κs = search needs
 
 returns-4 : tie.Need-returns-4
 unfolding bytes
-returns-4 c = 
-  record {
-    ds = [];
-    goes = then _ (c .before .before .before .before .before .before .before .before .before .step .ensures) (piece-none _ _ (cc) (cc) (cc) (refused-by (c .refuse-if3 .ensures) refl));
-    kept = refl;
-    puts = λ h. adds-none;
+returns-4 c =
+    record {
+      ds = [];
+      goes = then _ (c .before .before .before .before .before .before .before .before .before .step .ensures) (piece-none _ _ (cc) (cc) (cc) (refused-by (c .refuse-if3 .ensures) refl));
+      kept = refl;
+      puts = λ h. adds-none;
     }
 
 pub piece-spec : {M : Type 1} → statement M

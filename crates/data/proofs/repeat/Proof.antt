@@ -30,12 +30,12 @@ same-length : tie.Need-same-length
 same-length c = search needs
 
 returns : tie.Need-returns
-returns c = 
-  record {
-    ds = _;
-    goes = repeat-word (c .before .before .before .before .before .before .before .before .before .times .ensures) (then _ (c .before .before .before .before .before .before .word .ensures) (then _ (chars-read _ (c .before .before .before .before .refuse-if .ensures) (cc)) given));
-    kept = c .before .before .stretch .ensures .kept;
-    puts = λ h. adds-same (c .before .before .stretch .ensures) (ap (stretched (c .before .before .before .before .before .before .before .before .before .times .result .n)) (c .before .before .before .before .before .before .before .bytes-of .ensures));
+returns c =
+    record {
+      ds = _;
+      goes = repeat-word (c .before .before .before .before .before .before .before .before .before .times .ensures) (then _ (c .before .before .before .before .before .before .word .ensures) (then _ (chars-read _ (c .before .before .before .before .refuse-if .ensures) (cc)) given));
+      kept = c .before .before .stretch .ensures .kept;
+      puts = λ h. adds-same (c .before .before .stretch .ensures) (ap (stretched (c .before .before .before .before .before .before .before .before .before .times .result .n)) (c .before .before .before .before .before .before .before .bytes-of .ensures));
     }
 
 pub repeat-spec : {M : Type 1} → statement M

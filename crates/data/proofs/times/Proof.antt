@@ -35,17 +35,17 @@ within-requires : tie.Need-within-requires
 within-requires c κs = search needs
 
 returns : tie.Need-returns
-returns c = 
-  let e = repeat-some (c .before .before .before .before .before .before .before .bytes-of .result .now) (c .before .before .before .before .before .if1 .taken) (c .before .before .before .if2 .taken) in
+returns c =
+    let e = repeat-some (c .before .before .before .before .before .before .before .bytes-of .result .now) (c .before .before .before .before .before .if1 .taken) (c .before .before .before .if2 .taken) in
     then _ (c .before .before .before .before .before .before .step .ensures) (times-some _ _ (ap repeatOf (sym (c .before .before .before .before .before .before .before .bytes-of .ensures)) ∙ e) (c .within .ensures _ _ (c .before .number .ensures)))
 
 refuse-if-requires : tie.Need-refuse-if-requires
 refuse-if-requires c κs = search needs
 
 returns-2 : tie.Need-returns-2
-returns-2 c = 
-  let w = c .before .before .before .bytes-of .result .now in
-  let e = ⊎-elim (λ z. repeat-other w (z .2 .left)) (λ z. repeat-end w (z .left)) (c .before .if1 .came) in
+returns-2 c =
+    let w = c .before .before .before .bytes-of .result .now in
+    let e = ⊎-elim (λ z. repeat-other w (z .2 .left)) (λ z. repeat-end w (z .left)) (c .before .if1 .came) in
     then _ (c .before .before .step .ensures) (times-none _ (ap repeatOf (sym (c .before .before .before .bytes-of .ensures)) ∙ e) (refused-by (c .refuse-if .ensures) refl))
 
 pub times-spec : {M : Type 1} → statement M
