@@ -19,9 +19,6 @@ use Rattle.meaning.proofs.Takes.{Takes, Keeps}
 use Rattle.meaning.proofs.Taking.{takes-keeps, takes-any, takes-word, takes-bind, takes-closed, keeps-bind, keeps-give, keeps-if, keeps-within, keeps-oneOf}
 use Rattle.meaning.proofs.Gives.{Gives, gives-bind, gives-after, gives-give, gives-if, gives-closed}
 use Rattle.meaning.proofs.Choices.{gives-either, gives-taken, _also_}
-use Rattle.words.specs.declared.Cursor.{Cursor}
-use Rattle.words.specs.Cursor.{alive, Goes}
-use Rattle.words.proofs.Flow.{read}
 
 -- ---- it takes a token
 

@@ -6,7 +6,7 @@ use mathlib.Core.Bool.{Bool, true, false, not}
 use mathlib.Core.List.{List}
 use lib.Dec.{leb, ltb, eqb}
 use lib.ListN.{length, take}
-use borrow.Author.Tests.{lt-ltb, le-ltb, le-leb, lt-leb, leb-true, leb-false, eq-eqb, ne-eqb, eqb-true, eqb-false}
+use borrow.Author.Tests.{lt-ltb, le-ltb, leb-true, leb-false, eq-eqb, ne-eqb, eqb-true, eqb-false}
 use Rattle.meaning.specs.Reader.{Reader, refuseIf}
 use Rattle.meaning.proofs.Gives.{Gives}
 use Rattle.words.specs.declared.Cursor.{Cursor}

@@ -10,11 +10,11 @@ use lib.ListN.{length, getD, take, drop, replicate, drop-of-length-le}
 use borrow.Author.Tests.{eq-eqb, ne-eqb}
 use Rattle.tokens.specs.Written.{bytes, same}
 use Rattle.tokens.specs.Refusals.{notHere}
-use Rattle.tokens.specs.Tokens.{Tok, Toks}
+use Rattle.tokens.specs.Tokens.{Tok}
 use Rattle.meaning.specs.Refusals.{badData, badArgument}
 use Rattle.meaning.specs.Bounds.{repeatMost}
 use Rattle.meaning.specs.Body.{mark}
-use Rattle.meaning.specs.Reader.{Res, Reader, ok, refuse, after, _>>=_, any, give, refuseIf, isWord, oneOf, word}
+use Rattle.meaning.specs.Reader.{Res, Reader, ok, refuse, after, _>>=_, give, refuseIf, isWord, oneOf, word}
 use Rattle.meaning.specs.Names.{number, within}
 use Rattle.meaning.specs.Timing.{waveChar, allChars}
 use Rattle.meaning.specs.Data.{charsOf, stretched, repeatOf, times, repeated, piece, part}
@@ -40,9 +40,10 @@ module _ (w : List ℕ) (i : ℕ) where
   unfolding allChars
   chars-end h = rw (drop-of-length-le w h)
 
-pub chars-read : {text : List ℕ} {c r : Cursor} {b : Bool} (t : Tok) → Checked c b badData (t .at) r → b ≡ not (allChars (t .word)) → Goes text c (charsOf t) r (t .word)
+pub chars-read : {text : List ℕ} {c r : Cursor} {b : Bool} (t : Tok) {w : List ℕ} → w ≡ t .word → b ≡ allChars w → Checked c (not b) badData (t .at) r
+    → Goes text c (charsOf t) r (t .word)
 unfolding charsOf
-chars-read t k e = then _ (checked k e refl) given
+chars-read t e f k = then _ (checked k (ap not (f ∙ ap allChars e)) refl) given
 
 -- ---- a repeat
 
@@ -68,14 +69,14 @@ unfolding repeatOf
 repeat-end [] h = refl
 repeat-end (b ∷ s) h = absurd (omega arith)
 
-module _ {text : List ℕ} {c r : Cursor} {n : ℕ} (t : Tok) where
-  pub times-some : (s : List ℕ) → repeatOf (t .word) ≡ some s → Goes text c (within 1 repeatMost (number s) (t .at)) r n → Goes text c (times t (repeatOf (t .word))) r n
+module _ {text : List ℕ} {c r : Cursor} {n : ℕ} (t : Tok) {w : List ℕ} (e : w ≡ t .word) where
+  pub times-some : {s : List ℕ} → repeatOf w ≡ some s → Goes text c (within 1 repeatMost (number s) (t .at)) r n → Goes text c (times t (repeatOf (t .word))) r n
   unfolding times
-  times-some s e g = alike g (λ ts. rw (e, times))
+  times-some h g = alike g (λ ts. rw (← e, h, times))
 
-  pub times-none : repeatOf (t .word) ≡ none → Goes text c (λ ts. refuse notHere (t .at)) r n → Goes text c (times t (repeatOf (t .word))) r n
+  pub times-none : repeatOf w ≡ none → Goes text c (λ ts. refuse notHere (t .at)) r n → Goes text c (times t (repeatOf (t .word))) r n
   unfolding times
-  times-none e g = alike g (λ ts. rw (e, times))
+  times-none h g = alike g (λ ts. rw (← e, h, times))
 
 -- ---- a repeat spelled out
 
@@ -92,25 +93,40 @@ adds-stretched k (x ∷ s) h a b = adds-both a (adds-same b (rest-all x s))
 
 -- ---- which piece it is
 
-module _ {text : List ℕ} {c r : Cursor} {ds : List ℕ} (m : Bool) (t : Tok) where
-  pub piece-word : isWord (t .word) ≡ true → Goes text c (charsOf t) r ds → Goes text c (piece m t) r ds
-  unfolding piece
-  piece-word e g = alike g (λ ts. rw (e, piece))
+-- tests on a token's bytes w are tests on the token
+tested : {w v : List ℕ} {b : Bool} (f : List ℕ → Bool) → w ≡ v → f w ≡ b → f v ≡ b
+tested f e h = ap f (sym e) ∙ h
 
-  module _ (w : isWord (t .word) ≡ false) where
-    pub piece-mark : same (t .word) (bytes "#") ≡ true → Goes text c (refuseIf (not m) badArgument (t .at) >>= λ u. give (mark ∷ [])) r ds
+module _ {text : List ℕ} {c r : Cursor} {ds : List ℕ} (m : Bool) (t : Tok) {w : List ℕ} (e : w ≡ t .word) where
+  pub piece-word : isWord w ≡ true → Goes text c (charsOf t) r ds → Goes text c (piece m t) r ds
+  unfolding piece
+  piece-word x g = let x′ = tested isWord e x in alike g (λ ts. rw (x′, piece))
+
+  module _ (x : isWord w ≡ false) where
+    pub piece-mark : same w (bytes "#") ≡ true → Goes text c (refuseIf (not m) badArgument (t .at) >>= λ u. give (mark ∷ [])) r ds
         → Goes text c (piece m t) r ds
     unfolding piece oneOf
-    piece-mark e g = alike g (λ ts. rw (w, e, piece, oneOf))
+    piece-mark y g =
+        let x′ = tested isWord e x in
+        let y′ = tested (λ u. same u (bytes "#")) e y in
+        alike g (λ ts. rw (x′, y′, piece, oneOf))
 
-    module _ (e : same (t .word) (bytes "#") ≡ false) where
-      pub piece-repeat : same (t .word) (bytes "\\") ≡ true → Goes text c repeated r ds → Goes text c (piece m t) r ds
+    module _ (y : same w (bytes "#") ≡ false) where
+      pub piece-repeat : same w (bytes "\\") ≡ true → Goes text c repeated r ds → Goes text c (piece m t) r ds
       unfolding piece oneOf
-      piece-repeat f g = alike g (λ ts. rw (w, e, f, piece, oneOf))
+      piece-repeat z g =
+          let x′ = tested isWord e x in
+          let y′ = tested (λ u. same u (bytes "#")) e y in
+          let z′ = tested (λ u. same u (bytes "\\")) e z in
+          alike g (λ ts. rw (x′, y′, z′, piece, oneOf))
 
-      pub piece-none : same (t .word) (bytes "\\") ≡ false → Goes text c (λ ts. refuse notHere (t .at)) r ds → Goes text c (piece m t) r ds
+      pub piece-none : same w (bytes "\\") ≡ false → Goes text c (λ ts. refuse notHere (t .at)) r ds → Goes text c (piece m t) r ds
       unfolding piece oneOf
-      piece-none f g = alike g (λ ts. rw (w, e, f, piece, oneOf))
+      piece-none z g =
+          let x′ = tested isWord e x in
+          let y′ = tested (λ u. same u (bytes "#")) e y in
+          let z′ = tested (λ u. same u (bytes "\\")) e z in
+          alike g (λ ts. rw (x′, y′, z′, piece, oneOf))
 
 -- ---- the same reads in other groups
 

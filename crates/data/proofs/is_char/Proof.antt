@@ -2,7 +2,6 @@
 use mathlib.Core.Path.{refl}
 use Rattle.tokens.specs.Bytes.{letter, digit, between}
 use Rattle.meaning.specs.Timing.{waveChar}
-use borrow.Author.Needs.{needs}
 use Rattle.data.proofs.is_char.Statement.{statement}
 use Rattle.data.proofs.is_char.Tie as tie
 

@@ -1,6 +1,5 @@
 -- The token ahead is taken; its bytes say which piece it is.
-use mathlib.Core.Path.{_≡_, refl, sym, _∙_}
-use mathlib.Core.Bool.{true, false}
+use mathlib.Core.Path.{refl, sym, _∙_}
 use mathlib.Core.List.{[], _∷_}
 use Rattle.tokens.specs.Written.{bytes}
 use Rattle.meaning.specs.Body.{mark}
@@ -31,15 +30,16 @@ copy-requires : tie.Need-copy-requires
 copy-requires c κs = search needs
 
 same-length : tie.Need-same-length
-same-length c = search needs
+same-length c = c .before .before .copy .ensures .kept
 
 returns : tie.Need-returns
 returns c =
+    let e = c .before .before .before .before .before .before .before .before .before .bytes-of .ensures in
     record {
       ds = _;
-      goes = then _ (c .before .before .before .before .before .before .before .before .step .ensures) (piece-word _ _ (cc) (chars-read _ (c .before .before .before .before .refuse-if .ensures) (cc)));
+      goes = then _ (c .before .before .before .before .before .before .before .before .step .ensures) (piece-word _ _ e (sym (c .before .before .before .before .before .before .before .is-word .ensures) ∙ c .before .before .before .before .before .before .if1 .taken) (chars-read _ e (c .before .before .before .before .before .all-chars .ensures) (c .before .before .before .before .refuse-if .ensures)));
       kept = c .before .before .copy .ensures .kept;
-      puts = λ h. adds-same (c .before .before .copy .ensures) (c .before .before .before .before .before .before .before .before .before .bytes-of .ensures);
+      puts = λ h. adds-same (c .before .before .copy .ensures) e;
     }
 
 slice-aggregate-equal : tie.Need-slice-aggregate-equal
@@ -55,16 +55,18 @@ copy-requires-2 : tie.Need-copy-requires-2
 copy-requires-2 c κs = search needs
 
 same-length-2 : tie.Need-same-length-2
-same-length-2 c = search needs
+same-length-2 c = c .before .before .copy2 .ensures .kept
 
 returns-2 : tie.Need-returns-2
 unfolding bytes
 returns-2 c =
+    let word = sym (c .before .before .before .before .before .before .before .before .before .is-word .ensures) ∙ c .before .before .before .before .before .before .before .before .if1 .left in
+    let here = sym (c .before .before .before .before .before .before .equal .ensures) ∙ c .before .before .before .before .before .if2 .taken in
     record {
       ds = mark ∷ [];
-      goes = then _ (c .before .before .before .before .before .before .before .before .before .before .step .ensures) (piece-mark _ _ (cc) (cc) (then _ (checked (c .before .before .before .before .refuse-if2 .ensures) refl refl) given));
+      goes = then _ (c .before .before .before .before .before .before .before .before .before .before .step .ensures) (piece-mark _ _ (c .before .before .before .before .before .before .before .before .before .before .before .bytes-of .ensures) word here (then _ (checked (c .before .before .before .before .refuse-if2 .ensures) refl refl) given));
       kept = c .before .before .copy2 .ensures .kept;
-      puts = λ h. adds-same (c .before .before .copy2 .ensures) (same-eq _ (bytes "#") (cc));
+      puts = λ h. adds-same (c .before .before .copy2 .ensures) (same-eq _ (bytes "#") here);
     }
 
 slice-aggregate-equal-2 : tie.Need-slice-aggregate-equal-2
@@ -77,14 +79,17 @@ repeat-requires : tie.Need-repeat-requires
 repeat-requires c κs = search needs
 
 same-length-3 : tie.Need-same-length-3
-same-length-3 c = search needs
+same-length-3 c = c .before .before .repeat .ensures .kept
 
 returns-3 : tie.Need-returns-3
 unfolding bytes
 returns-3 c =
+    let word = sym (c .before .before .before .before .before .before .before .before .before .before .before .is-word .ensures) ∙ c .before .before .before .before .before .before .before .before .before .before .if1 .left in
+    let marked = sym (c .before .before .before .before .before .before .before .before .equal .ensures) ∙ c .before .before .before .before .before .before .before .if2 .left in
+    let here = sym (c .before .before .before .before .before .equal2 .ensures) ∙ c .before .before .before .before .if3 .taken in
     record {
       ds = c .before .before .repeat .ensures .ds;
-      goes = then _ (c .before .before .before .before .before .before .before .before .before .before .before .before .step .ensures) (piece-repeat _ _ (cc) (cc) (cc) (c .before .before .repeat .ensures .goes));
+      goes = then _ (c .before .before .before .before .before .before .before .before .before .before .before .before .step .ensures) (piece-repeat _ _ (c .before .before .before .before .before .before .before .before .before .before .before .before .before .bytes-of .ensures) word marked here (c .before .before .repeat .ensures .goes));
       kept = c .before .before .repeat .ensures .kept;
       puts = c .before .before .repeat .ensures .puts;
     }
@@ -95,9 +100,12 @@ refuse-if-requires-3 c κs = search needs
 returns-4 : tie.Need-returns-4
 unfolding bytes
 returns-4 c =
+    let word = sym (c .before .before .before .before .before .before .before .before .is-word .ensures) ∙ c .before .before .before .before .before .before .before .if1 .left in
+    let marked = sym (c .before .before .before .before .before .equal .ensures) ∙ c .before .before .before .before .if2 .left in
+    let repeats = sym (c .before .before .equal2 .ensures) ∙ c .before .if3 .left in
     record {
       ds = [];
-      goes = then _ (c .before .before .before .before .before .before .before .before .before .step .ensures) (piece-none _ _ (cc) (cc) (cc) (refused-by (c .refuse-if3 .ensures) refl));
+      goes = then _ (c .before .before .before .before .before .before .before .before .before .step .ensures) (piece-none _ _ (c .before .before .before .before .before .before .before .before .before .before .bytes-of .ensures) word marked repeats (refused-by (c .refuse-if3 .ensures) refl));
       kept = refl;
       puts = λ h. adds-none;
     }

@@ -27,13 +27,13 @@ stretch-requires : tie.Need-stretch-requires
 stretch-requires c κs = search needs
 
 same-length : tie.Need-same-length
-same-length c = search needs
+same-length c = c .before .before .stretch .ensures .kept
 
 returns : tie.Need-returns
 returns c =
     record {
       ds = _;
-      goes = repeat-word (c .before .before .before .before .before .before .before .before .before .times .ensures) (then _ (c .before .before .before .before .before .before .word .ensures) (then _ (chars-read _ (c .before .before .before .before .refuse-if .ensures) (cc)) given));
+      goes = repeat-word (c .before .before .before .before .before .before .before .before .before .times .ensures) (then _ (c .before .before .before .before .before .before .word .ensures) (then _ (chars-read _ (c .before .before .before .before .before .before .before .bytes-of .ensures) (c .before .before .before .before .before .all-chars .ensures) (c .before .before .before .before .refuse-if .ensures)) given));
       kept = c .before .before .stretch .ensures .kept;
       puts = λ h. adds-same (c .before .before .stretch .ensures) (ap (stretched (c .before .before .before .before .before .before .before .before .before .times .result .n)) (c .before .before .before .before .before .before .before .bytes-of .ensures));
     }

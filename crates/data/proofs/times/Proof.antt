@@ -1,9 +1,6 @@
 -- The word is taken; then it is `r` and a number, or not allowed here.
 use mathlib.Core.Logic.{⊎-elim}
-use mathlib.Core.Path.{refl, ap, sym, _∙_}
-use mathlib.Core.List.{List}
-use Prim.Native.Nat.{ℕ}
-use Rattle.meaning.specs.Data.{repeatOf}
+use mathlib.Core.Path.{refl}
 use Rattle.words.proofs.Flow.{then, refused-by}
 use Rattle.data.proofs.Pieces.{repeat-some, repeat-other, repeat-end, times-some, times-none}
 use borrow.Author.Needs.{needs}
@@ -35,9 +32,7 @@ within-requires : tie.Need-within-requires
 within-requires c κs = search needs
 
 returns : tie.Need-returns
-returns c =
-    let e = repeat-some (c .before .before .before .before .before .before .before .bytes-of .result .now) (c .before .before .before .before .before .if1 .taken) (c .before .before .before .if2 .taken) in
-    then _ (c .before .before .before .before .before .before .step .ensures) (times-some _ _ (ap repeatOf (sym (c .before .before .before .before .before .before .before .bytes-of .ensures)) ∙ e) (c .within .ensures _ _ (c .before .number .ensures)))
+returns c = then _ (c .before .before .before .before .before .before .step .ensures) (times-some _ (c .before .before .before .before .before .before .before .bytes-of .ensures) (repeat-some _ (c .before .before .before .before .before .if1 .taken) (c .before .before .before .if2 .taken)) (c .within .ensures _ _ (c .before .number .ensures)))
 
 refuse-if-requires : tie.Need-refuse-if-requires
 refuse-if-requires c κs = search needs
@@ -46,7 +41,7 @@ returns-2 : tie.Need-returns-2
 returns-2 c =
     let w = c .before .before .before .bytes-of .result .now in
     let e = ⊎-elim (λ z. repeat-other w (z .2 .left)) (λ z. repeat-end w (z .left)) (c .before .if1 .came) in
-    then _ (c .before .before .step .ensures) (times-none _ (ap repeatOf (sym (c .before .before .before .bytes-of .ensures)) ∙ e) (refused-by (c .refuse-if .ensures) refl))
+    then _ (c .before .before .step .ensures) (times-none _ (c .before .before .before .bytes-of .ensures) e (refused-by (c .refuse-if .ensures) refl))
 
 pub times-spec : {M : Type 1} → statement M
 times-spec =
