@@ -35,7 +35,11 @@ loop-less : tie.Need-loop-less Inv-loop μ-loop
 loop-less c = search needs
 
 loop-again : tie.Need-loop-again Inv-loop μ-loop
-loop-again c = (omega arith, wrote-more (c .before .before .loop .inv .1) (omega (arith, c .before .before .before .fitting .ensures)) (omega (arith, c .before .before .before .before .before .before .good .0 .1)) (omega (arith, c .before .before .before .fitting .ensures)) refl)
+loop-again c =
+    let fits = c .before .before .before .fitting .ensures in
+    let start = c .before .before .before .before .before .before in
+    let loop = c .before .before .loop in
+    (omega arith, wrote-more (loop .inv .1) (omega (arith, fits)) (omega (arith, start .good .0 .1)) (omega (arith, fits)) refl)
 
 counted-requires : tie.Need-counted-requires Inv-loop μ-loop
 counted-requires c κs = search needs
@@ -44,7 +48,10 @@ same-length : tie.Need-same-length Inv-loop μ-loop
 same-length c = c .before .before .loop .inv .1 .kept
 
 returns : tie.Need-returns Inv-loop μ-loop
-returns c = wrote-all (c .before .before .loop .inv .1) (omega (arith, c .before .before .before .fitting .ensures)) (omega (arith, c .before .before .before .before .before .before .good .0 .1)) (c .counted .ensures)
+returns c =
+    let fits = c .before .before .before .fitting .ensures in
+    let start = c .before .before .before .before .before .before in
+    wrote-all (c .before .before .loop .inv .1) (omega (arith, fits)) (omega (arith, start .good .0 .1)) (c .counted .ensures)
 
 pub copy-spec : {M : Type 1} → statement M
 copy-spec =

@@ -26,11 +26,17 @@ piece-requires c κs = search needs
 
 loop-less : tie.Need-loop-less Inv-loop μ-loop
 unfolding bytes
-loop-less c = reading-less (c .before .before .before .before .before .before .before .before .loop .inv) (c .before .before .before .before .before .before .until .ensures) (c .before .before .before .before .before .if1 .taken) (c .before .before .before .piece .ensures)
+loop-less c =
+    let test = c .before .before .before .before .before in
+    let loop = test .before .before .before .loop in
+    reading-less (loop .inv) (test .before .until .ensures) (test .if1 .taken) (c .before .before .before .piece .ensures)
 
 loop-again : tie.Need-loop-again Inv-loop μ-loop
 unfolding bytes
-loop-again c = reading-more (c .before .before .before .before .before .before .before .before .loop .inv) (c .before .before .before .before .before .before .until .ensures) (c .before .before .before .before .before .if1 .taken) (c .before .before .before .piece .ensures)
+loop-again c =
+    let test = c .before .before .before .before .before in
+    let loop = test .before .before .before .loop in
+    reading-more (loop .inv) (test .before .until .ensures) (test .if1 .taken) (c .before .before .before .piece .ensures)
 
 slice-aggregate-due : tie.Need-slice-aggregate-due Inv-loop μ-loop
 slice-aggregate-due c = search needs

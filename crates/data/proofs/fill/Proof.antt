@@ -34,9 +34,12 @@ loop-less c = search needs
 
 loop-again : tie.Need-loop-again Inv-loop μ-loop
 loop-again c =
-    let l = length-replicate (c .before .before .before .before .args .k) (c .before .before .before .before .args .x) in
-    let h : c .before .loop .i < c .before .before .before .before .args .k = omega (arith, c .before .before .fitting .ensures) in
-    (omega arith, wrote-more (c .before .loop .inv .1) (omega (arith, c .before .before .fitting .ensures)) (omega (arith, c .before .before .before .before .good .0 .1)) (omega arith) (sym (getD-replicate (c .before .before .before .before .args .k) (c .before .loop .i) (c .before .before .before .before .args .x) 0 h)))
+    let fits = c .before .before .fitting .ensures in
+    let start = c .before .before .before .before in
+    let l = length-replicate (start .args .k) (start .args .x) in
+    let h : c .before .loop .i < start .args .k = omega (arith, fits) in
+    let x = sym (getD-replicate (start .args .k) (c .before .loop .i) (start .args .x) 0 h) in
+    (omega arith, wrote-more (c .before .loop .inv .1) (omega (arith, fits)) (omega (arith, start .good .0 .1)) (omega arith) x)
 
 counted-requires : tie.Need-counted-requires Inv-loop μ-loop
 counted-requires c κs = search needs
@@ -46,8 +49,10 @@ same-length c = c .before .before .loop .inv .1 .kept
 
 returns : tie.Need-returns Inv-loop μ-loop
 returns c =
-    let l = length-replicate (c .before .before .before .before .before .args .k) (c .before .before .before .before .before .args .x) in
-    wrote-all (c .before .before .loop .inv .1) (omega (arith, c .before .before .before .fitting .ensures)) (omega (arith, c .before .before .before .before .before .good .0 .1)) (omega (arith, c .counted .ensures))
+    let start = c .before .before .before .before .before in
+    let l = length-replicate (start .args .k) (start .args .x) in
+    wrote-all (c .before .before .loop .inv .1) (omega (arith, c .before .before .before .fitting .ensures)) (omega (arith, start .good .0 .1))
+    (omega (arith, c .counted .ensures))
 
 pub fill-spec : {M : Type 1} → statement M
 fill-spec =

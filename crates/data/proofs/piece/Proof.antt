@@ -34,10 +34,13 @@ same-length c = c .before .before .copy .ensures .kept
 
 returns : tie.Need-returns
 returns c =
-    let e = c .before .before .before .before .before .before .before .before .before .bytes-of .ensures in
+    let first = c .before .before .before .before .before .before in
+    let e = first .before .before .before .bytes-of .ensures in
+    let word = sym (first .before .is-word .ensures) ∙ first .if1 .taken in
+    let read = chars-read _ e (c .before .before .before .before .before .all-chars .ensures) (c .before .before .before .before .refuse-if .ensures) in
     record {
       ds = _;
-      goes = then _ (c .before .before .before .before .before .before .before .before .step .ensures) (piece-word _ _ e (sym (c .before .before .before .before .before .before .before .is-word .ensures) ∙ c .before .before .before .before .before .before .if1 .taken) (chars-read _ e (c .before .before .before .before .before .all-chars .ensures) (c .before .before .before .before .refuse-if .ensures)));
+      goes = then _ (first .before .before .step .ensures) (piece-word _ _ e word read);
       kept = c .before .before .copy .ensures .kept;
       puts = λ h. adds-same (c .before .before .copy .ensures) e;
     }
@@ -60,11 +63,15 @@ same-length-2 c = c .before .before .copy2 .ensures .kept
 returns-2 : tie.Need-returns-2
 unfolding bytes
 returns-2 c =
-    let word = sym (c .before .before .before .before .before .before .before .before .before .is-word .ensures) ∙ c .before .before .before .before .before .before .before .before .if1 .left in
-    let here = sym (c .before .before .before .before .before .before .equal .ensures) ∙ c .before .before .before .before .before .if2 .taken in
+    let second = c .before .before .before .before .before in
+    let first = second .before .before .before in
+    let e = first .before .before .before .bytes-of .ensures in
+    let word = sym (first .before .is-word .ensures) ∙ first .if1 .left in
+    let here = sym (second .before .equal .ensures) ∙ second .if2 .taken in
+    let read = then _ (checked (c .before .before .before .before .refuse-if2 .ensures) refl refl) given in
     record {
       ds = mark ∷ [];
-      goes = then _ (c .before .before .before .before .before .before .before .before .before .before .step .ensures) (piece-mark _ _ (c .before .before .before .before .before .before .before .before .before .before .before .bytes-of .ensures) word here (then _ (checked (c .before .before .before .before .refuse-if2 .ensures) refl refl) given));
+      goes = then _ (first .before .before .step .ensures) (piece-mark _ _ e word here read);
       kept = c .before .before .copy2 .ensures .kept;
       puts = λ h. adds-same (c .before .before .copy2 .ensures) (same-eq _ (bytes "#") here);
     }
@@ -84,14 +91,19 @@ same-length-3 c = c .before .before .repeat .ensures .kept
 returns-3 : tie.Need-returns-3
 unfolding bytes
 returns-3 c =
-    let word = sym (c .before .before .before .before .before .before .before .before .before .before .before .is-word .ensures) ∙ c .before .before .before .before .before .before .before .before .before .before .if1 .left in
-    let marked = sym (c .before .before .before .before .before .before .before .before .equal .ensures) ∙ c .before .before .before .before .before .before .before .if2 .left in
-    let here = sym (c .before .before .before .before .before .equal2 .ensures) ∙ c .before .before .before .before .if3 .taken in
+    let third = c .before .before .before .before in
+    let second = third .before .before .before in
+    let first = second .before .before .before in
+    let e = first .before .before .before .bytes-of .ensures in
+    let word = sym (first .before .is-word .ensures) ∙ first .if1 .left in
+    let marked = sym (second .before .equal .ensures) ∙ second .if2 .left in
+    let here = sym (third .before .equal2 .ensures) ∙ third .if3 .taken in
+    let rest = c .before .before .repeat .ensures in
     record {
-      ds = c .before .before .repeat .ensures .ds;
-      goes = then _ (c .before .before .before .before .before .before .before .before .before .before .before .before .step .ensures) (piece-repeat _ _ (c .before .before .before .before .before .before .before .before .before .before .before .before .before .bytes-of .ensures) word marked here (c .before .before .repeat .ensures .goes));
-      kept = c .before .before .repeat .ensures .kept;
-      puts = c .before .before .repeat .ensures .puts;
+      ds = rest .ds;
+      goes = then _ (first .before .before .step .ensures) (piece-repeat _ _ e word marked here (rest .goes));
+      kept = rest .kept;
+      puts = rest .puts;
     }
 
 refuse-if-requires-3 : tie.Need-refuse-if-requires-3
@@ -100,12 +112,16 @@ refuse-if-requires-3 c κs = search needs
 returns-4 : tie.Need-returns-4
 unfolding bytes
 returns-4 c =
-    let word = sym (c .before .before .before .before .before .before .before .before .is-word .ensures) ∙ c .before .before .before .before .before .before .before .if1 .left in
-    let marked = sym (c .before .before .before .before .before .equal .ensures) ∙ c .before .before .before .before .if2 .left in
-    let repeats = sym (c .before .before .equal2 .ensures) ∙ c .before .if3 .left in
+    let third = c .before in
+    let second = third .before .before .before in
+    let first = second .before .before .before in
+    let e = first .before .before .before .bytes-of .ensures in
+    let word = sym (first .before .is-word .ensures) ∙ first .if1 .left in
+    let marked = sym (second .before .equal .ensures) ∙ second .if2 .left in
+    let repeats = sym (third .before .equal2 .ensures) ∙ third .if3 .left in
     record {
       ds = [];
-      goes = then _ (c .before .before .before .before .before .before .before .before .before .step .ensures) (piece-none _ _ (c .before .before .before .before .before .before .before .before .before .before .bytes-of .ensures) word marked repeats (refused-by (c .refuse-if3 .ensures) refl));
+      goes = then _ (first .before .before .step .ensures) (piece-none _ _ e word marked repeats (refused-by (c .refuse-if3 .ensures) refl));
       kept = refl;
       puts = λ h. adds-none;
     }

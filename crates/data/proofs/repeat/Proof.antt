@@ -31,11 +31,15 @@ same-length c = c .before .before .stretch .ensures .kept
 
 returns : tie.Need-returns
 returns c =
+    let tested = c .before .before .before .before in
+    let e = tested .before .before .before .bytes-of .ensures in
+    let times = tested .before .before .before .before .before .times in
+    let read = chars-read _ e (tested .before .all-chars .ensures) (tested .refuse-if .ensures) in
     record {
       ds = _;
-      goes = repeat-word (c .before .before .before .before .before .before .before .before .before .times .ensures) (then _ (c .before .before .before .before .before .before .word .ensures) (then _ (chars-read _ (c .before .before .before .before .before .before .before .bytes-of .ensures) (c .before .before .before .before .before .all-chars .ensures) (c .before .before .before .before .refuse-if .ensures)) given));
+      goes = repeat-word (times .ensures) (then _ (tested .before .before .word .ensures) (then _ read given));
       kept = c .before .before .stretch .ensures .kept;
-      puts = λ h. adds-same (c .before .before .stretch .ensures) (ap (stretched (c .before .before .before .before .before .before .before .before .before .times .result .n)) (c .before .before .before .before .before .before .before .bytes-of .ensures));
+      puts = λ h. adds-same (c .before .before .stretch .ensures) (ap (stretched (times .result .n)) e);
     }
 
 pub repeat-spec : {M : Type 1} → statement M

@@ -5,7 +5,9 @@ use Rattle.data.proofs.stretch.Statement.{statement}
 use Rattle.data.proofs.stretch.Tie as tie
 
 returns : tie.Need-returns
-returns c = adds-stretched-none (c .before .before .before .args .k) (c .before .before .before .args .w .now) (c .if1 .taken)
+returns c =
+    let start = c .before .before .before in
+    adds-stretched-none (start .args .k) (start .args .w .now) (c .if1 .taken)
 
 shared-slice-read-fill : tie.Need-shared-slice-read-fill
 shared-slice-read-fill c = search needs
@@ -29,7 +31,11 @@ same-length : tie.Need-same-length
 same-length c = search needs
 
 returns-2 : tie.Need-returns-2
-returns-2 c = adds-stretched (c .before .before .before .before .before .before .before .before .before .before .before .before .before .args .k) (c .before .before .before .before .before .before .before .before .before .before .before .before .before .args .w .now) (c .before .before .before .before .before .before .before .before .before .before .if1 .left) (c .before .before .before .before .before .before .before .fill .ensures) (c .before .before .copy .ensures)
+returns-2 c =
+    let filled = c .before .before .before .before .before .before .before in
+    let test = filled .before .before .before in
+    let start = test .before .before .before in
+    adds-stretched (start .args .k) (start .args .w .now) (test .if1 .left) (filled .fill .ensures) (c .before .before .copy .ensures)
 
 pub stretch-spec : {M : Type 1} → statement M
 stretch-spec =

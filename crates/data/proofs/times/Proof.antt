@@ -32,7 +32,11 @@ within-requires : tie.Need-within-requires
 within-requires c κs = search needs
 
 returns : tie.Need-returns
-returns c = then _ (c .before .before .before .before .before .before .step .ensures) (times-some _ (c .before .before .before .before .before .before .before .bytes-of .ensures) (repeat-some _ (c .before .before .before .before .before .if1 .taken) (c .before .before .before .if2 .taken)) (c .within .ensures _ _ (c .before .number .ensures)))
+returns c =
+    let first = c .before .before .before .before .before in
+    let e = first .before .before .bytes-of .ensures in
+    let here = repeat-some _ (first .if1 .taken) (c .before .before .before .if2 .taken) in
+    then _ (first .before .step .ensures) (times-some _ e here (c .within .ensures _ _ (c .before .number .ensures)))
 
 refuse-if-requires : tie.Need-refuse-if-requires
 refuse-if-requires c κs = search needs
