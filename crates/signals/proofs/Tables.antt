@@ -2,7 +2,6 @@
 use Prim.Native.Nat.{ℕ, zero, suc, _+_, _*_, _≤_, _<_}
 use native.Mathlib.Omega.{arith}
 use native.Mathlib.Nat.{zero-add, add-zero, add-suc, suc-add}
-use native.Mathlib.Numerals.{add-one}
 use mathlib.Core.Path.{_≡_, refl, sym, ap, ap₂, _∙_, subst}
 use mathlib.Core.Bool.{Bool, true, false}
 use mathlib.Core.Option.{Option, some}
@@ -21,7 +20,7 @@ use Rattle.sets.proofs.Tidy.{TidyBelow}
 use Rattle.words.specs.Cursor.{ahead, alive, Goes}
 use Rattle.words.specs.Table.{nameOf, namesFrom, names, named}
 use Rattle.words.specs.declared.Cursor.{Cursor}
-use Rattle.words.proofs.Names.{names-more}
+use Rattle.words.proofs.Names.{names-agree, names-more}
 use Rattle.signals.specs.Names.{namesMost, Sized, listAt, namesOf, Written, Added, AllTidy, more as another, Fronted}
 use Rattle.signals.proofs.Tidy.{gave, gives-known, Single, one, declared-front}
 
@@ -61,16 +60,12 @@ named-more f [] x = refl
 named-more {A} {B} f (y ∷ xs) x = ap (λ (l : List (Tok × B)). (y .0, f (y .1)) ∷ l) (named-more f xs x)
 
 module _ (text p q l m : List ℕ) where
-  -- tables that agree on those names
-  agree : (i k : ℕ) → ((j : ℕ) → j < (i + k) * 2 → getD q j 0 ≡ getD p j 0) → ((j : ℕ) → j < i + k → listAt m j ≡ listAt l j)
-      → rows text q m i k ≡ rows text p l i k
+  -- tables whose rows agree on those names
+  rows-agree : (i k : ℕ) → ((j : ℕ) → j < i + k → listAt m j ≡ listAt l j) → rows text p m i k ≡ rows text p l i k
   unfolding named namesFrom
-  agree i zero h g = refl
-  agree i (suc k) h g =
-      let a = h (i * 2) (omega arith) in
-      let b = h (i * 2 + 1) (omega arith) in
-      let e = g i (omega arith) in
-      rw (a, b, e) (ap (λ (ns : Names). (nameOf text p i, listAt l i) ∷ ns) (agree (suc i) k (λ j f. h j (omega arith)) (λ j f. g j (omega arith))))
+  rows-agree i zero g = refl
+  rows-agree i (suc k) g =
+      rw (g i (omega arith)) (ap (λ (ns : Names). (nameOf text p i, listAt l i) ∷ ns) (rows-agree (suc i) k (λ j b. g j (omega arith))))
 
   -- the name at the cursor, with its place and end behind theirs, and its row
   names-added : (count : ℕ) (c : Cursor) {s : Set} → q ≡ set (set p (count * 2) (c .at)) (count * 2 + 1) (c .end) → count * 2 + 1 < length p
@@ -84,10 +79,9 @@ module _ (text p q l m : List ℕ) where
       let others : (j : ℕ) → j < (0 + count) * 2 → getD q j 0 ≡ getD p j 0 = λ j b.
       rw e (getD-set-other first (count * 2 + 1) j (c .end) 0 (λ z. omega arith) ∙ getD-set-other p (count * 2) j (c .at) 0 (λ z. omega arith)) in
       let it : nameOf text q count ≡ ahead text c = rw (start, end) in
-      sym (ap (λ (k : ℕ). named (listAt m) (namesFrom text q 0 k)) (add-one count)
-      ∙ ap (named (listAt m)) (names-more text q 0 count ∙ ap (λ (k : ℕ). namesFrom text q 0 count ++ (nameOf text q k, k) ∷ []) (zero-add count))
-      ∙ named-more (listAt m) (namesFrom text q 0 count) (nameOf text q count, count)
-      ∙ ap₂ (λ (ns : Names) (x : Tok × List ℕ). ns ++ x ∷ []) (agree 0 count others (λ j b. w .earlier j (omega arith)))
+      sym (ap (named (listAt m)) (names-more text q count)
+      ∙ named-more (listAt m) (names text q count) (nameOf text q count, count)
+      ∙ ap₂ (λ (ns : Names) (x : Tok × List ℕ). ns ++ x ∷ []) (ap (named (listAt m)) (names-agree text p q 0 count others) ∙ rows-agree 0 count (λ j b. w .earlier j (omega arith)))
       (ap₂ (λ (t : Tok) (k : List ℕ). (t, k)) it (w .row)))
 
 -- both tables hold one name more

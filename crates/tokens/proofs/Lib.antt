@@ -1,4 +1,4 @@
-mod Classes
+mod Allowed
 mod Reading
 mod Stream
 pub mod Laws

@@ -13,7 +13,7 @@ use Rattle.tokens.specs.Written.{starts, cases}
 use Rattle.tokens.specs.Bytes.{allowed, blank, wordy}
 use Rattle.tokens.specs.Refusals.{badByte, openComment, notHere}
 use Rattle.tokens.specs.Tokens.{Tok, Toks, stop, tok, Mode, plain, inword, line, closing, opened, block, Act, go, token, bad, run, outside, inMode, act, ended, done, lex, left}
-use Rattle.tokens.proofs.Classes.{wordy-allowed}
+use Rattle.tokens.proofs.Allowed.{wordy-allowed}
 
 -- ---- a word: its bytes are a front of the text's, and reading on behind its first byte is reading from its end
 

@@ -1,6 +1,5 @@
 pub mod Written
 pub mod Bytes
-pub mod Classes
 pub mod Refusals
 pub mod Tokens
 pub mod Answers

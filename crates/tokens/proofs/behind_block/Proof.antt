@@ -4,9 +4,9 @@ use mathlib.Core.Path.{_≡_, _∙_, sym}
 use mathlib.Core.Logic.{⊎-elim}
 use native.Mathlib.Omega.{arith}
 use borrow.Author.Needs.{needs}
+use borrow.Author.Tests.{not-true, not-false}
 use lib.ListN.{length}
 use Rattle.tokens.specs.Tokens.{block}
-use Rattle.tokens.proofs.Classes.{is-bad, is-allowed}
 use Rattle.tokens.proofs.Reading.{from, led-to, led-on, bad-stops, block-closes, block-goes, star-goes, block-over}
 use Rattle.tokens.proofs.behind_block.Statement.{statement}
 use Rattle.tokens.proofs.behind_block.Tie as tie
@@ -23,14 +23,14 @@ loop-holds c = search needs
 shared-slice-read-b : tie.Need-shared-slice-read-b Inv-loop μ-loop
 shared-slice-read-b c = search needs
 
-class-requires : tie.Need-class-requires Inv-loop μ-loop
-class-requires c κs = search needs
+is-allowed-requires : tie.Need-is-allowed-requires Inv-loop μ-loop
+is-allowed-requires c κs = search needs
 
 returns : tie.Need-returns Inv-loop μ-loop
 returns c =
     let turn = c .before .before .before in
     led-to (turn .before .loop .inv .1)
-    (bad-stops _ _ _ (turn .loop-test .taken) (is-bad _ _ (c .before .class .ensures) (c .if1 .taken)))
+    (bad-stops _ _ _ (turn .loop-test .taken) (sym (c .before .is-allowed .ensures) ∙ not-true _ (c .if1 .taken)))
 
 add-byte-at : tie.Need-add-byte-at Inv-loop μ-loop
 add-byte-at c = search needs
@@ -38,8 +38,8 @@ add-byte-at c = search needs
 byte-at-requires : tie.Need-byte-at-requires Inv-loop μ-loop
 byte-at-requires c κs = search needs
 
-add-t14 : tie.Need-add-t14 Inv-loop μ-loop
-add-t14 c = search needs
+add-t15 : tie.Need-add-t15 Inv-loop μ-loop
+add-t15 c = search needs
 
 returns-2 : tie.Need-returns-2 Inv-loop μ-loop
 returns-2 c =
@@ -56,7 +56,7 @@ loop-less c = search needs
 loop-again : tie.Need-loop-again Inv-loop μ-loop
 loop-again c =
     let turn = c .before .before .before .before in
-    let on = is-allowed _ _ (c .before .before .class .ensures) (c .before .if1 .left) in (
+    let on = sym (c .before .before .is-allowed .ensures) ∙ not-false _ (c .before .if1 .left) in (
       omega arith,
       turn .before .loop .inv .1
           ∙ ⊎-elim
@@ -76,11 +76,11 @@ behind-block-spec =
     μ-loop
     loop-holds
     shared-slice-read-b
-    class-requires
+    is-allowed-requires
     returns
     add-byte-at
     byte-at-requires
-    add-t14
+    add-t15
     returns-2
     add-i
     loop-less

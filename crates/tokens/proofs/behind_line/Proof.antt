@@ -1,11 +1,11 @@
 -- `behind_line` meets its contract. The invariant: reading in the `//` gives from here what it gives from `at`.
 use Prim.Native.Nat.{_-_, _≤_}
-use mathlib.Core.Path.{_≡_, _∙_}
+use mathlib.Core.Path.{_≡_, sym, _∙_}
 use native.Mathlib.Omega.{arith}
 use borrow.Author.Needs.{needs}
+use borrow.Author.Tests.{not-true, not-false}
 use lib.ListN.{length}
 use Rattle.tokens.specs.Tokens.{line}
-use Rattle.tokens.proofs.Classes.{is-bad, is-allowed}
 use Rattle.tokens.proofs.Reading.{from, led-to, led-on, bad-stops, line-ends, line-goes, line-over}
 use Rattle.tokens.proofs.behind_line.Statement.{statement}
 use Rattle.tokens.proofs.behind_line.Tie as tie
@@ -30,14 +30,14 @@ returns c =
     let turn = c .before .before in
     led-on (turn .before .loop .inv .1) (omega arith) (line-ends _ _ (turn .loop-test .taken) (c .if1 .taken))
 
-class-requires : tie.Need-class-requires Inv-loop μ-loop
-class-requires c κs = search needs
+is-allowed-requires : tie.Need-is-allowed-requires Inv-loop μ-loop
+is-allowed-requires c κs = search needs
 
 returns-2 : tie.Need-returns-2 Inv-loop μ-loop
 returns-2 c =
     let turn = c .before .before .before .before in
     led-to (turn .before .loop .inv .1)
-    (bad-stops _ _ line (turn .loop-test .taken) (is-bad _ _ (c .before .class .ensures) (c .if2 .taken)))
+    (bad-stops _ _ line (turn .loop-test .taken) (sym (c .before .is-allowed .ensures) ∙ not-true _ (c .if2 .taken)))
 
 add-i : tie.Need-add-i Inv-loop μ-loop
 add-i c = search needs
@@ -48,7 +48,7 @@ loop-less c = search needs
 loop-again : tie.Need-loop-again Inv-loop μ-loop
 loop-again c =
     let turn = c .before .before .before .before in
-    let on = is-allowed _ _ (c .before .class .ensures) (c .if2 .left) in
+    let on = sym (c .before .is-allowed .ensures) ∙ not-false _ (c .if2 .left) in
     (omega arith, turn .before .loop .inv .1 ∙ line-goes _ _ (turn .loop-test .taken) on (c .before .before .if1 .left))
 
 returns-3 : tie.Need-returns-3 Inv-loop μ-loop
@@ -64,7 +64,7 @@ behind-line-spec =
     shared-slice-read-b
     add-t9
     returns
-    class-requires
+    is-allowed-requires
     returns-2
     add-i
     loop-less

@@ -1,11 +1,11 @@
 -- `word_end` meets its contract. The invariant: a place and the word bytes from it on sum to the same, whether counted from `at` or from here.
 use Prim.Native.Nat.{_+_, _-_}
-use mathlib.Core.Path.{_≡_}
+use mathlib.Core.Path.{_≡_, sym, _∙_}
 use native.Mathlib.Omega.{arith}
 use borrow.Author.Needs.{needs}
+use borrow.Author.Tests.{not-true, not-false}
 use lib.ListN.{length, drop}
 use Rattle.tokens.specs.Tokens.{run}
-use Rattle.tokens.proofs.Classes.{is-word, no-word}
 use Rattle.tokens.proofs.Reading.{word-goes, word-ends, word-over}
 use Rattle.tokens.proofs.word_end.Statement.{statement}
 use Rattle.tokens.proofs.word_end.Tie as tie
@@ -19,11 +19,11 @@ abbrev μ-loop : tie.MeasureT-loop
 loop-holds : tie.Need-loop-holds Inv-loop μ-loop
 loop-holds c = search needs
 
-shared-slice-read-class : tie.Need-shared-slice-read-class Inv-loop μ-loop
-shared-slice-read-class c = search needs
+shared-slice-read-is-wordy : tie.Need-shared-slice-read-is-wordy Inv-loop μ-loop
+shared-slice-read-is-wordy c = search needs
 
-class-requires : tie.Need-class-requires Inv-loop μ-loop
-class-requires c κs = search needs
+is-wordy-requires : tie.Need-is-wordy-requires Inv-loop μ-loop
+is-wordy-requires c κs = search needs
 
 returns : tie.Need-returns Inv-loop μ-loop
 returns c =
@@ -31,7 +31,7 @@ returns c =
     omega (
       arith,
       word-ends (turn .before .before .before .args .text .now) (turn .before .loop .i) (turn .loop-test .taken)
-          (no-word _ _ (c .before .class .ensures) (c .if1 .taken)),
+          (sym (c .before .is-wordy .ensures) ∙ not-true _ (c .if1 .taken)),
     )
 
 add-i : tie.Need-add-i Inv-loop μ-loop
@@ -46,7 +46,7 @@ loop-again c =
     omega (
       arith,
       word-goes (turn .before .before .before .args .text .now) (turn .before .loop .i) (turn .loop-test .taken)
-          (is-word _ _ (c .before .class .ensures) (c .if1 .left)),
+          (sym (c .before .is-wordy .ensures) ∙ not-false _ (c .if1 .left)),
     )
 
 returns-2 : tie.Need-returns-2 Inv-loop μ-loop
@@ -59,8 +59,8 @@ word-end-spec =
     Inv-loop
     μ-loop
     loop-holds
-    shared-slice-read-class
-    class-requires
+    shared-slice-read-is-wordy
+    is-wordy-requires
     returns
     add-i
     loop-less

@@ -1,0 +1,5 @@
+pub mod Over
+mod Pieces
+pub mod Characters
+mod Turns
+pub mod Held

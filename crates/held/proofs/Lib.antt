@@ -1,0 +1,15 @@
+pub mod Rest
+pub mod Grammar
+pub mod Turn
+pub mod Again
+pub mod Leads
+pub mod Due
+pub mod All
+pub mod Held
+pub mod Only
+pub mod Declared
+pub mod Bodies
+pub mod Parts
+pub mod Whole
+pub mod Places
+pub mod Accepted

@@ -1,0 +1,1 @@
+// Where a text holds its bodies: what a player reads at each use (specs/, proofs/); no code.
