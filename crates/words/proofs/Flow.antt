@@ -66,6 +66,14 @@ recast {A} {text} {c} {r} {m} {k} {a} g h = record { same = g .same ∙ by (aliv
     by true e = ap (λ (x : Reader A). from text c x) (h e)
     by false e = from-stop text c m e ∙ sym (from-stop text c k e)
 
+-- another reader that does the same with all tokens
+pub alike : {A : Type 0} {text : List ℕ} {c r : Cursor} {m k : Reader A} {a : A} → Goes text c m r a → ((ts : Toks) → m ts ≡ k ts) → Goes text c k r a
+alike {A} {text} {c} {r} {m} {k} {a} g h = record { same = g .same ∙ by (alive c) refl }
+  where
+    by : (z : Bool) → alive c ≡ z → from text c m ≡ from text c k
+    by true e = from-on text c m e ∙ h (stream text c) ∙ sym (from-on text c k e)
+    by false e = from-stop text c m e ∙ sym (from-stop text c k e)
+
 -- from a refused cursor every reader goes nowhere
 pub stays : {A : Type 0} {text : List ℕ} {c : Cursor} {m : Reader A} {a : A} → alive c ≡ false → Goes text c m c a
 unfolding give

@@ -1,5 +1,8 @@
 pub mod Flow
 mod Ahead
+pub mod Choice
+pub mod Loops
 pub mod Words
 mod Numbers
-pub mod Tables
+mod Tables
+pub mod Names

@@ -16,3 +16,8 @@ namesFrom text places i (suc k) = (nameOf text places i, i) ∷ namesFrom text p
 
 abbrev pub names : List ℕ → List ℕ → ℕ → List (Tok × ℕ)
 names text places count = namesFrom text places 0 count
+
+-- the same names, each standing for f of what it stood for
+unfoldable pub named : {A B : Type 0} → (A → B) → List (Tok × A) → List (Tok × B)
+named f [] = []
+named f (x ∷ xs) = (x .0, f (x .1)) ∷ named f xs
