@@ -1,0 +1,3 @@
+mod Making
+mod EventLetters
+mod EventTimes

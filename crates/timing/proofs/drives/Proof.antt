@@ -1,0 +1,16 @@
+-- `drives` meets its contract: the letters in the document's order.
+use mathlib.Core.Path.{refl}
+use Rattle.tokens.specs.Written.{bytes}
+use Rattle.meaning.specs.Lists.{has}
+use Rattle.meaning.specs.Timing.{drives}
+use Rattle.timing.proofs.drives.Statement.{statement}
+use Rattle.timing.proofs.drives.Tie as tie
+use Rattle.timing.proofs.drives.Reads as reads
+use Rattle.timing.proofs.drives.Lts as lts
+
+returns : tie.Need-returns
+unfolding drives has bytes
+returns c = refl
+
+pub drives-spec : {M : Type 1} → statement M
+drives-spec = tie.close (tie.spec returns)

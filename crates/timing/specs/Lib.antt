@@ -1,0 +1,4 @@
+pub mod Makes
+pub mod Events
+pub mod Marks
+pub mod Held
