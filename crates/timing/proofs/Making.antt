@@ -13,9 +13,9 @@ use Rattle.meaning.specs.Names.{known}
 use Rattle.meaning.proofs.Takes.{Takes}
 use Rattle.words.specs.Cursor.{alive, stream, from, Goes, Checked}
 use Rattle.words.specs.declared.Cursor.{Cursor}
-use Rattle.words.proofs.Flow.{from-on, from-stop, given, then, checked, stays, refused-by, alive-before}
+use Rattle.words.proofs.Flow.{from-on, from-stop, given, follows, then, checked, stays, refused-by, alive-before}
 use Rattle.words.proofs.Loops.{Leads, begins, turned, over, less, on, room, ends}
-use Rattle.timing.specs.Makes.{Makes}
+use Rattle.timing.specs.Makes.{Makes, Brings}
 
 -- ---- tests
 
@@ -69,6 +69,21 @@ module _ {A B : Type 0} {text : List ℕ} {c d r : Cursor} {m : Reader A} {P : B
 
   pub makes-bind : {Q : A → Type 0} (f : Makes text c m d Q) → Makes text d (k (f .it)) r P → Makes text c (m >>= k) r P
   makes-bind f g = record { it = g .it; goes = then k (f .goes) (g .goes); held = g .held }
+
+-- ---- a part that is done, and what follows it
+
+pub first : {A B : Type 0} {text : List ℕ} {c d : Cursor} {m : Reader A} {a : A} (k : A → Reader B) → Goes text c m d a → Brings text c (m >>= k) d (k a)
+first k g = record { same = follows k g }
+
+pub first-then : {A B : Type 0} {text : List ℕ} {c d r : Cursor} {m : Reader A} {n : Reader B} {a : A} (k : A → Reader B) → Goes text c m d a
+    → Brings text d (k a) r n → Brings text c (m >>= k) r n
+first-then k g f = record { same = f .same ∙ follows k g }
+
+pub onward : {A : Type 0} {text : List ℕ} {c d r : Cursor} {m k : Reader A} {a : A} → Brings text c m d k → Goes text d k r a → Goes text c m r a
+onward e g = record { same = g .same ∙ e .same }
+
+pub makes-onward : {A : Type 0} {text : List ℕ} {c d r : Cursor} {m k : Reader A} {P : A → Type 0} → Brings text c m d k → Makes text d k r P → Makes text c m r P
+makes-onward e g = record { it = g .it; goes = onward e (g .goes); held = g .held }
 
 -- ---- loops
 

@@ -26,15 +26,23 @@ mark table s b = ltb b charsMost && eqb (getD table (s * charsMost + b) 0) 1
 pub record Marks (table : List ℕ) (ws : List Wave) : Type 0 where
   pub each : (s b : ℕ) → s < signalsMost → mark table s b ≡ hasWave s b ws
 
+-- the marks are those of some waveforms
+pub record Described (table : List ℕ) : Type 0 where
+  pub waves : List Wave
+  pub marks : Marks table waves
+
+-- does a test hold for one of some numbers
+unfoldable pub any : (ℕ → Bool) → List ℕ → Bool
+any f [] = false
+any f (x ∷ xs) = f x || any f xs
+
 -- has a signal a mark for one of these characters
-unfoldable pub markOf : List ℕ → ℕ → List ℕ → Bool
-markOf table s [] = false
-markOf table s (b ∷ w) = mark table s b || markOf table s w
+abbrev pub markOf : List ℕ → ℕ → List ℕ → Bool
+markOf table s w = any (mark table s) w
 
 -- has one of these signals
-unfoldable pub markAmong : List ℕ → List ℕ → List ℕ → Bool
-markAmong table [] w = false
-markAmong table (s ∷ sigs) w = markOf table s w || markAmong table sigs w
+abbrev pub markAmong : List ℕ → List ℕ → List ℕ → Bool
+markAmong table sigs w = any (λ s. markOf table s w) sigs
 
 -- marks more, for these signals and characters
 pub record Marked (before : List ℕ) (sigs w after : List ℕ) : Type 0 where
