@@ -1,22 +1,22 @@
 -- Entries as they are read: CHARS with their tests, the events, and the marks; and the signals of a name.
-use Prim.Native.Nat.{ℕ, zero, suc, _≤_, _<_}
+use Prim.Native.Nat.{ℕ, zero, suc, _≤_}
 use native.Mathlib.Omega.{arith}
 use mathlib.Core.Path.{_≡_, refl, sym, ap, _∙_, subst}
 use mathlib.Core.Bool.{Bool, true, false, not, _||_}
-use mathlib.Core.Option.{Option, none, some}
+use mathlib.Core.Option.{Option, some}
 use mathlib.Core.List.{List, [], _∷_, _++_}
-use lib.ListN.{length, getD}
+use lib.ListN.{length}
 use lib.Dec.{leb}
 use borrow.Author.Tests.{leb-false, not-false}
 use Rattle.tokens.specs.Written.{same}
 use Rattle.tokens.specs.Tokens.{Tok, Toks}
-use Rattle.meaning.specs.Bounds.{entryMost, signalsMost}
-use Rattle.meaning.specs.Refusals.{tooMany, badWaveform, badData, unknownName}
+use Rattle.meaning.specs.Bounds.{entryMost}
+use Rattle.meaning.specs.Refusals.{tooMany, badWaveform, badData}
 use Rattle.meaning.specs.Lists.{repeats}
 use Rattle.meaning.specs.Reader.{Res, Reader, ok, refuse, after, _>>=_, give, due, word, until}
-use Rattle.meaning.specs.Names.{find, known, oldName}
+use Rattle.meaning.specs.Names.{find, oldName}
 use Rattle.meaning.specs.Signals.{Names}
-use Rattle.meaning.specs.Timing.{Event, Events, Wave, allChars, taken, blanks, event, wavesFor, entry, waveforms}
+use Rattle.meaning.specs.Timing.{Wave, allChars, taken, blanks, event, wavesFor, entry, waveforms}
 use Rattle.meaning.proofs.Takes.{Takes}
 use Rattle.meaning.proofs.Taking.{takes-keeps, takes-due, takes-word, takes-old, takes-bind, keeps-bind, keeps-if, keeps-give, takes-until}
 use Rattle.meaning.proofs.Gives.{Gives, gives-bind, gives-after, gives-give, known-ok}

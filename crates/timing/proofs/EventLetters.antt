@@ -1,23 +1,20 @@
 -- Letters of events: what a word says, and which letter each character gets.
-use Prim.Native.Nat.{ℕ, zero, suc, _+_, _≤_, _<_, min}
+use Prim.Native.Nat.{ℕ, zero, suc, _+_, _≤_, _<_}
 use native.Mathlib.Omega.{arith}
-use native.Mathlib.Numerals.{add-one}
 use mathlib.Core.Path.{_≡_, refl, sym, ap, _∙_}
 use mathlib.Core.Logic.{_⊎_, inl, inr, ⊎-elim}
-use mathlib.Core.Bool.{Bool, true, false, not, _&&_, _||_}
+use mathlib.Core.Bool.{Bool, true, false, not, _&&_}
 use mathlib.Core.Option.{Option, none, some}
 use mathlib.Core.List.{List, [], _∷_, _++_}
 use lib.ListN.{length, getD, set, length-set, length-append, List·getD-append}
 use lib.Seq.{getD-set-same, getD-set-other, getD-append-seam}
 use lib.Dec.{eqb, ltb}
-use borrow.Author.Tests.{eqb-true, eqb-false, ne-eqb, ltb-true, ltb-false, not-false}
+use borrow.Author.Tests.{eqb-true, ne-eqb, ltb-true, ltb-false, not-false}
 use Rattle.meaning.specs.Bounds.{entryMost}
 use Rattle.meaning.specs.Lists.{has}
 use Rattle.tokens.specs.Written.{bytes}
-use Rattle.meaning.specs.Reader.{Reader, _>>=_, give, any, dueOf}
-use Rattle.meaning.specs.Names.{known}
 use Rattle.meaning.specs.Timing.{drives, compares, eventLetter, letterDue, alternative, letters, spread}
-use Rattle.meaning.proofs.Takes.{Takes, Keeps}
+use Rattle.meaning.proofs.Takes.{Takes}
 use Rattle.meaning.proofs.Taking.{takes-keeps, takes-any, takes-due, takes-bind, keeps-bind, keeps-known, keeps-give, keeps-while}
 use Rattle.meaning.proofs.Gives.{Gives, gives-bind, gives-after, gives-give, gives-while, known-ok}
 use Rattle.words.specs.Values.{told}

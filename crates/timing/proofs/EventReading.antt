@@ -1,5 +1,5 @@
 -- An event as it is read: its time, its letters, `;`, and the two tests on them; and that each event takes a token.
-use Prim.Native.Nat.{ℕ, suc, _≤_, _<_, min}
+use Prim.Native.Nat.{ℕ, _≤_, _<_, min}
 use native.Mathlib.Omega.{arith}
 use mathlib.Core.Path.{_≡_, refl, sym, ap, _∙_}
 use mathlib.Core.Bool.{Bool, true, false, not, _&&_}
@@ -7,13 +7,13 @@ use mathlib.Core.Option.{Option, none, some}
 use mathlib.Core.List.{List}
 use lib.ListN.{length}
 use lib.Dec.{eqb, leb}
-use borrow.Author.Tests.{eqb-true, eqb-false, eq-eqb, ne-eqb, leb-true, leb-false, le-leb, lt-leb, not-true, not-false}
+use borrow.Author.Tests.{eqb-true, eqb-false, eq-eqb, ne-eqb, leb-true, leb-false, le-leb, lt-leb}
 use Rattle.tokens.specs.Tokens.{Toks, left}
 use Rattle.meaning.specs.Bounds.{entryMost, timeMost}
 use Rattle.meaning.specs.Refusals.{badNumber, tooMany, badWaveform}
-use Rattle.meaning.specs.Reader.{Res, Reader, ok, refuse, _>>=_, give, refuseIf, due, ahead}
-use Rattle.meaning.specs.Names.{known, within}
-use Rattle.meaning.specs.Timing.{Event, Events, quoted, letters, spread, addEvents, oneEvent, event}
+use Rattle.meaning.specs.Reader.{Res, Reader, ok, refuse, _>>=_, refuseIf, due, ahead}
+use Rattle.meaning.specs.Names.{within}
+use Rattle.meaning.specs.Timing.{Events, quoted, letters, spread, oneEvent, event}
 use Rattle.meaning.proofs.Takes.{Takes, Keeps}
 use Rattle.meaning.proofs.Taking.{takes-keeps, takes-due, takes-word, takes-bind, keeps-bind, keeps-if, keeps-known, keeps-give, keeps-within}
 use Rattle.meaning.proofs.Gives.{Gives, gives-bind, gives-after, gives-give}

@@ -3,7 +3,7 @@ use Prim.Native.Nat.{ℕ, zero, suc, _+_, _*_, _-_, _≤_, _<_, min}
 use native.Mathlib.Omega.{arith}
 use native.Mathlib.Numerals.{add-one}
 use mathlib.Core.Path.{_≡_, refl, sym, ap, _∙_}
-use mathlib.Core.Bool.{Bool, true, false, not, _&&_, _||_}
+use mathlib.Core.Bool.{Bool, true, false, _&&_, _||_}
 use mathlib.Core.List.{List, [], _∷_, _++_}
 use lib.ListN.{length, getD, take, drop, set, drop-of-length-le, length-take, length-drop}
 use lib.Seq.{getD-set-same, getD-set-other, take-suc, take-all, take-take}
@@ -15,7 +15,7 @@ use Rattle.meaning.specs.Lists.{has, repeats}
 use Rattle.meaning.specs.Timing.{Event, Wave, waveChar, allChars, taken, wavesOf, wavesFor}
 use Rattle.meaning.specs.Meaning.{hasWave}
 use Rattle.words.proofs.Words.{cut}
-use Rattle.timing.specs.Marks.{charsMost, tableSize, mark, Marks, any, markOf, markAmong, Marked, Below}
+use Rattle.timing.specs.Marks.{charsMost, tableSize, mark, Marks, any, markAmong, Marked, Below}
 
 -- ---- loops over characters and signals
 

@@ -4,14 +4,14 @@ use native.Mathlib.Omega.{arith}
 use mathlib.Core.Path.{_≡_, refl, sym, ap, _∙_}
 use mathlib.Core.Bool.{Bool, true, false, _&&_}
 use mathlib.Core.List.{List, [], _∷_, _++_}
-use lib.ListN.{length, getD, take, drop, set, length-set, length-take, length-append, List·getD-append}
+use lib.ListN.{length, getD, take, drop, set, length-set, length-take, List·getD-append}
 use lib.Seq.{getD-take, getD-drop, getD-append-add, getD-set-same, getD-set-other}
 use lib.Dec.{eqb, ltb, leb}
 use borrow.Author.Tests.{eqb-true, eqb-false, ltb-true, ltb-false, leb-false, lt-ltb}
 use Rattle.tokens.specs.Tokens.{Tok}
 use Rattle.meaning.specs.Bounds.{signalsMost, tablesMost}
 use Rattle.meaning.specs.Refusals.{tooMany}
-use Rattle.meaning.specs.Reader.{Reader, _>>=_, give, due, refuseIf, until}
+use Rattle.meaning.specs.Reader.{Reader, _>>=_, give, due, until}
 use Rattle.meaning.specs.Names.{newName}
 use Rattle.meaning.specs.Signals.{Names}
 use Rattle.meaning.specs.Timing.{Wave, Table, Tables, waveforms, table}
@@ -24,7 +24,7 @@ use Rattle.words.specs.Table.{namesFrom, names}
 use Rattle.words.proofs.Flow.{then, given, checked, passed, stays, alive-before}
 use Rattle.words.proofs.Names.{firsts as firstsOf, new-by-number, one-more}
 use Rattle.timing.specs.Makes.{Makes, Brings}
-use Rattle.timing.specs.Marks.{charsMost, tableSize, mark, Marks}
+use Rattle.timing.specs.Marks.{charsMost, tableSize, Marks}
 use Rattle.timing.specs.Parts.{block, headThen}
 use Rattle.timing.specs.Held.{Held}
 use Rattle.timing.proofs.Making.{made, onward}

@@ -1,20 +1,19 @@
 // Timing: tables of waveforms. Of each the code keeps its name, and a mark for each signal and character that has a waveform.
 ghost use mathlib.Core.Path.{_≡_};
 ghost use Prim.Native.Nat.{ℕ, _+_, _*_, _≤_, _<_, min};
-ghost use mathlib.Core.Bool.{true, false, not, _&&_, _||_};
+ghost use mathlib.Core.Bool.{true, false, not, _&&_};
 ghost use mathlib.Core.List.{List, [], _∷_, _++_};
-ghost use mathlib.Core.Option.{Option, none, some};
 ghost use lib.ListN.{length, getD};
 ghost use lib.Dec.{eqb};
 ghost use Rattle.meaning.specs.Bounds.{entryMost, timeMost, signalsMost, tablesMost};
 ghost use Rattle.meaning.specs.Lists.{repeats as repeatsOf};
 ghost use Rattle.meaning.specs.Reader.{Reader};
-ghost use Rattle.meaning.specs.Timing.{drives as drivesOf, compares as comparesOf, eventLetter, letterDue, letters as lettersOf, spread, addEvents, Event, Events, Wave, Tables as TablesOf, oneEvent, event as eventOf, waveChar, allChars, blanks, entry as entryOf, waveforms as waveformsOf, table as tableOf, timing as timingOf};
+ghost use Rattle.meaning.specs.Timing.{drives as drivesOf, compares as comparesOf, eventLetter, letterDue, letters as lettersOf, spread, Events, Wave, Tables as TablesOf, oneEvent, event as eventOf, waveChar, allChars, blanks, entry as entryOf, waveforms as waveformsOf, table as tableOf, timing as timingOf};
 ghost use Rattle.words.specs.Cursor.{Goes, alive};
 ghost use Rattle.words.specs.Values.{told};
 ghost use Rattle.signals.specs.Names.{listAt, namesOf, Sized, namesMost, rowLength};
 ghost use Rattle.timing.specs.Makes.{Makes, Brings};
-ghost use Rattle.timing.specs.Events.{isEvent, allEvents, Lettered, slot as slotOf, Timed, Adding, events as eventsOf};
+ghost use Rattle.timing.specs.Events.{allEvents, Lettered, slot as slotOf, Timed, Adding, events as eventsOf};
 ghost use Rattle.timing.specs.Marks.{tableSize, mark, Marks, Described, markOf, markAmong, Marked, Below, AllBelow};
 ghost use Rattle.timing.specs.Parts.{Chars, entries as entriesOf, block as blockOf, headThen};
 ghost use Rattle.timing.specs.Held.{Held};
@@ -30,7 +29,9 @@ fn drives(e: u8) -> bool
 fn compares(e: u8) -> bool
     ensures { λ r. ⌜ r ≡ comparesOf e ⌝ }
 {
-    (76 == e) | ((72 == e) | ((88 == e) | ((84 == e) | ((108 == e) | ((104 == e) | ((120 == e) | false))))))
+    (76 == e)
+        | ((72 == e)
+            | ((88 == e) | ((84 == e) | ((108 == e) | ((104 == e) | ((120 == e) | false))))))
 }
 
 // The letter of an event that a word is; 0 where it is none.
@@ -75,7 +76,10 @@ struct Alternatives {
 fn no_letters() -> Alternatives
     ensures { λ r. ⌜ Lettered (r .n) (r .l) [] ⌝ }
 {
-    Alternatives { n: 0, l: [0; ENTRY] }
+    Alternatives {
+        n: 0,
+        l: [0; ENTRY],
+    }
 }
 
 // One letter more.
@@ -171,7 +175,10 @@ fn add(times: Times, t: u64, a: Alternatives, n: usize) -> Added
     while i < n {
         let k = slot(letter_at(a, i), i);
         if t < least[k] {
-            return Added { right: false, times };
+            return Added {
+                right: false,
+                times,
+            };
         }
         least[k] = t + 1;
         i += 1;
@@ -276,6 +283,7 @@ fn all_chars(w: &[u8]) -> bool
 
 // Characters that can have a mark, and the marks of one table.
 const CHARS: usize = 128;
+
 const TABLE: usize = sets::MOST * CHARS;
 
 // Has signal s a mark for the character b?
@@ -284,7 +292,11 @@ fn has_mark(table: &[u8], s: u16, b: u8) -> bool
     ensures { λ r. ⌜ r ≡ mark (now (table .entry)) s b ⌝ }
 {
     let i = s as usize * CHARS + b as usize;
-    if (b as usize) < CHARS { table[i] == 1 } else { false }
+    if (b as usize) < CHARS {
+        table[i] == 1
+    } else {
+        false
+    }
 }
 
 // For one of the characters of w?
@@ -349,6 +361,7 @@ const TABLES: usize = 8;
 
 // Names of signals and groups, and the length of each one's row: how many signals, and then the signals.
 const NAMES: usize = 96;
+
 const ROW: usize = sets::MOST + 1;
 
 // At most as many as there may be.
@@ -416,7 +429,14 @@ fn entries(text: &[u8], c: words::Cursor, sigs: &[u16], table: &mut [u8]) -> wor
 // ---- tables
 
 // The waveforms of a signal, or of a group for each of its signals.
-fn waveforms<'a>(text: &'a [u8], c: words::Cursor, places: &'a [usize], lists: &[u16], names: usize, table: &mut [u8]) -> words::Cursor
+fn waveforms<'a>(
+    text: &'a [u8],
+    c: words::Cursor,
+    places: &'a [usize],
+    lists: &[u16],
+    names: usize,
+    table: &mut [u8],
+) -> words::Cursor
     requires { ⌜ (length (now table) ≡ tableSize) × Sized (now places) (now lists) × AllBelow (namesOf (now text) (now places) (now lists) names) × Described (now table) ⌝ }
     ensures { λ r. ⌜ ((ws : List Wave) → Marks (now (table .entry)) ws → Makes (now (text .entry)) c (waveformsOf (namesOf (now (text .entry)) (now (places .entry)) (now (lists .entry)) names) ws) r (Marks (now (table .exit)))) ⌝ }
 {
@@ -430,7 +450,14 @@ fn waveforms<'a>(text: &'a [u8], c: words::Cursor, places: &'a [usize], lists: &
 }
 
 // All waveforms of a table, up to their closing brace.
-fn block<'a>(text: &'a [u8], c: words::Cursor, places: &'a [usize], lists: &[u16], names: usize, table: &mut [u8]) -> words::Cursor
+fn block<'a>(
+    text: &'a [u8],
+    c: words::Cursor,
+    places: &'a [usize],
+    lists: &[u16],
+    names: usize,
+    table: &mut [u8],
+) -> words::Cursor
     requires { ⌜ (length (now table) ≡ tableSize) × Sized (now places) (now lists) × AllBelow (namesOf (now text) (now places) (now lists) names) × Described (now table) ⌝ }
     ensures { λ r. ⌜ ((ws : List Wave) → Marks (now (table .entry)) ws → Makes (now (text .entry)) c (blockOf (namesOf (now (text .entry)) (now (places .entry)) (now (lists .entry)) names) ws) r (Marks (now (table .exit)))) ⌝ }
 {
@@ -455,7 +482,16 @@ fn head(text: &[u8], c: words::Cursor) -> words::Numbered
 }
 
 // A table behind the first k.
-fn table<'a>(text: &'a [u8], c: words::Cursor, places: &'a [usize], lists: &[u16], names: usize, tplaces: &mut [usize], k: usize, waves: &mut [u8]) -> words::Cursor
+fn table<'a>(
+    text: &'a [u8],
+    c: words::Cursor,
+    places: &'a [usize],
+    lists: &[u16],
+    names: usize,
+    tplaces: &mut [usize],
+    k: usize,
+    waves: &mut [u8],
+) -> words::Cursor
     requires { ⌜ (length (now tplaces) ≡ tablesMost * 2) × (length (now waves) ≡ tablesMost * tableSize) × Sized (now places) (now lists) × AllBelow (namesOf (now text) (now places) (now lists) names) ⌝ }
     requires { ⌜ ((tabs : TablesOf) × Held (now text) (now tplaces) (now waves) k tabs) ⌝ }
     ensures { λ r. ⌜ ((tabs : TablesOf) → Held (now (text .entry)) (now (tplaces .entry)) (now (waves .entry)) k tabs → Makes (now (text .entry)) c (tableOf (namesOf (now (text .entry)) (now (places .entry)) (now (lists .entry)) names) tabs) r (Held (now (text .entry)) (now (tplaces .exit)) (now (waves .exit)) (k + 1))) ⌝ }
@@ -483,14 +519,25 @@ pub struct Tables {
 }
 
 // Timing: at least one table. The names of the tables go to `tplaces`, and a mark for each signal and character with a waveform to `waves`.
-pub fn timing<'a>(text: &'a [u8], c: words::Cursor, places: &'a [usize], lists: &[u16], names: usize, tplaces: &mut [usize], waves: &mut [u8]) -> Tables
+pub fn timing<'a>(
+    text: &'a [u8],
+    c: words::Cursor,
+    places: &'a [usize],
+    lists: &[u16],
+    names: usize,
+    tplaces: &mut [usize],
+    waves: &mut [u8],
+) -> Tables
     requires { ⌜ (length (now tplaces) ≡ tablesMost * 2) × (length (now waves) ≡ tablesMost * tableSize) × Sized (now places) (now lists) ⌝ }
     requires { ⌜ ((i : ℕ) → getD (now waves) i 0 ≡ 0) ⌝ }
     requires { ⌜ (alive c ≡ true → AllBelow (namesOf (now text) (now places) (now lists) names)) ⌝ }
     ensures { λ r. ⌜ Makes (now (text .entry)) c (timingOf (namesOf (now (text .entry)) (now (places .entry)) (now (lists .entry)) names)) (r .cursor) (Held (now (text .entry)) (now (tplaces .exit)) (now (waves .exit)) (r .count)) ⌝ }
 {
     if c.no != 0 {
-        return Tables { cursor: c, count: 0 };
+        return Tables {
+            cursor: c,
+            count: 0,
+        };
     }
     let a = words::due(text, c, b"Timing");
     let b = words::due(text, a, b"{");

@@ -12,11 +12,6 @@ use Rattle.timing.proofs.EventTimes.{Upto, upto-none, upto-all, none-ad
 use borrow.Author.Needs.{needs}
 use Rattle.timing.proofs.add.Statement.{statement}
 use Rattle.timing.proofs.add.Tie as tie
-use Rattle.timing.proofs.add.Reads as reads
-use Rattle.timing.proofs.add.Lts as lts
-use Rattle.timing.proofs.letter_at.Reads as letter-at-reads
-use Rattle.timing.proofs.next.Reads as next-reads
-use Rattle.timing.proofs.slot.Reads as slot-reads
 
 abbrev Inv-loop : tie.InvT-loop
 Inv-loop times t a n least₀ i₀ least i = (i ≤ n) × ((s : Events) (es : List ℕ) → Timed n (times .count) (times .least) s → Lettered (a .n) (a .l) es → (not (eqb (a .n) 1) && not (eqb (a .n) n)) ≡ false → allEvents es ≡ true → Upto n t (spread n es) s i least)

@@ -8,9 +8,6 @@ use Rattle.timing.proofs.Marking.{all-not, all-more, all-end}
 use borrow.Author.Needs.{needs}
 use Rattle.timing.proofs.all_chars.Statement.{statement}
 use Rattle.timing.proofs.all_chars.Tie as tie
-use Rattle.timing.proofs.all_chars.Reads as reads
-use Rattle.timing.proofs.all_chars.Lts as lts
-use Rattle.timing.proofs.is_wave_char.Reads as is-wave-char-reads
 
 abbrev Inv-loop : tie.InvT-loop
 Inv-loop w i₀ i = allChars w ≡ allChars (drop i w)

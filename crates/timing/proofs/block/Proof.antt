@@ -14,11 +14,6 @@ use Rattle.timing.proofs.EntryReading.{takes-waveforms}
 use borrow.Author.Needs.{needs}
 use Rattle.timing.proofs.block.Statement.{statement}
 use Rattle.timing.proofs.block.Tie as tie
-use Rattle.timing.proofs.block.Reads as reads
-use Rattle.timing.proofs.block.Lts as lts
-use Rattle.timing.proofs.waveforms.Reads as waveforms-reads
-use Rattle.words.proofs.due.Reads as due-reads
-use Rattle.words.proofs.until.Reads as until-reads
 
 abbrev Inv-loop : tie.InvT-loop
 Inv-loop text places lists names table₀ cursor₀ t8 t9 table cursor = (length table ≡ length table₀) × ((ws : List Wave) → Marks table₀ ws → Looping text cursor₀ (while (λ ts. not (aheadOf t8 ts)) (waveforms (namesOf text places lists names)) ws) (λ ts. not (aheadOf t8 ts)) (waveforms (namesOf text places lists names)) cursor (Marks table))

@@ -3,14 +3,6 @@ use Rattle.timing.proofs.EntryReading.{chars-read}
 use borrow.Author.Needs.{needs}
 use Rattle.timing.proofs.chars.Statement.{statement}
 use Rattle.timing.proofs.chars.Tie as tie
-use Rattle.timing.proofs.chars.Reads as reads
-use Rattle.timing.proofs.chars.Lts as lts
-use Rattle.timing.proofs.all_chars.Reads as all-chars-reads
-use Rattle.timing.proofs.repeats.Reads as repeats-reads
-use Rattle.timing.proofs.taken.Reads as taken-reads
-use Rattle.words.proofs.bytes_of.Reads as bytes-of-reads
-use Rattle.words.proofs.refuse_if.Reads as refuse-if-reads
-use Rattle.words.proofs.word.Reads as word-reads
 
 word-requires : tie.Need-word-requires
 word-requires c κs = search needs

@@ -5,8 +5,6 @@ use Rattle.meaning.specs.Lists.{has}
 use Rattle.meaning.specs.Timing.{compares}
 use Rattle.timing.proofs.compares.Statement.{statement}
 use Rattle.timing.proofs.compares.Tie as tie
-use Rattle.timing.proofs.compares.Reads as reads
-use Rattle.timing.proofs.compares.Lts as lts
 
 returns : tie.Need-returns
 unfolding compares has bytes

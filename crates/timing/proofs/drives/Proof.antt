@@ -5,8 +5,6 @@ use Rattle.meaning.specs.Lists.{has}
 use Rattle.meaning.specs.Timing.{drives}
 use Rattle.timing.proofs.drives.Statement.{statement}
 use Rattle.timing.proofs.drives.Tie as tie
-use Rattle.timing.proofs.drives.Reads as reads
-use Rattle.timing.proofs.drives.Lts as lts
 
 returns : tie.Need-returns
 unfolding drives has bytes

@@ -6,18 +6,13 @@ use lib.ListN.{length}
 use Rattle.tokens.specs.Written.{bytes}
 use Rattle.meaning.specs.Reader.{aheadOf, while}
 use Rattle.meaning.specs.Timing.{Wave, entry}
-use Rattle.words.proofs.Loops.{room, on}
+use Rattle.words.proofs.Loops.{room}
 use Rattle.timing.specs.Marks.{Marks}
 use Rattle.timing.proofs.Making.{Looping, looping, again, fewer, leaves, closes}
 use Rattle.timing.proofs.EntryReading.{takes-entry}
 use borrow.Author.Needs.{needs}
 use Rattle.timing.proofs.entries.Statement.{statement}
 use Rattle.timing.proofs.entries.Tie as tie
-use Rattle.timing.proofs.entries.Reads as reads
-use Rattle.timing.proofs.entries.Lts as lts
-use Rattle.timing.proofs.entry.Reads as entry-reads
-use Rattle.words.proofs.due.Reads as due-reads
-use Rattle.words.proofs.until.Reads as until-reads
 
 abbrev Inv-loop : tie.InvT-loop
 Inv-loop text sigs table₀ cursor₀ t6 t7 table cursor = (length table ≡ length table₀) × ((ws : List Wave) → Marks table₀ ws → Looping text cursor₀ (while (λ ts. not (aheadOf t6 ts)) (entry sigs) ws) (λ ts. not (aheadOf t6 ts)) (entry sigs) cursor (Marks table))

@@ -8,13 +8,6 @@ use Rattle.timing.proofs.EntryReading.{entry-stops, entry-reads}
 use borrow.Author.Needs.{needs}
 use Rattle.timing.proofs.entry.Statement.{statement}
 use Rattle.timing.proofs.entry.Tie as tie
-use Rattle.timing.proofs.entry.Reads as reads
-use Rattle.timing.proofs.entry.Lts as lts
-use Rattle.timing.proofs.chars.Reads as chars-reads
-use Rattle.timing.proofs.events.Reads as events-reads
-use Rattle.timing.proofs.mark_all.Reads as mark-all-reads
-use Rattle.words.proofs.bytes_of.Reads as bytes-of-reads
-use Rattle.words.proofs.due.Reads as due-reads
 
 chars-requires : tie.Need-chars-requires
 chars-requires c κs = search needs

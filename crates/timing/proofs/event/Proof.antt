@@ -4,12 +4,6 @@ use Rattle.timing.proofs.EventReading.{event-full, event-more}
 use borrow.Author.Needs.{needs}
 use Rattle.timing.proofs.event.Statement.{statement}
 use Rattle.timing.proofs.event.Tie as tie
-use Rattle.timing.proofs.event.Reads as reads
-use Rattle.timing.proofs.event.Lts as lts
-use Rattle.timing.proofs.one_event.Reads as one-event-reads
-use Rattle.words.proofs.due.Reads as due-reads
-use Rattle.words.proofs.is.Reads as is-reads
-use Rattle.words.proofs.refuse_if.Reads as refuse-if-reads
 
 slice-aggregate-is : tie.Need-slice-aggregate-is
 slice-aggregate-is c = search needs

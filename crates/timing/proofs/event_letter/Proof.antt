@@ -5,10 +5,6 @@ use Rattle.timing.proofs.EventLetters.{letter-not, letter-is, letter-ot
 use borrow.Author.Needs.{needs}
 use Rattle.timing.proofs.event_letter.Statement.{statement}
 use Rattle.timing.proofs.event_letter.Tie as tie
-use Rattle.timing.proofs.event_letter.Reads as reads
-use Rattle.timing.proofs.event_letter.Lts as lts
-use Rattle.timing.proofs.compares.Reads as compares-reads
-use Rattle.timing.proofs.drives.Reads as drives-reads
 
 returns : tie.Need-returns
 returns c = letter-not _ (c .if1 .taken)

@@ -13,12 +13,6 @@ use Rattle.timing.proofs.EventReading.{takes-event}
 use borrow.Author.Needs.{needs}
 use Rattle.timing.proofs.events.Statement.{statement}
 use Rattle.timing.proofs.events.Tie as tie
-use Rattle.timing.proofs.events.Reads as reads
-use Rattle.timing.proofs.events.Lts as lts
-use Rattle.timing.proofs.event.Reads as event-reads
-use Rattle.timing.proofs.no_events.Reads as no-events-reads
-use Rattle.words.proofs.due.Reads as due-reads
-use Rattle.words.proofs.until.Reads as until-reads
 
 abbrev Inv-loop : tie.InvT-loop
 Inv-loop text n cursor₀ times₀ t8 t9 cursor times = (s₀ : Events) → (alive cursor₀ ≡ true → Timed n (times₀ .count) (times₀ .least) s₀) → Looping text cursor₀ (while (λ ts. not (aheadOf t8 ts)) (event n) s₀) (λ ts. not (aheadOf t8 ts)) (event n) cursor (Timed n (times .count) (times .least))

@@ -4,8 +4,6 @@ use Rattle.timing.specs.Marks.{charsMost}
 use borrow.Author.Needs.{needs}
 use Rattle.timing.proofs.has_mark.Statement.{statement}
 use Rattle.timing.proofs.has_mark.Tie as tie
-use Rattle.timing.proofs.has_mark.Reads as reads
-use Rattle.timing.proofs.has_mark.Lts as lts
 
 mul-i : tie.Need-mul-i
 mul-i c = search needs

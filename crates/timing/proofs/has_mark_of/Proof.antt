@@ -7,9 +7,6 @@ use Rattle.timing.proofs.Marking.{any-here, any-more, any-end}
 use borrow.Author.Needs.{needs}
 use Rattle.timing.proofs.has_mark_of.Statement.{statement}
 use Rattle.timing.proofs.has_mark_of.Tie as tie
-use Rattle.timing.proofs.has_mark_of.Reads as reads
-use Rattle.timing.proofs.has_mark_of.Lts as lts
-use Rattle.timing.proofs.has_mark.Reads as has-mark-reads
 
 abbrev Inv-loop : tie.InvT-loop
 Inv-loop table s w i₀ i = markOf table s w ≡ any (mark table s) (drop i w)

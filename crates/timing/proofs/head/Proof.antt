@@ -5,10 +5,6 @@ use Rattle.timing.proofs.Making.{first, first-then}
 use borrow.Author.Needs.{needs}
 use Rattle.timing.proofs.head.Statement.{statement}
 use Rattle.timing.proofs.head.Tie as tie
-use Rattle.timing.proofs.head.Reads as reads
-use Rattle.timing.proofs.head.Lts as lts
-use Rattle.words.proofs.due.Reads as due-reads
-use Rattle.words.proofs.quoted.Reads as quoted-reads
 
 slice-aggregate-due : tie.Need-slice-aggregate-due
 slice-aggregate-due c = search needs

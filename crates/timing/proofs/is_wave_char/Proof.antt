@@ -4,8 +4,6 @@ use Rattle.tokens.specs.Bytes.{between, digit, letter}
 use Rattle.meaning.specs.Timing.{waveChar}
 use Rattle.timing.proofs.is_wave_char.Statement.{statement}
 use Rattle.timing.proofs.is_wave_char.Tie as tie
-use Rattle.timing.proofs.is_wave_char.Reads as reads
-use Rattle.timing.proofs.is_wave_char.Lts as lts
 
 returns : tie.Need-returns
 unfolding waveChar letter digit between

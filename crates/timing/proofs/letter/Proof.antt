@@ -7,12 +7,6 @@ use Rattle.timing.proofs.EventLetters.{told-none, told-some}
 use borrow.Author.Needs.{needs}
 use Rattle.timing.proofs.letter.Statement.{statement}
 use Rattle.timing.proofs.letter.Tie as tie
-use Rattle.timing.proofs.letter.Reads as reads
-use Rattle.timing.proofs.letter.Lts as lts
-use Rattle.timing.proofs.event_letter.Reads as event-letter-reads
-use Rattle.words.proofs.bytes_of.Reads as bytes-of-reads
-use Rattle.words.proofs.refuse_if.Reads as refuse-if-reads
-use Rattle.words.proofs.step.Reads as step-reads
 
 step-requires : tie.Need-step-requires
 step-requires c κs = search needs

@@ -3,8 +3,6 @@ use Rattle.timing.proofs.EventLetters.{letter-all, letter-own}
 use borrow.Author.Needs.{needs}
 use Rattle.timing.proofs.letter_at.Statement.{statement}
 use Rattle.timing.proofs.letter_at.Tie as tie
-use Rattle.timing.proofs.letter_at.Reads as reads
-use Rattle.timing.proofs.letter_at.Lts as lts
 
 element-copy-out-result : tie.Need-element-copy-out-result
 element-copy-out-result c = search needs

@@ -1,6 +1,6 @@
 -- `letters` meets its contract. The invariant: reading on from here, with the letters so far, is reading all alternatives.
 use Prim.Native.Nat.{ℕ}
-use mathlib.Core.List.{List, [], _∷_, _++_}
+use mathlib.Core.List.{List, []}
 use Rattle.tokens.specs.Written.{bytes}
 use Rattle.meaning.specs.Reader.{aheadOf, while}
 use Rattle.meaning.specs.Timing.{alternative, letters}
@@ -12,13 +12,6 @@ use Rattle.timing.proofs.EventLetters.{takes-alternative}
 use borrow.Author.Needs.{needs}
 use Rattle.timing.proofs.letters.Statement.{statement}
 use Rattle.timing.proofs.letters.Tie as tie
-use Rattle.timing.proofs.letters.Reads as reads
-use Rattle.timing.proofs.letters.Lts as lts
-use Rattle.timing.proofs.letter.Reads as letter-reads
-use Rattle.timing.proofs.more.Reads as more-reads
-use Rattle.timing.proofs.no_letters.Reads as no-letters-reads
-use Rattle.words.proofs.due.Reads as due-reads
-use Rattle.words.proofs.is.Reads as is-reads
 
 abbrev Inv-loop : tie.InvT-loop
 Inv-loop text cursor₀ a₀ t8 t9 cursor a = (es₀ : List ℕ) → Lettered (a₀ .n) (a₀ .l) es₀ → Looping text cursor₀ (while (aheadOf t8) alternative es₀) (aheadOf t8) alternative cursor (Lettered (a .n) (a .l))

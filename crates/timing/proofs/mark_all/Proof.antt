@@ -7,9 +7,6 @@ use Rattle.timing.proofs.Marking.{marked-no-signals, marked-signal, mar
 use borrow.Author.Needs.{needs}
 use Rattle.timing.proofs.mark_all.Statement.{statement}
 use Rattle.timing.proofs.mark_all.Tie as tie
-use Rattle.timing.proofs.mark_all.Reads as reads
-use Rattle.timing.proofs.mark_all.Lts as lts
-use Rattle.timing.proofs.mark_chars.Reads as mark-chars-reads
 
 abbrev Inv-loop : tie.InvT-loop
 Inv-loop table₀ sigs w i₀ table i = (length table ≡ length table₀) × (Marked table₀ (take i sigs) w table)

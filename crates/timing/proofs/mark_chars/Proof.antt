@@ -1,7 +1,7 @@
 -- `mark_chars` meets its contract. The invariant: the characters before i have their marks, and no other mark is changed.
 use Prim.Native.Nat.{_-_}
 use native.Mathlib.Omega.{arith}
-use mathlib.Core.Path.{_≡_, refl, sym, ap, _∙_}
+use mathlib.Core.Path.{_≡_, refl, _∙_}
 use mathlib.Core.List.{[], _∷_}
 use lib.ListN.{length, take, length-set}
 use Rattle.timing.specs.Marks.{Marked}
@@ -9,8 +9,6 @@ use Rattle.timing.proofs.Marking.{chars-below, marked-no-chars, marked-
 use borrow.Author.Needs.{needs}
 use Rattle.timing.proofs.mark_chars.Statement.{statement}
 use Rattle.timing.proofs.mark_chars.Tie as tie
-use Rattle.timing.proofs.mark_chars.Reads as reads
-use Rattle.timing.proofs.mark_chars.Lts as lts
 
 abbrev Inv-loop : tie.InvT-loop
 Inv-loop table₀ s w i₀ table i = (length table ≡ length table₀) × (Marked table₀ (s ∷ []) (take i w) table)

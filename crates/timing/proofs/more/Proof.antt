@@ -3,8 +3,6 @@ use Rattle.timing.proofs.EventLetters.{lettered-more, lettered-full}
 use borrow.Author.Needs.{needs}
 use Rattle.timing.proofs.more.Statement.{statement}
 use Rattle.timing.proofs.more.Tie as tie
-use Rattle.timing.proofs.more.Reads as reads
-use Rattle.timing.proofs.more.Lts as lts
 
 element-write-a : tie.Need-element-write-a
 element-write-a c = search needs

@@ -2,8 +2,6 @@
 use Rattle.timing.proofs.EventTimes.{no-times}
 use Rattle.timing.proofs.no_events.Statement.{statement}
 use Rattle.timing.proofs.no_events.Tie as tie
-use Rattle.timing.proofs.no_events.Reads as reads
-use Rattle.timing.proofs.no_events.Lts as lts
 
 returns : tie.Need-returns
 returns c = no-times

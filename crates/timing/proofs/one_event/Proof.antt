@@ -7,13 +7,6 @@ use Rattle.timing.proofs.EventReading.{event-stops, event-time, event-r
 use borrow.Author.Needs.{needs}
 use Rattle.timing.proofs.one_event.Statement.{statement}
 use Rattle.timing.proofs.one_event.Tie as tie
-use Rattle.timing.proofs.one_event.Reads as reads
-use Rattle.timing.proofs.one_event.Lts as lts
-use Rattle.timing.proofs.add.Reads as add-reads
-use Rattle.timing.proofs.letters.Reads as letters-reads
-use Rattle.words.proofs.due.Reads as due-reads
-use Rattle.words.proofs.quoted.Reads as quoted-reads
-use Rattle.words.proofs.refuse_if.Reads as refuse-if-reads
 
 quoted-requires : tie.Need-quoted-requires
 quoted-requires c κs = search needs

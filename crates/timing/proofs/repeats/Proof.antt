@@ -7,9 +7,6 @@ use Rattle.timing.proofs.Marking.{repeats-here, repeats-more, repeats-e
 use borrow.Author.Needs.{needs}
 use Rattle.timing.proofs.repeats.Statement.{statement}
 use Rattle.timing.proofs.repeats.Tie as tie
-use Rattle.timing.proofs.repeats.Reads as reads
-use Rattle.timing.proofs.repeats.Lts as lts
-use Rattle.words.proofs.holds.Reads as holds-reads
 
 abbrev Inv-loop : tie.InvT-loop
 Inv-loop w i₀ i = repeats w ≡ repeats (drop i w)

@@ -7,9 +7,6 @@ use Rattle.timing.proofs.Marking.{row-part, row-none}
 use borrow.Author.Needs.{needs}
 use Rattle.timing.proofs.row.Statement.{statement}
 use Rattle.timing.proofs.row.Tie as tie
-use Rattle.timing.proofs.row.Reads as reads
-use Rattle.timing.proofs.row.Lts as lts
-use Rattle.timing.proofs.fewer.Reads as fewer-reads
 
 mul-at : tie.Need-mul-at
 mul-at c = search needs

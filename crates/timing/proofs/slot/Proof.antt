@@ -3,9 +3,6 @@ use native.Mathlib.Omega.{arith}
 use borrow.Author.Needs.{needs}
 use Rattle.timing.proofs.slot.Statement.{statement}
 use Rattle.timing.proofs.slot.Tie as tie
-use Rattle.timing.proofs.slot.Reads as reads
-use Rattle.timing.proofs.slot.Lts as lts
-use Rattle.timing.proofs.drives.Reads as drives-reads
 
 drives-requires : tie.Need-drives-requires
 drives-requires c κs = search needs

@@ -11,13 +11,6 @@ use Rattle.timing.proofs.TableReading.{part, part-free, held-more, tabl
 use borrow.Author.Needs.{needs}
 use Rattle.timing.proofs.table.Statement.{statement}
 use Rattle.timing.proofs.table.Tie as tie
-use Rattle.timing.proofs.table.Reads as reads
-use Rattle.timing.proofs.table.Lts as lts
-use Rattle.timing.proofs.block.Reads as block-reads
-use Rattle.timing.proofs.head.Reads as head-reads
-use Rattle.words.proofs.due.Reads as due-reads
-use Rattle.words.proofs.new_name.Reads as new-name-reads
-use Rattle.words.proofs.refuse_if.Reads as refuse-if-reads
 
 slice-aggregate-due : tie.Need-slice-aggregate-due
 slice-aggregate-due c = search needs

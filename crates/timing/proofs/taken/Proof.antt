@@ -7,9 +7,6 @@ use Rattle.timing.proofs.Marking.{any-here, any-more, any-end}
 use borrow.Author.Needs.{needs}
 use Rattle.timing.proofs.taken.Statement.{statement}
 use Rattle.timing.proofs.taken.Tie as tie
-use Rattle.timing.proofs.taken.Reads as reads
-use Rattle.timing.proofs.taken.Lts as lts
-use Rattle.timing.proofs.has_mark_of.Reads as has-mark-of-reads
 
 abbrev Inv-loop : tie.InvT-loop
 Inv-loop table sigs w i₀ i = markAmong table sigs w ≡ any (λ s. markOf table s w) (drop i sigs)

@@ -19,11 +19,6 @@ use Rattle.timing.proofs.TableReading.{held-none, takes-table}
 use borrow.Author.Needs.{needs}
 use Rattle.timing.proofs.timing.Statement.{statement}
 use Rattle.timing.proofs.timing.Tie as tie
-use Rattle.timing.proofs.timing.Reads as reads
-use Rattle.timing.proofs.timing.Lts as lts
-use Rattle.timing.proofs.table.Reads as table-reads
-use Rattle.words.proofs.due.Reads as due-reads
-use Rattle.words.proofs.until.Reads as until-reads
 
 abbrev Inv-loop : tie.InvT-loop
 Inv-loop text places lists names tplaces₀ waves₀ cursor₀ count₀ t15 t16 tplaces waves cursor count = (length tplaces ≡ length tplaces₀) × (length waves ≡ length waves₀) × ((tabs₀ : Tables) → (alive cursor₀ ≡ true → Held text tplaces₀ waves₀ count₀ tabs₀) → Looping text cursor₀ (while (λ ts. not (aheadOf t15 ts)) (table (namesOf text places lists names)) tabs₀) (λ ts. not (aheadOf t15 ts)) (table (namesOf text places lists names)) cursor (Held text tplaces waves count))

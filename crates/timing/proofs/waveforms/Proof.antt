@@ -9,12 +9,6 @@ use Rattle.timing.proofs.EntryReading.{old-row, name-below, waves-stop}
 use borrow.Author.Needs.{needs}
 use Rattle.timing.proofs.waveforms.Statement.{statement}
 use Rattle.timing.proofs.waveforms.Tie as tie
-use Rattle.timing.proofs.waveforms.Reads as reads
-use Rattle.timing.proofs.waveforms.Lts as lts
-use Rattle.timing.proofs.entries.Reads as entries-reads
-use Rattle.timing.proofs.row.Reads as row-reads
-use Rattle.words.proofs.due.Reads as due-reads
-use Rattle.words.proofs.old_name.Reads as old-name-reads
 
 old-name-requires : tie.Need-old-name-requires
 old-name-requires c κs = search needs
