@@ -1,0 +1,7 @@
+mod Making
+mod EventLetters
+mod EventTimes
+mod EventReading
+mod Marking
+mod EntryReading
+mod TableReading

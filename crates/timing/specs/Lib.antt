@@ -1,0 +1,5 @@
+pub mod Makes
+pub mod Events
+pub mod Marks
+pub mod Parts
+pub mod Held

@@ -1,0 +1,552 @@
+// Timing: tables of waveforms. Of each the code keeps its name, and a mark for each signal and character that has a waveform.
+ghost use mathlib.Core.Path.{_≡_};
+ghost use Prim.Native.Nat.{ℕ, _+_, _*_, _≤_, _<_, min};
+ghost use mathlib.Core.Bool.{true, false, not, _&&_};
+ghost use mathlib.Core.List.{List, [], _∷_, _++_};
+ghost use lib.ListN.{length, getD};
+ghost use lib.Dec.{eqb};
+ghost use Rattle.meaning.specs.Bounds.{entryMost, timeMost, signalsMost, tablesMost};
+ghost use Rattle.meaning.specs.Lists.{repeats as repeatsOf};
+ghost use Rattle.meaning.specs.Reader.{Reader};
+ghost use Rattle.meaning.specs.Timing.{drives as drivesOf, compares as comparesOf, eventLetter, letterDue, letters as lettersOf, spread, Events, Wave, Tables as TablesOf, oneEvent, event as eventOf, waveChar, allChars, blanks, entry as entryOf, waveforms as waveformsOf, table as tableOf, timing as timingOf};
+ghost use Rattle.words.specs.Cursor.{Goes, alive};
+ghost use Rattle.words.specs.Values.{told};
+ghost use Rattle.signals.specs.Names.{listAt, namesOf, Sized, namesMost, rowLength};
+ghost use Rattle.timing.specs.Makes.{Makes, Brings};
+ghost use Rattle.timing.specs.Events.{allEvents, Lettered, slot as slotOf, Timed, Adding, events as eventsOf};
+ghost use Rattle.timing.specs.Marks.{tableSize, mark, Marks, Described, markOf, markAmong, Marked, Below, AllBelow};
+ghost use Rattle.timing.specs.Parts.{Chars, entries as entriesOf, block as blockOf, headThen};
+ghost use Rattle.timing.specs.Held.{Held};
+
+// ---- letters of events
+
+fn drives(e: u8) -> bool
+    ensures { λ r. ⌜ r ≡ drivesOf e ⌝ }
+{
+    (68 == e) | ((85 == e) | ((90 == e) | ((80 == e) | false)))
+}
+
+fn compares(e: u8) -> bool
+    ensures { λ r. ⌜ r ≡ comparesOf e ⌝ }
+{
+    (76 == e)
+        | ((72 == e)
+            | ((88 == e) | ((84 == e) | ((108 == e) | ((104 == e) | ((120 == e) | false))))))
+}
+
+// The letter of an event that a word is; 0 where it is none.
+fn event_letter(w: &[u8]) -> u8
+    ensures { λ r. ⌜ told (not (eqb r 0)) r ≡ eventLetter (now (w .entry)) ⌝ }
+{
+    if w.len() != 1 {
+        return 0;
+    }
+    let e = w[0];
+    if drives(e) | compares(e) {
+        return e;
+    }
+    0
+}
+
+// A letter that was read, and the cursor behind it.
+struct LetterRead {
+    cursor: words::Cursor,
+    e: u8,
+}
+
+// The letter of an event is due.
+fn letter(text: &[u8], c: words::Cursor) -> LetterRead
+    ensures { λ r. ⌜ Goes (now (text .entry)) c letterDue (r .cursor) (r .e) ⌝ }
+{
+    let d = words::step(text, c);
+    let e = event_letter(words::bytes_of(text, c.at, c.end));
+    let cursor = words::refuse_if(d, e == 0, 4, c.at);
+    LetterRead { cursor, e }
+}
+
+// Characters and events that an entry may have.
+const ENTRY: usize = 16;
+
+// Alternatives of one event: how many, up to one too many, and the first of them.
+struct Alternatives {
+    n: usize,
+    l: [u8; ENTRY],
+}
+
+fn no_letters() -> Alternatives
+    ensures { λ r. ⌜ Lettered (r .n) (r .l) [] ⌝ }
+{
+    Alternatives {
+        n: 0,
+        l: [0; ENTRY],
+    }
+}
+
+// One letter more.
+fn more(a: Alternatives, e: u8) -> Alternatives
+    ensures { λ r. ⌜ ((es : List ℕ) → Lettered (a .n) (a .l) es → Lettered (r .n) (r .l) (es ++ e ∷ [])) ⌝ }
+{
+    let mut a = a;
+    let n = a.n;
+    if n < ENTRY {
+        a.l[n] = e;
+        a.n = n + 1;
+    } else {
+        a.n = ENTRY + 1;
+    }
+    a
+}
+
+// Alternatives that were read, and the cursor behind them.
+struct LettersRead {
+    cursor: words::Cursor,
+    a: Alternatives,
+}
+
+// Alternatives, parted by `/`.
+fn letters(text: &[u8], c: words::Cursor) -> LettersRead
+    ensures { λ r. ⌜ Makes (now (text .entry)) c lettersOf (r .cursor) (Lettered (r .a .n) (r .a .l)) ⌝ }
+{
+    let x = letter(text, c);
+    let mut cursor = x.cursor;
+    let mut a = more(no_letters(), x.e);
+    while words::is(text, cursor, b"/") {
+        let d = words::due(text, cursor, b"/");
+        let y = letter(text, d);
+        cursor = y.cursor;
+        a = more(a, y.e);
+    }
+    LettersRead { cursor, a }
+}
+
+// The letter for the character of number i: the only one, or its own.
+fn letter_at(a: Alternatives, i: usize) -> u8
+    requires { ⌜ i < entryMost ⌝ }
+    ensures { λ r. ⌜ ((n : ℕ) (es : List ℕ) → n ≤ entryMost → Lettered (a .n) (a .l) es → (not (eqb (a .n) 1) && not (eqb (a .n) n)) ≡ false → i < n → r ≡ getD (spread n es) i 0) ⌝ }
+{
+    if a.n == 1 { a.l[0] } else { a.l[i] }
+}
+
+// ---- events
+
+// Of the events of each character: how many there are, and the least time that the next one of each category may have.
+struct Times {
+    count: usize,
+    least: [u64; 2 * ENTRY],
+}
+
+fn no_events() -> Times
+    ensures { λ r. ⌜ ((cs : List ℕ) → Timed (length cs) (r .count) (r .least) (blanks cs, 0)) ⌝ }
+{
+    Times {
+        count: 0,
+        least: [0; 2 * ENTRY],
+    }
+}
+
+// Where the time for the character of number i stands.
+fn slot(e: u8, i: usize) -> usize
+    requires { ⌜ i < entryMost ⌝ }
+    ensures { λ r. ⌜ r ≡ slotOf e i ⌝ }
+{
+    if drives(e) { i } else { ENTRY + i }
+}
+
+// One event more, as far as they are counted.
+fn next(count: usize) -> usize
+    ensures { λ r. ⌜ r ≡ min entryMost (count + 1) ⌝ }
+{
+    if count < ENTRY { count + 1 } else { ENTRY }
+}
+
+// Events with one more, where every time rises (`right`).
+struct Added {
+    right: bool,
+    times: Times,
+}
+
+// An event at time t behind the events of each of n characters.
+fn add(times: Times, t: u64, a: Alternatives, n: usize) -> Added
+    requires { ⌜ (n ≤ entryMost) × (t ≤ timeMost) ⌝ }
+    ensures { λ r. ⌜ ((s : Events) (es : List ℕ) → Timed n (times .count) (times .least) s → Lettered (a .n) (a .l) es → (not (eqb (a .n) 1) && not (eqb (a .n) n)) ≡ false → allEvents es ≡ true → Adding n t (spread n es) s (r .right) (r .times .count) (r .times .least)) ⌝ }
+{
+    let mut least = times.least;
+    let mut i = 0;
+    while i < n {
+        let k = slot(letter_at(a, i), i);
+        if t < least[k] {
+            return Added {
+                right: false,
+                times,
+            };
+        }
+        least[k] = t + 1;
+        i += 1;
+    }
+    let count = next(times.count);
+    let times = Times { count, least };
+    Added { right: true, times }
+}
+
+// Events that were read, and the cursor behind them.
+struct TimesRead {
+    cursor: words::Cursor,
+    times: Times,
+}
+
+// `'T' E;` behind the events of n characters.
+fn one_event(text: &[u8], c: words::Cursor, n: usize, times: Times) -> TimesRead
+    requires { ⌜ n ≤ entryMost ⌝ }
+    ensures { λ r. ⌜ ((s : Events) → Timed n (times .count) (times .least) s → Makes (now (text .entry)) c (oneEvent n s) (r .cursor) (Timed n (r .times .count) (r .times .least))) ⌝ }
+{
+    let t = words::quoted(text, c, 0);
+    let l = letters(text, t.cursor);
+    let behind = l.cursor;
+    let a = l.a;
+    let d = words::due(text, behind, b";");
+    let e = words::refuse_if(d, (a.n != 1) & (a.n != n), 11, behind.at);
+    if e.no != 0 {
+        return TimesRead { cursor: e, times };
+    }
+    let added = add(times, t.n, a, n);
+    let cursor = words::refuse_if(e, !added.right, 11, behind.at);
+    let times = added.times;
+    TimesRead { cursor, times }
+}
+
+// An event; one too many is refused at its quote.
+fn event(text: &[u8], c: words::Cursor, n: usize, times: Times) -> TimesRead
+    requires { ⌜ n ≤ entryMost ⌝ }
+    ensures { λ r. ⌜ ((s : Events) → Timed n (times .count) (times .least) s → Makes (now (text .entry)) c (eventOf n s) (r .cursor) (Timed n (r .times .count) (r .times .least))) ⌝ }
+{
+    if words::is(text, c, b"'") & (ENTRY <= times.count) {
+        let d = words::due(text, c, b"'");
+        let cursor = words::refuse_if(d, true, 8, c.at);
+        return TimesRead { cursor, times };
+    }
+    one_event(text, c, n, times)
+}
+
+// The events of an entry with n characters, and its closing brace.
+fn events(text: &[u8], c: words::Cursor, n: usize) -> words::Cursor
+    requires { ⌜ n ≤ entryMost ⌝ }
+    ensures { λ r. ⌜ ((cs : List ℕ) → length cs ≡ n → Makes (now (text .entry)) c (eventsOf cs) r (λ s. length (s .0) ≡ n)) ⌝ }
+{
+    let first = event(text, c, n, no_events());
+    let mut cursor = first.cursor;
+    let mut times = first.times;
+    while words::until(text, cursor, b"}") {
+        let x = event(text, cursor, n, times);
+        cursor = x.cursor;
+        times = x.times;
+    }
+    words::due(text, cursor, b"}")
+}
+
+// ---- characters
+
+// Does a byte stand there twice?
+fn repeats(w: &[u8]) -> bool
+    ensures { λ r. ⌜ r ≡ repeatsOf (now (w .entry)) ⌝ }
+{
+    let mut i = 0;
+    while i < w.len() {
+        if words::holds(&w[i + 1..], w[i]) {
+            return true;
+        }
+        i += 1;
+    }
+    false
+}
+
+// A letter or a digit?
+fn is_wave_char(b: u8) -> bool
+    ensures { λ r. ⌜ r ≡ waveChar b ⌝ }
+{
+    ((65 <= b) & (b <= 90) | (97 <= b) & (b <= 122)) | (48 <= b) & (b <= 57)
+}
+
+fn all_chars(w: &[u8]) -> bool
+    ensures { λ r. ⌜ r ≡ allChars (now (w .entry)) ⌝ }
+{
+    let mut i = 0;
+    while i < w.len() {
+        if !is_wave_char(w[i]) {
+            return false;
+        }
+        i += 1;
+    }
+    true
+}
+
+// ---- marks
+
+// Characters that can have a mark, and the marks of one table.
+const CHARS: usize = 128;
+
+const TABLE: usize = sets::MOST * CHARS;
+
+// Has signal s a mark for the character b?
+fn has_mark(table: &[u8], s: u16, b: u8) -> bool
+    requires { ⌜ (length (now table) ≡ tableSize) × (s < signalsMost) ⌝ }
+    ensures { λ r. ⌜ r ≡ mark (now (table .entry)) s b ⌝ }
+{
+    let i = s as usize * CHARS + b as usize;
+    if (b as usize) < CHARS {
+        table[i] == 1
+    } else {
+        false
+    }
+}
+
+// For one of the characters of w?
+fn has_mark_of(table: &[u8], s: u16, w: &[u8]) -> bool
+    requires { ⌜ (length (now table) ≡ tableSize) × (s < signalsMost) ⌝ }
+    ensures { λ r. ⌜ r ≡ markOf (now (table .entry)) s (now (w .entry)) ⌝ }
+{
+    let mut i = 0;
+    while i < w.len() {
+        if has_mark(table, s, w[i]) {
+            return true;
+        }
+        i += 1;
+    }
+    false
+}
+
+// Has one of these signals?
+fn taken(table: &[u8], sigs: &[u16], w: &[u8]) -> bool
+    requires { ⌜ (length (now table) ≡ tableSize) × Below (now sigs) ⌝ }
+    ensures { λ r. ⌜ r ≡ markAmong (now (table .entry)) (now (sigs .entry)) (now (w .entry)) ⌝ }
+{
+    let mut i = 0;
+    while i < sigs.len() {
+        if has_mark_of(table, sigs[i], w) {
+            return true;
+        }
+        i += 1;
+    }
+    false
+}
+
+// A mark of signal s for each character of w.
+fn mark_chars(table: &mut [u8], s: u16, w: &[u8])
+    requires { ⌜ (length (now table) ≡ tableSize) × (s < signalsMost) × (allChars (now w) ≡ true) ⌝ }
+    ensures { λ r. ⌜ Marked (now (table .entry)) (s ∷ []) (now (w .entry)) (now (table .exit)) ⌝ }
+{
+    let mut i = 0;
+    while i < w.len() {
+        let at = s as usize * CHARS + w[i] as usize;
+        table[at] = 1;
+        i += 1;
+    }
+}
+
+// A mark of each signal for each character of w.
+fn mark_all(table: &mut [u8], sigs: &[u16], w: &[u8])
+    requires { ⌜ (length (now table) ≡ tableSize) × Below (now sigs) × (allChars (now w) ≡ true) ⌝ }
+    ensures { λ r. ⌜ Marked (now (table .entry)) (now (sigs .entry)) (now (w .entry)) (now (table .exit)) ⌝ }
+{
+    let mut i = 0;
+    while i < sigs.len() {
+        mark_chars(table, sigs[i], w);
+        i += 1;
+    }
+}
+
+// ---- entries
+
+// Tables that a text may have.
+const TABLES: usize = 8;
+
+// Names of signals and groups, and the length of each one's row: how many signals, and then the signals.
+const NAMES: usize = 96;
+
+const ROW: usize = sets::MOST + 1;
+
+// At most as many as there may be.
+fn fewer(n: u16) -> usize
+    ensures { λ r. ⌜ r ≡ min n signalsMost ⌝ }
+{
+    let n = n as usize;
+    if n < sets::MOST { n } else { sets::MOST }
+}
+
+// The signals of the name of number i.
+fn row(lists: &[u16], i: usize) -> &[u16]
+    requires { ⌜ length (now lists) ≡ namesMost * rowLength ⌝ }
+    ensures { λ r. ⌜ now r ≡ listAt (now (lists .entry)) i ⌝ }
+{
+    if i < NAMES {
+        let at = i * ROW;
+        let first = at + 1;
+        let end = first + fewer(lists[at]);
+        return &lists[first..end];
+    }
+    &lists[0..0]
+}
+
+// CHARS: letters and digits that differ, for which none of these signals has a mark.
+fn chars(text: &[u8], c: words::Cursor, sigs: &[u16], table: &[u8]) -> words::Cursor
+    requires { ⌜ (length (now table) ≡ tableSize) × Below (now sigs) ⌝ }
+    ensures { λ r. ⌜ Chars (now (text .entry)) c (now (sigs .entry)) (now (table .entry)) r ⌝ }
+{
+    let d = words::word(text, c);
+    let w = words::bytes_of(text, c.at, c.end);
+    let e = words::refuse_if(d, ENTRY + 1 <= w.len(), 8, c.at);
+    let f = words::refuse_if(e, repeats(w) | taken(table, sigs, w), 11, c.at);
+    words::refuse_if(f, !all_chars(w), 12, c.at)
+}
+
+// CHARS and their events, for these signals.
+fn entry(text: &[u8], c: words::Cursor, sigs: &[u16], table: &mut [u8]) -> words::Cursor
+    requires { ⌜ (length (now table) ≡ tableSize) × Below (now sigs) ⌝ }
+    ensures { λ r. ⌜ ((ws : List Wave) → Marks (now (table .entry)) ws → Makes (now (text .entry)) c (entryOf (now (sigs .entry)) ws) r (Marks (now (table .exit)))) ⌝ }
+{
+    let d = chars(text, c, sigs, &table[..]);
+    if d.no != 0 {
+        return d;
+    }
+    let w = words::bytes_of(text, c.at, c.end);
+    let e = words::due(text, d, b"{");
+    let r = events(text, e, w.len());
+    mark_all(table, sigs, w);
+    r
+}
+
+// The entries of a name, up to its closing brace.
+fn entries(text: &[u8], c: words::Cursor, sigs: &[u16], table: &mut [u8]) -> words::Cursor
+    requires { ⌜ (length (now table) ≡ tableSize) × Below (now sigs) × Described (now table) ⌝ }
+    ensures { λ r. ⌜ ((ws : List Wave) → Marks (now (table .entry)) ws → Makes (now (text .entry)) c (entriesOf (now (sigs .entry)) ws) r (Marks (now (table .exit)))) ⌝ }
+{
+    let mut cursor = c;
+    while words::until(text, cursor, b"}") {
+        cursor = entry(text, cursor, sigs, table);
+    }
+    words::due(text, cursor, b"}")
+}
+
+// ---- tables
+
+// The waveforms of a signal, or of a group for each of its signals.
+fn waveforms<'a>(
+    text: &'a [u8],
+    c: words::Cursor,
+    places: &'a [usize],
+    lists: &[u16],
+    names: usize,
+    table: &mut [u8],
+) -> words::Cursor
+    requires { ⌜ (length (now table) ≡ tableSize) × Sized (now places) (now lists) × AllBelow (namesOf (now text) (now places) (now lists) names) × Described (now table) ⌝ }
+    ensures { λ r. ⌜ ((ws : List Wave) → Marks (now (table .entry)) ws → Makes (now (text .entry)) c (waveformsOf (namesOf (now (text .entry)) (now (places .entry)) (now (lists .entry)) names) ws) r (Marks (now (table .exit)))) ⌝ }
+{
+    let x = words::old_name(text, c, places, names);
+    let d = words::due(text, x.cursor, b"{");
+    if d.no != 0 {
+        return d;
+    }
+    let sigs = row(lists, x.number);
+    entries(text, d, sigs, table)
+}
+
+// All waveforms of a table, up to their closing brace.
+fn block<'a>(
+    text: &'a [u8],
+    c: words::Cursor,
+    places: &'a [usize],
+    lists: &[u16],
+    names: usize,
+    table: &mut [u8],
+) -> words::Cursor
+    requires { ⌜ (length (now table) ≡ tableSize) × Sized (now places) (now lists) × AllBelow (namesOf (now text) (now places) (now lists) names) × Described (now table) ⌝ }
+    ensures { λ r. ⌜ ((ws : List Wave) → Marks (now (table .entry)) ws → Makes (now (text .entry)) c (blockOf (namesOf (now (text .entry)) (now (places .entry)) (now (lists .entry)) names) ws) r (Marks (now (table .exit)))) ⌝ }
+{
+    let mut cursor = c;
+    while words::until(text, cursor, b"}") {
+        cursor = waveforms(text, cursor, places, lists, names, table);
+    }
+    words::due(text, cursor, b"}")
+}
+
+// What stands between a table's name and its waveforms; its period.
+fn head(text: &[u8], c: words::Cursor) -> words::Numbered
+    ensures { λ r. ⌜ ((k : ℕ → Reader TablesOf) → Brings (now (text .entry)) c (headThen k) (r .cursor) (k (r .n))) ⌝ }
+{
+    let a = words::due(text, c, b"{");
+    let b = words::due(text, a, b"Period");
+    let t = words::quoted(text, b, 1);
+    let d = words::due(text, t.cursor, b";");
+    let e = words::due(text, d, b"Waveforms");
+    let cursor = words::due(text, e, b"{");
+    words::Numbered { cursor, n: t.n }
+}
+
+// A table behind the first k.
+fn table<'a>(
+    text: &'a [u8],
+    c: words::Cursor,
+    places: &'a [usize],
+    lists: &[u16],
+    names: usize,
+    tplaces: &mut [usize],
+    k: usize,
+    waves: &mut [u8],
+) -> words::Cursor
+    requires { ⌜ (length (now tplaces) ≡ tablesMost * 2) × (length (now waves) ≡ tablesMost * tableSize) × Sized (now places) (now lists) × AllBelow (namesOf (now text) (now places) (now lists) names) ⌝ }
+    requires { ⌜ ((tabs : TablesOf) × Held (now text) (now tplaces) (now waves) k tabs) ⌝ }
+    ensures { λ r. ⌜ ((tabs : TablesOf) → Held (now (text .entry)) (now (tplaces .entry)) (now (waves .entry)) k tabs → Makes (now (text .entry)) c (tableOf (namesOf (now (text .entry)) (now (places .entry)) (now (lists .entry)) names) tabs) r (Held (now (text .entry)) (now (tplaces .exit)) (now (waves .exit)) (k + 1))) ⌝ }
+{
+    let a = words::due(text, c, b"WaveformTable");
+    let b = words::refuse_if(a, TABLES <= k, 8, c.at);
+    let d = words::new_name(text, b, &tplaces[..], k);
+    let x = head(text, d);
+    let e = x.cursor;
+    if e.no != 0 {
+        return e;
+    }
+    tplaces[k * 2] = b.at;
+    tplaces[k * 2 + 1] = b.end;
+    let first = k * TABLE;
+    let end = first + TABLE;
+    let f = block(text, e, places, lists, names, &mut waves[first..end]);
+    words::due(text, f, b"}")
+}
+
+// How many tables were read, and the cursor behind them.
+pub struct Tables {
+    pub cursor: words::Cursor,
+    pub count: usize,
+}
+
+// Timing: at least one table. The names of the tables go to `tplaces`, and a mark for each signal and character with a waveform to `waves`.
+pub fn timing<'a>(
+    text: &'a [u8],
+    c: words::Cursor,
+    places: &'a [usize],
+    lists: &[u16],
+    names: usize,
+    tplaces: &mut [usize],
+    waves: &mut [u8],
+) -> Tables
+    requires { ⌜ (length (now tplaces) ≡ tablesMost * 2) × (length (now waves) ≡ tablesMost * tableSize) × Sized (now places) (now lists) ⌝ }
+    requires { ⌜ ((i : ℕ) → getD (now waves) i 0 ≡ 0) ⌝ }
+    requires { ⌜ (alive c ≡ true → AllBelow (namesOf (now text) (now places) (now lists) names)) ⌝ }
+    ensures { λ r. ⌜ Makes (now (text .entry)) c (timingOf (namesOf (now (text .entry)) (now (places .entry)) (now (lists .entry)) names)) (r .cursor) (Held (now (text .entry)) (now (tplaces .exit)) (now (waves .exit)) (r .count)) ⌝ }
+{
+    if c.no != 0 {
+        return Tables {
+            cursor: c,
+            count: 0,
+        };
+    }
+    let a = words::due(text, c, b"Timing");
+    let b = words::due(text, a, b"{");
+    let mut cursor = table(text, b, places, lists, names, tplaces, 0, waves);
+    let mut count = 1;
+    while words::until(text, cursor, b"}") {
+        cursor = table(text, cursor, places, lists, names, tplaces, count, waves);
+        count += 1;
+    }
+    let end = words::due(text, cursor, b"}");
+    Tables { cursor: end, count }
+}
