@@ -22,11 +22,11 @@ use Rattle.meaning.proofs.Taking.{takes-keeps, takes-due, takes-word, takes-old
 use Rattle.meaning.proofs.Gives.{Gives, gives-bind, gives-after, gives-give, known-ok}
 use Rattle.words.specs.Cursor.{ahead, alive, Goes, Checked}
 use Rattle.words.specs.declared.Cursor.{Cursor}
-use Rattle.words.specs.Table.{nameOf, named, namesFrom, names}
+use Rattle.words.specs.Table.{names}
 use Rattle.words.proofs.Flow.{then, given, checked, passed, alike, stays, read, alive-before}
 use Rattle.words.proofs.Words.{or-both}
 use Rattle.words.proofs.Names.{old-named}
-use Rattle.signals.specs.Names.{listAt, rowsFrom, namesOf}
+use Rattle.signals.specs.Names.{listAt, namesOf}
 use Rattle.timing.specs.Makes.{Makes, Brings}
 use Rattle.timing.specs.Events.{events}
 use Rattle.timing.specs.Marks.{Marks, markAmong, Marked, Below, AllBelow}
@@ -92,15 +92,10 @@ module _ {text : List ℕ} {c d : Cursor} {sigs table : List ℕ} {ws : List Wav
 
 -- ---- the signals of a name
 
-rows-named : (text places lists : List ℕ) (i k : ℕ) → named (listAt lists) (namesFrom text places i k) ≡ rowsFrom text places lists i k
-unfolding named namesFrom rowsFrom
-rows-named text places lists i zero = refl
-rows-named text places lists i (suc k) = ap (λ (l : Names). (nameOf text places i, listAt lists i) ∷ l) (rows-named text places lists (suc i) k)
-
 pub old-row : {text : List ℕ} {c r : Cursor} {t : Tok} {i : ℕ} (places lists : List ℕ) (count : ℕ) → Goes text c (oldName (names text places count)) r (t, i)
     → Goes text c (oldName (namesOf text places lists count)) r (t, listAt lists i)
 old-row {text} {c} {r} {t} {i} places lists count g =
-    subst (λ (ns : Names). Goes text c (oldName ns) r (t, listAt lists i)) (rows-named text places lists 0 count) (old-named (listAt lists) (names text places count) g)
+    old-named (listAt lists) (names text places count) g
 
 found-below : (ns : Names) (w sigs : List ℕ) → AllBelow ns → find ns w ≡ some sigs → Below sigs
 unfolding find AllBelow

@@ -20,9 +20,9 @@ use Rattle.meaning.proofs.Takes.{Takes}
 use Rattle.meaning.proofs.Taking.{takes-keeps, takes-due, takes-new, takes-bind, keeps-bind, keeps-if, keeps-give, takes-until}
 use Rattle.words.specs.Cursor.{ahead, alive, Goes, Checked}
 use Rattle.words.specs.declared.Cursor.{Cursor}
-use Rattle.words.specs.Table.{namesFrom, names}
+use Rattle.words.specs.Table.{namesFrom, names, firsts as firstsOf}
 use Rattle.words.proofs.Flow.{then, given, checked, passed, stays, alive-before}
-use Rattle.words.proofs.Names.{firsts as firstsOf, new-by-number, one-more}
+use Rattle.words.proofs.Names.{new-by-number, one-more}
 use Rattle.timing.specs.Makes.{Makes, Brings}
 use Rattle.timing.specs.Marks.{charsMost, tableSize, Marks}
 use Rattle.timing.specs.Parts.{block, headThen}

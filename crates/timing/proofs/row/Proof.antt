@@ -2,7 +2,7 @@
 use Prim.Native.Nat.{_+_, _*_}
 use native.Mathlib.Omega.{arith}
 use lib.ListN.{getD, drop, List·getD-eq-default}
-use Rattle.signals.specs.Names.{rowLength}
+use Rattle.signals.specs.Names.{rowLength, listAt}
 use Rattle.timing.proofs.Marking.{row-part, row-none}
 use borrow.Author.Needs.{needs}
 use Rattle.timing.proofs.row.Statement.{statement}
@@ -39,6 +39,7 @@ part-result-end : tie.Need-part-result-end
 part-result-end c = search needs
 
 returns : tie.Need-returns
+unfolding listAt
 returns c = rw (c .before .fewer .ensures) (row-part (getD (c .before .before .before .before .before .args .lists .now) (c .before .before .before .before .before .args .i * rowLength) 0) (c .before .before .before .before .before .args .i * rowLength + 1) (c .before .before .before .before .before .args .lists .now))
 
 sub-result-2 : tie.Need-sub-result-2
@@ -51,6 +52,7 @@ part-result-end-2 : tie.Need-part-result-end-2
 part-result-end-2 c = search needs
 
 returns-2 : tie.Need-returns-2
+unfolding listAt
 returns-2 c = row-none (getD (c .before .before .before .args .lists .now) (c .before .before .before .args .i * rowLength) 0) (drop (c .before .before .before .args .i * rowLength + 1) (c .before .before .before .args .lists .now)) (List·getD-eq-default (c .before .before .before .args .lists .now) 0 (omega arith))
 
 pub row-spec : {M : Type 1} → statement M
