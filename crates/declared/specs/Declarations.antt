@@ -1,0 +1,45 @@
+-- All that is declared before the bodies: `STIL 1.0;`, the names and the tables (document 01, "The text we read").
+use Prim.Native.Nat.{ℕ, _*_}
+use mathlib.Core.Path.{_≡_}
+use mathlib.Core.Bool.{true}
+use mathlib.Core.Option.{Option, none, some}
+use mathlib.Core.List.{List, [], _∷_}
+use lib.ListN.{length, getD}
+use Rattle.tokens.specs.Tokens.{Toks, stop, tok, toks, faultOf}
+use Rattle.meaning.specs.Bounds.{tablesMost}
+use Rattle.meaning.specs.Reader.{Res, ok, refuse, Reader, _>>=_, _>>_, give, due}
+use Rattle.meaning.specs.Signals.{Names}
+use Rattle.meaning.specs.Timing.{Tables, timing}
+use Rattle.words.specs.Cursor.{alive, Goes}
+use Rattle.words.specs.declared.Cursor.{Cursor}
+use Rattle.signals.specs.Names.{namesOf, Sized, front}
+use Rattle.timing.specs.Marks.{tableSize}
+use Rattle.timing.specs.Held.{Held}
+
+unfoldable pub version : Reader ℕ
+version = do
+  due "STIL"
+  due "1.0"
+  due ";"
+
+-- the signals, all names, and the tables
+unfoldable pub declarations : Reader (Names × Names × Tables)
+declarations = do
+  version
+  f ← front
+  ts ← timing (f .1)
+  give (f .0, f .1, ts)
+
+-- arrays of the right length, and no mark set
+pub record Blank (places lists tplaces waves : List ℕ) : Type 0 where
+  pub sized : Sized places lists
+  pub tables : length tplaces ≡ tablesMost * 2
+  pub marks : length waves ≡ tablesMost * tableSize
+  pub unset : (i : ℕ) → getD waves i 0 ≡ 0
+
+-- THE PROMISE of the reader of all declarations: from c the definition goes to r, and the arrays hold what it answers
+pub record Declares (text : List ℕ) (c r : Cursor) (places lists tplaces waves : List ℕ) (signals names tables : ℕ) : Type 0 where
+  pub it : Tables
+  pub goes : Goes text c declarations r (namesOf text places lists signals, namesOf text places lists names, it)
+  pub held : alive r ≡ true → Held text tplaces waves tables it
+  pub sized : Sized places lists
