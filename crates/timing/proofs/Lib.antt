@@ -1,4 +1,4 @@
-mod Making
+pub mod Making
 mod EventLetters
 mod EventTimes
 mod EventReading
