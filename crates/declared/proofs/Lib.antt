@@ -1,1 +1,2 @@
 mod Below
+mod Numbers

@@ -1,6 +1,9 @@
 // All declarations of a text: `STIL 1.0;`, Signals, SignalGroups and Timing, read into arrays that the caller lends.
+ghost use mathlib.Core.Path.{_≡_};
+ghost use Rattle.tokens.specs.Tokens.{toks};
 ghost use Rattle.words.specs.Cursor.{Goes};
-ghost use Rattle.declared.specs.Declarations.{version as versionDue, Blank, Declares};
+ghost use Rattle.declared.specs.Declarations.{version as versionDue, declarations as declarationsDue, Blank, Declares};
+ghost use Rattle.declared.specs.Numbers.{refusal, numbersOf, toldOf, written};
 use words::Cursor;
 
 // How many signals, names and tables there are, and the cursor behind them.
@@ -50,4 +53,74 @@ pub fn declarations(
         names: f.names,
         tables: t.count,
     }
+}
+
+// What is told of a text's declarations: the number of the refusal, 0 for none; its place, or that of the token behind them; and how many there are.
+pub struct Told {
+    pub no: usize,
+    pub place: usize,
+    pub signals: usize,
+    pub names: usize,
+    pub tables: usize,
+}
+
+fn refused(no: usize, place: usize) -> Told
+    ensures { λ r. ⌜ r ≡ refusal no place ⌝ }
+{
+    Told {
+        no,
+        place,
+        signals: 0,
+        names: 0,
+        tables: 0,
+    }
+}
+
+// Of a text without a fault in its bytes.
+fn read_all(text: &[u8]) -> Told
+    ensures { λ r. ⌜ r ≡ numbersOf (declarationsDue (toks (now (text .entry)) 0)) ⌝ }
+{
+    let mut places = [0usize; signals::PLACES];
+    let mut lists = [0u16; signals::LISTS];
+    let mut tplaces = [0usize; timing::PLACES];
+    let mut waves = [0u8; timing::WAVES];
+    let c = words::cursor_at(text, 0);
+    let d = declarations(text, c, &mut places, &mut lists, &mut tplaces, &mut waves);
+    let behind = d.cursor;
+    if behind.no != 0 {
+        return refused(behind.no as usize, behind.at);
+    }
+    Told {
+        no: 0,
+        place: behind.at,
+        signals: d.signals,
+        names: d.names,
+        tables: d.tables,
+    }
+}
+
+// Of any text.
+pub fn tell(text: &[u8]) -> Told
+    ensures { λ r. ⌜ r ≡ toldOf (now (text .entry)) ⌝ }
+{
+    match tokens::fault_in(text) {
+        tokens::Fault::Clean => read_all(text),
+        tokens::Fault::Faulty(n, p) => refused(n as usize, p),
+    }
+}
+
+// The same for a caller in C or Rust: five numbers to the front of a buffer, if it has room for them.
+#[no_mangle]
+pub extern "C" fn lutemeteor_declared(text: &[u8], numbers: &mut [usize])
+    ensures { λ _. ⌜ now (numbers .exit) ≡ written (toldOf (now (text .entry))) (now (numbers .entry)) ⌝ }
+{
+    if numbers.len() < 5 {
+        return;
+    }
+    let t = tell(text);
+    numbers[0] = t.no;
+    numbers[1] = t.place;
+    numbers[2] = t.signals;
+    numbers[3] = t.names;
+    numbers[4] = t.tables;
 }

@@ -22,7 +22,7 @@ const GROUPS: usize = 32;
 pub const NAMES: usize = sets::MOST + GROUPS;
 
 // A row of signals: their number, and a place for each that there may be.
-const ROW: usize = sets::MOST + 1;
+pub const ROW: usize = sets::MOST + 1;
 
 // How long the two tables are.
 pub const PLACES: usize = NAMES * 2;

@@ -359,10 +359,10 @@ fn mark_all(table: &mut [u8], sigs: &[u16], w: &[u8])
 // Tables that a text may have.
 const TABLES: usize = 8;
 
-// Names of signals and groups, and the length of each one's row: how many signals, and then the signals.
-const NAMES: usize = 96;
+// How long the tables' names and their marks are.
+pub const PLACES: usize = TABLES * 2;
 
-const ROW: usize = sets::MOST + 1;
+pub const WAVES: usize = TABLES * TABLE;
 
 // At most as many as there may be.
 fn fewer(n: u16) -> usize
@@ -377,8 +377,8 @@ fn row(lists: &[u16], i: usize) -> &[u16]
     requires { ⌜ length (now lists) ≡ namesMost * rowLength ⌝ }
     ensures { λ r. ⌜ now r ≡ listAt (now (lists .entry)) i ⌝ }
 {
-    if i < NAMES {
-        let at = i * ROW;
+    if i < signals::NAMES {
+        let at = i * signals::ROW;
         let first = at + 1;
         let end = first + fewer(lists[at]);
         return &lists[first..end];
