@@ -27,19 +27,6 @@ use Rattle.data.proofs.Over.{adds-none, adds-both, adds-same}
 
 -- ---- a word's characters
 
-module _ (w : List ℕ) (i : ℕ) where
-  pub chars-more : i < length w → waveChar (getD w i 0) ≡ true → allChars (drop i w) ≡ allChars (drop (i + 1) w)
-  unfolding allChars
-  chars-more h e = rw (cut w i h) (rw e)
-
-  pub chars-not : i < length w → waveChar (getD w i 0) ≡ false → allChars (drop i w) ≡ false
-  unfolding allChars
-  chars-not h e = rw (cut w i h) (rw e)
-
-  pub chars-end : length w ≤ i → allChars (drop i w) ≡ true
-  unfolding allChars
-  chars-end h = rw (drop-of-length-le w h)
-
 pub chars-read : {text : List ℕ} {c r : Cursor} {b : Bool} (t : Tok) {w : List ℕ} → w ≡ t .word → b ≡ allChars w → Checked c (not b) badData (t .at) r
     → Goes text c (charsOf t) r (t .word)
 unfolding charsOf

@@ -4,7 +4,6 @@ use words::Numbered;
 ghost use mathlib.Core.Path.{_≡_};
 ghost use Prim.Native.Nat.{_+_, _-_, min};
 ghost use lib.ListN.{replicate};
-ghost use Rattle.meaning.specs.Timing.{waveChar, allChars};
 ghost use Rattle.meaning.specs.Data.{stretched, repeated, dataRead};
 ghost use Rattle.words.specs.Cursor.{Goes};
 ghost use Rattle.data.specs.Filled.{countMost, Adds, Puts, Fills, timesDue, pieceDue};
@@ -23,29 +22,6 @@ pub struct Filled {
     pub cursor: Cursor,
     pub n: usize,
     pub last: usize,
-}
-
-// ---- waveform characters
-
-// A letter or a digit?
-pub fn is_char(b: u8) -> bool
-    ensures { λ r. ⌜ r ≡ waveChar b ⌝ }
-{
-    ((65 <= b) & (b <= 90)) | ((97 <= b) & (b <= 122)) | ((48 <= b) & (b <= 57))
-}
-
-// Letters and digits only?
-pub fn all_chars(w: &[u8]) -> bool
-    ensures { λ r. ⌜ r ≡ allChars (now (w .entry)) ⌝ }
-{
-    let mut i = 0;
-    while i < w.len() {
-        if !is_char(w[i]) {
-            return false;
-        }
-        i += 1;
-    }
-    true
 }
 
 // ---- characters behind those that a buffer holds
@@ -142,7 +118,7 @@ fn repeat(text: &[u8], c: Cursor, buffer: &mut [u8], n: usize) -> Put
     let d = t.cursor;
     let w = words::bytes_of(text, d.at, d.end);
     let e = words::word(text, d);
-    let cursor = words::refuse_if(e, !all_chars(w), 12, d.at);
+    let cursor = words::refuse_if(e, !words::all_chars(w), 12, d.at);
     let m = stretch(buffer, n, t.n as usize, w);
     Put { cursor, n: m }
 }
@@ -154,7 +130,7 @@ fn piece(text: &[u8], c: Cursor, may: bool, buffer: &mut [u8], n: usize) -> Put
     let w = words::bytes_of(text, c.at, c.end);
     let d = words::step(text, c);
     if words::is_word(w) {
-        let cursor = words::refuse_if(d, !all_chars(w), 12, c.at);
+        let cursor = words::refuse_if(d, !words::all_chars(w), 12, c.at);
         let m = copy(buffer, n, w);
         return Put { cursor, n: m };
     }

@@ -33,18 +33,6 @@ module _ (f : ℕ → Bool) (w : List ℕ) (i : ℕ) where
   any-end h = rw (drop-of-length-le w h)
 
 module _ (w : List ℕ) (i : ℕ) where
-  pub all-not : i < length w → waveChar (getD w i 0) ≡ false → allChars (drop i w) ≡ false
-  unfolding allChars
-  all-not h e = rw (cut w i h) (rw e)
-
-  pub all-more : i < length w → waveChar (getD w i 0) ≡ true → allChars (drop i w) ≡ allChars (drop (i + 1) w)
-  unfolding allChars
-  all-more h e = rw (cut w i h) (rw e)
-
-  pub all-end : length w ≤ i → allChars (drop i w) ≡ true
-  unfolding allChars
-  all-end h = rw (drop-of-length-le w h)
-
   pub repeats-here : i < length w → has (getD w i 0) (drop (i + 1) w) ≡ true → repeats (drop i w) ≡ true
   unfolding repeats
   repeats-here h e = rw (cut w i h) (rw e)

@@ -259,26 +259,6 @@ fn repeats(w: &[u8]) -> bool
     false
 }
 
-// A letter or a digit?
-fn is_wave_char(b: u8) -> bool
-    ensures { λ r. ⌜ r ≡ waveChar b ⌝ }
-{
-    ((65 <= b) & (b <= 90) | (97 <= b) & (b <= 122)) | (48 <= b) & (b <= 57)
-}
-
-fn all_chars(w: &[u8]) -> bool
-    ensures { λ r. ⌜ r ≡ allChars (now (w .entry)) ⌝ }
-{
-    let mut i = 0;
-    while i < w.len() {
-        if !is_wave_char(w[i]) {
-            return false;
-        }
-        i += 1;
-    }
-    true
-}
-
 // ---- marks
 
 // Characters that can have a mark, and the marks of one table.
@@ -395,7 +375,7 @@ fn chars(text: &[u8], c: words::Cursor, sigs: &[u16], table: &[u8]) -> words::Cu
     let w = words::bytes_of(text, c.at, c.end);
     let e = words::refuse_if(d, ENTRY + 1 <= w.len(), 8, c.at);
     let f = words::refuse_if(e, repeats(w) | taken(table, sigs, w), 11, c.at);
-    words::refuse_if(f, !all_chars(w), 12, c.at)
+    words::refuse_if(f, !words::all_chars(w), 12, c.at)
 }
 
 // CHARS and their events, for these signals.

@@ -17,6 +17,7 @@ use Rattle.meaning.specs.Bounds.{nameMost}
 use Rattle.meaning.specs.Reader.{isWord}
 use Rattle.meaning.specs.Lists.{has}
 use Rattle.meaning.specs.Names.{reserved, among, isName}
+use Rattle.meaning.specs.Timing.{waveChar, allChars}
 
 pub cut : (t : List ℕ) (i : ℕ) → i < length t → drop i t ≡ getD t i 0 ∷ drop (i + 1) t
 cut t i h = rw (add-one, drop-cons t i 0)
@@ -164,3 +165,18 @@ pub name-some : (w : List ℕ) → (length w ≡ 0 → ⊥)
 unfolding isName
 name-some [] h = absurd (h refl)
 name-some (b ∷ s) h = refl
+
+-- ---- waveform characters, at a place of a word
+
+module _ (w : List ℕ) (i : ℕ) where
+  pub chars-more : i < length w → waveChar (getD w i 0) ≡ true → allChars (drop i w) ≡ allChars (drop (i + 1) w)
+  unfolding allChars
+  chars-more h e = rw (cut w i h) (rw e)
+
+  pub chars-not : i < length w → waveChar (getD w i 0) ≡ false → allChars (drop i w) ≡ false
+  unfolding allChars
+  chars-not h e = rw (cut w i h) (rw e)
+
+  pub chars-end : length w ≤ i → allChars (drop i w) ≡ true
+  unfolding allChars
+  chars-end h = rw (drop-of-length-le w h)

@@ -11,7 +11,7 @@ ghost use Rattle.tokens.specs.Bytes.{wordy, digit};
 ghost use Rattle.meaning.specs.Reader.{any, aheadOf, dueOf, isWord, word as wordDue};
 ghost use Rattle.meaning.specs.Lists.{has};
 ghost use Rattle.meaning.specs.Names.{reserved as reservedWords, among, isName, name as nameDue, find as findOf, newName, oldName, number as numberOf, within as withinDue, numberIn};
-ghost use Rattle.meaning.specs.Timing.{unit as unitOf, picoseconds, quoted as quotedDue};
+ghost use Rattle.meaning.specs.Timing.{waveChar, allChars, unit as unitOf, picoseconds, quoted as quotedDue};
 ghost use Rattle.words.specs.Cursor.{span, ahead as aheadTok, stream, alive, Stands, Goes, Checked, taking};
 ghost use Rattle.words.specs.Values.{most, told, capped, valueOf, Longer};
 ghost use Rattle.words.specs.Table.{nameOf, names};
@@ -207,6 +207,31 @@ pub fn holds(w: &[u8], b: u8) -> bool
     }
     false
 }
+
+// ---- waveform characters
+
+// A letter or a digit?
+pub fn is_char(b: u8) -> bool
+    ensures { λ r. ⌜ r ≡ waveChar b ⌝ }
+{
+    ((65 <= b) & (b <= 90)) | ((97 <= b) & (b <= 122)) | ((48 <= b) & (b <= 57))
+}
+
+// Letters and digits only?
+pub fn all_chars(w: &[u8]) -> bool
+    ensures { λ r. ⌜ r ≡ allChars (now (w .entry)) ⌝ }
+{
+    let mut i = 0;
+    while i < w.len() {
+        if !is_char(w[i]) {
+            return false;
+        }
+        i += 1;
+    }
+    true
+}
+
+// ---- names
 
 // Is w one of the words that are no names? Only words of its length are looked at.
 pub fn reserved(w: &[u8]) -> bool

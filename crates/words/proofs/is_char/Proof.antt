@@ -2,8 +2,8 @@
 use mathlib.Core.Path.{refl}
 use Rattle.tokens.specs.Bytes.{letter, digit, between}
 use Rattle.meaning.specs.Timing.{waveChar}
-use Rattle.data.proofs.is_char.Statement.{statement}
-use Rattle.data.proofs.is_char.Tie as tie
+use Rattle.words.proofs.is_char.Statement.{statement}
+use Rattle.words.proofs.is_char.Tie as tie
 
 returns : tie.Need-returns
 unfolding waveChar letter digit between

@@ -4,10 +4,10 @@ use mathlib.Core.Path.{_≡_, refl, sym, _∙_}
 use borrow.Author.Tests.{not-true, not-false}
 use lib.ListN.{length, drop}
 use Rattle.meaning.specs.Timing.{allChars}
-use Rattle.data.proofs.Pieces.{chars-more, chars-not, chars-end}
+use Rattle.words.proofs.Words.{chars-more, chars-not, chars-end}
 use borrow.Author.Needs.{needs}
-use Rattle.data.proofs.all_chars.Statement.{statement}
-use Rattle.data.proofs.all_chars.Tie as tie
+use Rattle.words.proofs.all_chars.Statement.{statement}
+use Rattle.words.proofs.all_chars.Tie as tie
 
 abbrev Inv-loop : tie.InvT-loop
 Inv-loop w i₀ i = allChars w ≡ allChars (drop i w)
