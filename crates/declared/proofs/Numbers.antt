@@ -8,18 +8,16 @@ use mathlib.Core.List.{List, [], _∷_}
 use lib.ListN.{length, getD, replicate, set, drop}
 use lib.Dec.{ltb, eqb}
 use borrow.Author.Tests.{eq-eqb, ne-eqb, le-leb, lt-leb}
-use Rattle.tokens.specs.Tokens.{Tok, Toks, stop, tok, toks, faultOf}
+use Rattle.tokens.specs.Tokens.{Toks, stop, tok, toks, faultOf}
 use Rattle.meaning.specs.Reader.{Res, ok, refuse, give}
 use Rattle.meaning.specs.Signals.{Names}
 use Rattle.meaning.specs.Timing.{Tables}
-use Rattle.meaning.specs.Meaning.{firsts}
 use Rattle.words.specs.Cursor.{ahead, stopNo, stream, alive, Stands, Goes}
-use Rattle.words.specs.Table.{namesFrom, names}
 use Rattle.words.specs.declared.Cursor.{Cursor}
 use Rattle.words.proofs.Flow.{from-on, from-stop}
 use Rattle.signals.specs.Names.{namesOf}
 use Rattle.signals.proofs.Tables.{names-length}
-use Rattle.timing.specs.Held.{Held}
+use Rattle.timing.proofs.TableReading.{held-count}
 use Rattle.declared.specs.Declarations.{declarations, Declares}
 use Rattle.declared.specs.Numbers.{placeOf, refusal, numbersOf, toldOf, written}
 use Rattle.declared.specs.declared.Told.{Told}
@@ -40,21 +38,6 @@ place-ahead text c = by (ltb (c .at) (c .end))
     by true = refl
     by false = refl
 
-firsts-length : {A : Type 0} (xs : List (Tok × A)) → length (firsts xs) ≡ length xs
-unfolding firsts
-firsts-length [] = refl
-firsts-length (x ∷ xs) = ap suc (firsts-length xs)
-
-numbered-length : (text places : List ℕ) (i k : ℕ) → length (namesFrom text places i k) ≡ k
-unfolding namesFrom
-numbered-length text places i zero = refl
-numbered-length text places i (suc k) = ap suc (numbered-length text places (suc i) k)
-
--- as many tables as are held
-tables-held : {text tplaces waves : List ℕ} {count : ℕ} {it : Tables} → Held text tplaces waves count it → length it ≡ count
-tables-held {text} {tplaces} {waves} {count} {it} h =
-    sym (firsts-length it) ∙ ap length (h .named) ∙ firsts-length (names text tplaces count) ∙ numbered-length text tplaces 0 count
-
 module _ {text : List ℕ} {c r : Cursor} {places lists tplaces waves : List ℕ} {signals names tables : ℕ}
     (s : Stands text 0 c) (d : Declares text c r places lists tplaces waves signals names tables) where
   from-first : {A : Res (Names × Names × Tables)} → Rattle.words.specs.Cursor.from text r (give (namesOf text places lists signals, namesOf text places lists names, d .it)) ≡ A
@@ -71,7 +54,7 @@ module _ {text : List ℕ} {c r : Cursor} {places lists tplaces waves : List ℕ
   told-read h =
       let on = eq-eqb (r .no) 0 h in
       sym (ap numbersOf (from-first (from-on text r (give _) on))
-      ∙ rw (place-ahead text r, names-length text places lists signals, names-length text places lists names, tables-held (d .held on)))
+      ∙ rw (place-ahead text r, names-length text places lists signals, names-length text places lists names, held-count (d .held on)))
 
 -- a text with a fault in its bytes, and one without
 pub told-fault : (text : List ℕ) (n p : ℕ) → some (n, p) ≡ faultOf text → refusal n p ≡ toldOf text

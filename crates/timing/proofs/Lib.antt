@@ -4,4 +4,4 @@ mod EventTimes
 mod EventReading
 mod Marking
 mod EntryReading
-mod TableReading
+pub mod TableReading

@@ -20,7 +20,7 @@ use Rattle.meaning.proofs.Takes.{Takes}
 use Rattle.meaning.proofs.Taking.{takes-keeps, takes-due, takes-new, takes-bind, keeps-bind, keeps-if, keeps-give, takes-until}
 use Rattle.words.specs.Cursor.{ahead, alive, Goes, Checked}
 use Rattle.words.specs.declared.Cursor.{Cursor}
-use Rattle.words.specs.Table.{namesFrom, names, firsts as firstsOf}
+use Rattle.words.specs.Table.{namesFrom, names}
 use Rattle.words.proofs.Flow.{then, given, checked, passed, stays, alive-before}
 use Rattle.words.proofs.Names.{new-by-number, one-more}
 use Rattle.timing.specs.Makes.{Makes, Brings}
@@ -33,11 +33,6 @@ use Rattle.timing.proofs.EntryReading.{takes-waveforms}
 
 -- ---- names
 
-same-firsts : {A : Type 0} (xs : List (Tok × A)) → firsts xs ≡ firstsOf xs
-unfolding firsts firstsOf
-same-firsts [] = refl
-same-firsts (x ∷ xs) = ap (λ (l : List Tok). x .0 ∷ l) (same-firsts xs)
-
 firsts-length : {A : Type 0} (xs : List (Tok × A)) → length (firsts xs) ≡ length xs
 unfolding firsts
 firsts-length [] = refl
@@ -49,12 +44,12 @@ names-length text places i zero = refl
 names-length text places i (suc k) = ap suc (names-length text places (suc i) k)
 
 module _ {text tplaces waves : List ℕ} {k : ℕ} {tabs : Tables} (a : Held text tplaces waves k tabs) where
-  held-count : length tabs ≡ k
+  pub held-count : length tabs ≡ k
   held-count =
       sym (firsts-length tabs) ∙ ap length (a .named) ∙ firsts-length (names text tplaces k) ∙ names-length text tplaces 0 k
 
-  held-names : firstsOf tabs ≡ firstsOf (names text tplaces k)
-  held-names = sym (same-firsts tabs) ∙ a .named ∙ same-firsts (names text tplaces k)
+  held-names : firsts tabs ≡ firsts (names text tplaces k)
+  held-names = a .named
 
 -- ---- the tables by number
 
@@ -146,12 +141,10 @@ module _ {text tplaces waves : List ℕ} {k : ℕ} {tabs : Tables} (a : Held tex
 
       named : firsts (tabs ++ x ∷ []) ≡ firsts (names text places (k + 1))
       named =
-          same-firsts (tabs ++ x ∷ [])
-          ∙ one-more text tplaces places k tabs b (x .1) (held-names a)
+          one-more text tplaces places k tabs b (x .1) (held-names a)
           (λ j l. getD-set-other (set tplaces (k * 2) (b .at)) (k * 2 + 1) j (b .end) 0 (λ q. omega arith) ∙ getD-set-other tplaces (k * 2) j (b .at) 0 (λ q. omega arith))
           (getD-set-other (set tplaces (k * 2) (b .at)) (k * 2 + 1) (k * 2) (b .end) 0 (λ q. omega arith) ∙ getD-set-same tplaces (k * 2) (b .at) 0 (omega arith))
           (getD-set-same (set tplaces (k * 2) (b .at)) (k * 2 + 1) (b .end) 0 (omega (arith, length-set tplaces (k * 2) (b .at))))
-          ∙ sym (same-firsts (names text places (k + 1)))
 
       all : List ℕ
       all = put (k * tableSize) (k * tableSize + tableSize - k * tableSize) waves after

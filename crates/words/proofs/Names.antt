@@ -14,7 +14,8 @@ use Rattle.meaning.specs.Refusals.{unknownName, usedName}
 use Rattle.meaning.specs.Reader.{Res, Reader, ok, refuse, after, _>>=_, give, refuseIf}
 use Rattle.meaning.specs.Names.{name, find, isSome, known, newName, oldName}
 use Rattle.words.specs.Cursor.{ahead, Goes}
-use Rattle.words.specs.Table.{nameOf, namesFrom, names, named, firsts, seconds}
+use Rattle.meaning.specs.Meaning.{firsts}
+use Rattle.words.specs.Table.{nameOf, namesFrom, names, named, seconds}
 use Rattle.words.specs.declared.Cursor.{Cursor}
 use Rattle.words.proofs.Flow.{then, given, alike}
 

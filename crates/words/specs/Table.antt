@@ -22,11 +22,7 @@ unfoldable pub named : {A B : Type 0} → (A → B) → List (Tok × A) → List
 named f [] = []
 named f (x ∷ xs) = (x .0, f (x .1)) ∷ named f xs
 
--- the names of a list, and what they stand for
-unfoldable pub firsts : {A : Type 0} → List (Tok × A) → List Tok
-firsts [] = []
-firsts (x ∷ xs) = x .0 ∷ firsts xs
-
+-- what the names of a list stand for (the names are its `firsts`)
 unfoldable pub seconds : {A : Type 0} → List (Tok × A) → List A
 seconds [] = []
 seconds (x ∷ xs) = x .1 ∷ seconds xs
