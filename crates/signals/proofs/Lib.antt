@@ -1,0 +1,6 @@
+mod Rows
+mod Taking
+pub mod Tidy
+pub mod Tables
+mod Joining
+mod Declaring

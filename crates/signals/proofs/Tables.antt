@@ -1,0 +1,174 @@
+-- Names in the tables: how many, the first of them, one more behind them, and what is known of them once both blocks are read.
+use Prim.Native.Nat.{ℕ, zero, suc, _+_, _*_, _≤_, _<_}
+use native.Mathlib.Omega.{arith}
+use native.Mathlib.Nat.{zero-add, add-zero, add-suc, suc-add}
+use native.Mathlib.Numerals.{add-one}
+use mathlib.Core.Path.{_≡_, refl, sym, ap, ap₂, _∙_, subst}
+use mathlib.Core.Bool.{Bool, true, false}
+use mathlib.Core.Option.{Option, some}
+use mathlib.Core.List.{List, [], _∷_, _++_}
+use lib.ListN.{length, getD, take, set, length-append, length-set}
+use lib.Seq.{take-at, getD-set-same, getD-set-other}
+use Rattle.tokens.specs.Written.{same}
+use Rattle.tokens.specs.Tokens.{Tok}
+use Rattle.meaning.specs.Bounds.{signalsMost}
+use Rattle.meaning.specs.Names.{find, oldName}
+use Rattle.meaning.specs.Signals.{Names}
+use Rattle.meaning.proofs.Gives.{Gives, gives-bind, gives-after, gives-give}
+use Rattle.sets.specs.Sets.{listOf}
+use Rattle.sets.specs.declared.Set.{Set}
+use Rattle.sets.proofs.Tidy.{TidyBelow}
+use Rattle.words.specs.Cursor.{ahead, alive, Goes}
+use Rattle.words.specs.Table.{nameOf, namesFrom, names, named}
+use Rattle.words.specs.declared.Cursor.{Cursor}
+use Rattle.words.proofs.Names.{names-more}
+use Rattle.signals.specs.Names.{namesMost, Sized, listAt, namesOf, Written, Added, AllTidy, more as another, Fronted}
+use Rattle.signals.proofs.Tidy.{gave, gives-known, Single, one, declared-front}
+
+-- k names from number i on, each with its signals
+abbrev rows : List ℕ → List ℕ → List ℕ → ℕ → ℕ → Names
+rows text places lists i k = named (listAt lists) (namesFrom text places i k)
+
+-- ---- how many, and the first of them
+
+module _ (text places lists : List ℕ) where
+  rows-length : (i k : ℕ) → length (rows text places lists i k) ≡ k
+  unfolding named namesFrom
+  rows-length i zero = refl
+  rows-length i (suc k) = ap suc (rows-length (suc i) k)
+
+  pub names-length : (count : ℕ) → length (namesOf text places lists count) ≡ count
+  names-length count = rows-length 0 count
+
+  pub no-names : namesOf text places lists 0 ≡ []
+  unfolding named namesFrom
+  no-names = refl
+
+  rows-first : (i k n : ℕ) → n ≤ k → take n (rows text places lists i k) ≡ rows text places lists i n
+  unfolding named namesFrom
+  rows-first i zero zero h = refl
+  rows-first i zero (suc n) h = absurd (omega arith)
+  rows-first i (suc k) zero h = refl
+  rows-first i (suc k) (suc n) h = ap (λ (l : Names). (nameOf text places i, listAt lists i) ∷ l) (rows-first (suc i) k n (omega arith))
+
+  -- what the names begin with are the first of them
+  pub names-first : (count n : ℕ) (ns added : Names) → namesOf text places lists count ≡ ns ++ added → length ns ≡ n → namesOf text places lists n ≡ ns
+  names-first count n ns added e f =
+      let h : n ≤ count = omega (arith, names-length count, ap length e, length-append ns added) in
+      sym (rows-first 0 count n h) ∙ ap (take n) e ∙ take-at ns added n f
+
+-- ---- one name more
+
+named-more : {A B : Type 0} (f : A → B) (xs : List (Tok × A)) (x : Tok × A) → named f (xs ++ x ∷ []) ≡ named f xs ++ (x .0, f (x .1)) ∷ []
+unfolding named
+named-more f [] x = refl
+named-more {A} {B} f (y ∷ xs) x = ap (λ (l : List (Tok × B)). (y .0, f (y .1)) ∷ l) (named-more f xs x)
+
+module _ (text p q l m : List ℕ) where
+  -- tables that agree on those names
+  agree : (i k : ℕ) → ((j : ℕ) → j < (i + k) * 2 → getD q j 0 ≡ getD p j 0) → ((j : ℕ) → j < i + k → listAt m j ≡ listAt l j)
+      → rows text q m i k ≡ rows text p l i k
+  unfolding named namesFrom
+  agree i zero h g = refl
+  agree i (suc k) h g =
+      let a = h (i * 2) (omega arith) in
+      let b = h (i * 2 + 1) (omega arith) in
+      let e = g i (omega arith) in
+      rw (a, b, e) (ap (λ (ns : Names). (nameOf text p i, listAt l i) ∷ ns) (agree (suc i) k (λ j f. h j (omega arith)) (λ j f. g j (omega arith))))
+
+  -- the name at the cursor, with its place and end behind theirs, and its row
+  names-added : (count : ℕ) (c : Cursor) {s : Set} → q ≡ set (set p (count * 2) (c .at)) (count * 2 + 1) (c .end) → count * 2 + 1 < length p
+      → Written l count s m → namesOf text p l count ++ (ahead text c, listOf s) ∷ [] ≡ namesOf text q m (count + 1)
+  names-added count c {s} e h w =
+      let first = set p (count * 2) (c .at) in
+      let start : getD q (count * 2) 0 ≡ c .at =
+      rw e (getD-set-other first (count * 2 + 1) (count * 2) (c .end) 0 (λ z. omega arith) ∙ getD-set-same p (count * 2) (c .at) 0 (omega arith)) in
+      let end : getD q (count * 2 + 1) 0 ≡ c .end =
+      rw e (getD-set-same first (count * 2 + 1) (c .end) 0 (omega (arith, length-set p (count * 2) (c .at)))) in
+      let others : (j : ℕ) → j < (0 + count) * 2 → getD q j 0 ≡ getD p j 0 = λ j b.
+      rw e (getD-set-other first (count * 2 + 1) j (c .end) 0 (λ z. omega arith) ∙ getD-set-other p (count * 2) j (c .at) 0 (λ z. omega arith)) in
+      let it : nameOf text q count ≡ ahead text c = rw (start, end) in
+      sym (ap (λ (k : ℕ). named (listAt m) (namesFrom text q 0 k)) (add-one count)
+      ∙ ap (named (listAt m)) (names-more text q 0 count ∙ ap (λ (k : ℕ). namesFrom text q 0 count ++ (nameOf text q k, k) ∷ []) (zero-add count))
+      ∙ named-more (listAt m) (namesFrom text q 0 count) (nameOf text q count, count)
+      ∙ ap₂ (λ (ns : Names) (x : Tok × List ℕ). ns ++ x ∷ []) (agree 0 count others (λ j b. w .earlier j (omega arith)))
+      (ap₂ (λ (t : Tok) (k : List ℕ). (t, k)) it (w .row)))
+
+-- both tables hold one name more
+pub added : (p q l m : List ℕ) (count : ℕ) (c : Cursor) {s : Set} → Sized p l → count < namesMost → q ≡ set (set p (count * 2) (c .at)) (count * 2 + 1) (c .end)
+    → Written l count s m → Added p l count c s q m
+added p q l m count c h b e w =
+    record {
+      names = λ text. names-added text p q l m count c e (omega (arith, h .all)) w;
+      sized =
+          record {
+            all = ap length e ∙ length-set (set p (count * 2) (c .at)) (count * 2 + 1) (c .end) ∙ length-set p (count * 2) (c .at) ∙ h .all;
+            rows = w .long ∙ h .rows;
+          };
+    }
+
+-- ---- both blocks were read
+
+module _ (text places lists : List ℕ) where
+  tidy-at : {most : ℕ} (i k : ℕ) → AllTidy most (rows text places lists i k) → (j : ℕ) → j < k → TidyBelow most (listAt lists (i + j))
+  unfolding named namesFrom
+  tidy-at i zero h j e = absurd (omega arith)
+  tidy-at {most} i (suc k) (another h hs) zero e = subst (λ (n : ℕ). TidyBelow most (listAt lists n)) (sym (add-zero i)) h
+  tidy-at {most} i (suc k) (another h hs) (suc j) e =
+      subst (λ (n : ℕ). TidyBelow most (listAt lists n)) (suc-add i j ∙ sym (add-suc i j)) (tidy-at (suc i) k hs j (omega arith))
+
+  single-at : (i k : ℕ) → Single i (rows text places lists i k) → (j : ℕ) → j < k → listAt lists (i + j) ≡ (i + j) ∷ []
+  unfolding named namesFrom
+  single-at i zero h j e = absurd (omega arith)
+  single-at i (suc k) (one h hs) zero e = rw (add-zero i) h
+  single-at i (suc k) (one h hs) (suc j) e =
+      let s : suc i + j ≡ i + suc j = suc-add i j ∙ sym (add-suc i j) in
+      subst (λ (n : ℕ). listAt lists n ≡ n ∷ []) s (single-at (suc i) k hs j (omega arith))
+
+-- a name that is found has a number below their count
+find-below : (text places w : List ℕ) (i k j : ℕ) → find (namesFrom text places i k) w ≡ some j → j < i + k
+unfolding find namesFrom
+find-below text places w i zero j e = let z : _≡_ {A = ℕ} 0 1 = cc in absurd (omega arith)
+find-below text places w i (suc k) j e = by (same (nameOf text places i .word) w) e (find-below text places w (suc i) k j)
+  where
+    by : (b : Bool) → _≡_ {A = Option ℕ} (elim b [ true ↦ some i | false ↦ find (namesFrom text places (suc i) k) w ]) (some j)
+        → (find (namesFrom text places (suc i) k) w ≡ some j → j < suc i + k) → j < i + suc k
+    by true e ih = let q : i ≡ j = cc in omega arith
+    by false e ih = let h = ih e in omega arith
+
+pub old-below : {text : List ℕ} (places : List ℕ) (count : ℕ) {c r : Cursor} {t : Tok} {i : ℕ} → Goes text c (oldName (names text places count)) r (t, i) → alive r ≡ true
+    → i < count
+unfolding oldName
+old-below {text} places count g e = gave below g e
+  where
+    Below : Tok × ℕ → Type 0
+    Below x = x .1 < count
+
+    below : Gives Below (oldName (names text places count))
+    below =
+        gives-after Below _ _ λ u.
+        gives-bind (λ j. j < count) Below _ _ (gives-known (λ j. j < count) _ _ _ (λ j q. let h = find-below text places (u .word) 0 count j q in omega arith)) λ j h.
+        gives-give Below (u, j) h
+
+-- what later readers know of the tables: so many signals and names at most, which signal i stands for, and that a name's signals differ and are
+-- signals of the text
+pub record Known (lists : List ℕ) (signals names : ℕ) : Type 0 where
+  pub few : signals ≤ signalsMost
+  pub fits : names ≤ namesMost
+  pub within : signals ≤ names
+  pub signal : (i : ℕ) → i < signals → listAt lists i ≡ i ∷ []
+  pub tidy : (i : ℕ) → i < names → TidyBelow signals (listAt lists i)
+
+pub known : {text : List ℕ} {c r : Cursor} {places lists : List ℕ} {signals names : ℕ} → Fronted text c r places lists signals names → alive r ≡ true
+    → Known lists signals names
+known {text} {c} {r} {places} {lists} {signals} {names} h e =
+    let d = gave declared-front (h .goes) e in
+    let n = names-length text places lists signals in
+    let m = names-length text places lists names in
+    record {
+      few = omega (arith, d .signals .few);
+      fits = omega (arith, d .signals .few, d .names .few);
+      within = omega (arith, ap length (d .names .same), length-append (namesOf text places lists signals) (d .names .added));
+      signal = λ i b. rw (zero-add i) at (single-at text places lists 0 signals (d .signals .single) i b);
+      tidy = λ i b. rw (n, zero-add i) at (tidy-at text places lists 0 names (d .names .tidy) i b);
+    }
