@@ -88,8 +88,7 @@ module _ (text p q l m : List ℕ) where
       let others : (j : ℕ) → j < (0 + count) * 2 → getD q j 0 ≡ getD p j 0 = λ j b.
       rw e (getD-set-other first (count * 2 + 1) j (c .end) 0 (λ z. omega arith) ∙ getD-set-other p (count * 2) j (c .at) 0 (λ z. omega arith)) in
       let it : nameOf text q count ≡ ahead text c = rw (start, end) in
-      sym (ap (λ (k : ℕ). named (listAt m) (namesFrom text q 0 k)) (add-one count)
-      ∙ ap (named (listAt m)) (names-more text q 0 count ∙ ap (λ (k : ℕ). namesFrom text q 0 count ++ (nameOf text q k, k) ∷ []) (zero-add count))
+      sym (ap (named (listAt m)) (names-more text q count)
       ∙ named-more (listAt m) (namesFrom text q 0 count) (nameOf text q count, count)
       ∙ ap₂ (λ (ns : Names) (x : Tok × List ℕ). ns ++ x ∷ []) (agree 0 count others (λ j b. w .earlier j (omega arith)))
       (ap₂ (λ (t : Tok) (k : List ℕ). (t, k)) it (w .row)))
