@@ -1,3 +1,5 @@
 mod Rows
 pub mod Table
 pub mod Read
+mod Assigning
+mod Turns
