@@ -1,7 +1,6 @@
 -- One assignment: its readers one behind the other, and what the table has where none of them refused.
-use Prim.Native.Nat.{ℕ, zero, suc, _+_, _<_}
+use Prim.Native.Nat.{ℕ}
 use native.Mathlib.Omega.{arith}
-use native.Mathlib.Nat.{zero-add, add-zero, add-suc, suc-add}
 use mathlib.Core.Path.{_≡_, refl, sym, ap, _∙_, subst}
 use mathlib.Core.Bool.{Bool, true, false, not}
 use mathlib.Core.List.{List, _++_}
@@ -18,29 +17,22 @@ use Rattle.meaning.specs.Data.{dataRead, paired, assigned, assign}
 use Rattle.sets.proofs.Tidy.{TidyBelow}
 use Rattle.words.specs.declared.Cursor.{Cursor}
 use Rattle.words.specs.Cursor.{ahead as aheadTok, alive, Goes, Checked}
-use Rattle.words.specs.Table.{namesFrom, names, named}
+use Rattle.words.specs.Table.{names}
 use Rattle.words.proofs.Flow.{given, then, stays, checked, passed, alive-before}
 use Rattle.words.proofs.Names.{old-named}
-use Rattle.signals.specs.Names.{listAt, namesOf, AllTidy, more as another}
+use Rattle.signals.specs.Names.{listAt, namesOf}
+use Rattle.signals.proofs.Tidy.{gave}
 use Rattle.signals.proofs.Tables.{old-below}
 use Rattle.data.specs.Filled.{Fills}
 use Rattle.data.proofs.Held.{held, told, length-due}
 use Rattle.data.proofs.Characters.{no-zero}
 use Rattle.assigns.specs.Given.{Gave, Gives, placed, Row, Ready}
 use Rattle.assigns.proofs.Rows.{row-most}
-use Rattle.assigns.proofs.Table.{gave-more, placed-take}
+use Rattle.assigns.proofs.Table.{is-true, gave-more, placed-take}
+use Rattle.assigns.proofs.Read.{tidy-name}
 
 off-on : (c : Cursor) → alive c ≡ false → alive c ≡ true → ⊥
 off-on c e f = let w : true ≡ false = sym f ∙ e in let z : _≡_ {A = ℕ} 0 1 = cc in omega arith
-
--- the signals of each name differ
-tidy-row : (text places lists : List ℕ) (i k : ℕ) → AllTidy signalsMost (named (listAt lists) (namesFrom text places i k)) → (j : ℕ) → j < k
-    → TidyBelow signalsMost (listAt lists (i + j))
-unfolding named namesFrom
-tidy-row text places lists i zero h j e = absurd (omega arith)
-tidy-row text places lists i (suc k) (another h hs) zero e = subst (λ (n : ℕ). TidyBelow signalsMost (listAt lists n)) (sym (add-zero i)) h
-tidy-row text places lists i (suc k) (another h hs) (suc j) e =
-    subst (λ (n : ℕ). TidyBelow signalsMost (listAt lists n)) (suc-add i j ∙ sym (add-suc i j)) (tidy-row text places lists (suc i) k hs j (omega arith))
 
 -- ---- the name
 
@@ -52,7 +44,7 @@ module _ {text places lists : List ℕ} {count : ℕ} {c a : Cursor} {i : ℕ} (
       record {
         rows = ready .usable .sized .rows;
         below = omega (arith, ready .fits);
-        tidy = subst (λ (n : ℕ). TidyBelow signalsMost (listAt lists n)) (zero-add i) (tidy-row text places lists 0 count (ready .usable .tidy) i b);
+        tidy = gave (tidy-name _ (ready .usable .tidy)) (old-named (listAt lists) (names text places count) name) live;
         long = long;
       }
 
@@ -74,10 +66,6 @@ pub data Assigning (text places lists : List ℕ) (count : ℕ) (may : Bool) (c 
   assign-read : {a b d e : Cursor} {short : Bool} {p n last : ℕ} → Goes text c (oldName (names text places count)) a (aheadTok text c, i)
       → Checked a twice badData (c .at) b → Goes text b (due "=") d p → Fills text d (dataRead may) e entry buffer n last
       → Checked e short badData last r → short ≡ not (eqb n (length (listAt lists i))) → Assigning text places lists count may c r i twice entry buffer
-
-is-true : (z : Bool) → not z ≡ false → z ≡ true
-is-true true h = refl
-is-true false h = let z : _≡_ {A = ℕ} 0 1 = cc in absurd (omega arith)
 
 module _ {text places lists : List ℕ} {count : ℕ} {may : Bool} {c r : Cursor} {i : ℕ} {twice : Bool} {entry buffer : List ℕ} where
   pub characters : Assigning text places lists count may c r i twice entry buffer → List ℕ
