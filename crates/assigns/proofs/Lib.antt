@@ -3,3 +3,4 @@ pub mod Table
 pub mod Read
 mod Assigning
 mod Turns
+pub mod Callers

@@ -22,7 +22,7 @@ pub is-true : (z : Bool) → not z ≡ false → z ≡ true
 is-true true h = refl
 is-true false h = absurd (differ h)
 
-or-false : (x y : Bool) → (x || y) ≡ false → (x ≡ false) × (y ≡ false)
+pub or-false : (x y : Bool) → (x || y) ≡ false → (x ≡ false) × (y ≡ false)
 or-false true y h = absurd (differ h)
 or-false false y h = (refl, h)
 
