@@ -1,16 +1,13 @@
 -- What is left of the row decides: a turn whose signal has no character leaves the answer to the rest.
 use mathlib.Core.Path.{_≡_, refl, sym, _∙_}
-use mathlib.Core.Bool.{true, false}
-use mathlib.Core.List.{List}
-use Prim.Native.Nat.{ℕ, _+_, _*_, _-_, _<_}
+use Prim.Native.Nat.{_-_, _<_}
 use native.Mathlib.Omega.{arith}
-use lib.ListN.{length, getD, drop}
-use Rattle.meaning.specs.Bounds.{signalsMost}
+use lib.ListN.{length, drop}
 use Rattle.meaning.specs.Body.{Assigns}
 use Rattle.meaning.specs.Lists.{meets}
 use Rattle.meaning.specs.Data.{assigned}
-use Rattle.signals.specs.Names.{rowLength, listAt}
-use Rattle.assigns.specs.Given.{Gave, Row}
+use Rattle.signals.specs.Names.{listAt}
+use Rattle.assigns.specs.Given.{Gave}
 use Rattle.assigns.proofs.Rows.{row-at, row-inside, signal-below, meets-here, meets-next, meets-end}
 use Rattle.assigns.proofs.Table.{given-some, given-none}
 use borrow.Author.Needs.{needs}

@@ -1,11 +1,10 @@
 -- What is left to put is put behind what is done: a turn takes the next signal and the next character.
 use mathlib.Core.Path.{_≡_, refl, sym, _∙_}
-use mathlib.Core.List.{List}
-use Prim.Native.Nat.{ℕ, _+_, _*_, _-_, _<_}
+use Prim.Native.Nat.{_-_, _<_}
 use native.Mathlib.Omega.{arith}
-use lib.ListN.{length, getD, drop, length-set}
+use lib.ListN.{length, drop, length-set}
 use Rattle.meaning.specs.Bounds.{signalsMost}
-use Rattle.signals.specs.Names.{rowLength, listAt}
+use Rattle.signals.specs.Names.{listAt}
 use Rattle.assigns.specs.Given.{placed}
 use Rattle.assigns.proofs.Rows.{row-at, row-inside, signal-below, placed-next, placed-end}
 use borrow.Author.Needs.{needs}

@@ -1,5 +1,4 @@
 -- A row's first number says how many signals there are, as far as there is room.
-use mathlib.Core.Path.{sym, _∙_}
 use Prim.Native.Nat.{_*_}
 use native.Mathlib.Omega.{arith}
 use Rattle.signals.specs.Names.{rowLength}
