@@ -1,0 +1,6 @@
+mod Rows
+pub mod Table
+pub mod Read
+mod Assigning
+mod Turns
+pub mod Callers
