@@ -210,7 +210,7 @@ pub fn mark_uses(given: &[u8], row: &mut [u16])
 
 // Where the body of number i begins.
 pub fn start_at(book: &[usize], i: usize) -> usize
-    ensures { λ r. ⌜ i < entries → r ≡ startAt (now (book .entry)) i ⌝ }
+    ensures { λ r. ⌜ (i < entries → r ≡ startAt (now (book .entry)) i) ⌝ }
 {
     if i < ENTRIES {
         words::number_at(book, ENTRIES * 2 + i * NUMBERS)

@@ -1,0 +1,3 @@
+mod Capped
+pub mod Joined
+mod Measured
