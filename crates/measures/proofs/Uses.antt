@@ -1,0 +1,107 @@
+-- A body's uses of `#`, one statement more at a time.
+use Prim.Native.Nat.{ℕ, _+_, _<_, min}
+use native.Mathlib.Omega.{arith}
+use mathlib.Core.Path.{_≡_, refl, sym, ap, _∙_}
+use mathlib.Core.Bool.{Bool, true, false, _||_}
+use mathlib.Core.List.{List, [], _++_, append-nil, append-assoc}
+use lib.Dec.{eqb}
+use lib.ListN.{getD, replicate, length-replicate, getD-replicate}
+use borrow.Author.Tests.{eqb-true}
+use Rattle.meaning.specs.Bounds.{signalsMost}
+use Rattle.meaning.specs.Lists.{has, count}
+use Rattle.meaning.specs.Signals.{Names}
+use Rattle.meaning.specs.Body.{Assigns, Args, Kind, Setting, looped, entered, Body, done, vec, set′, inner, mark, marked, outside, inShift, shifting}
+use Rattle.meaning.specs.Data.{assigns}
+use Rattle.words.specs.declared.Cursor.{Cursor}
+use Rattle.words.specs.Cursor.{alive}
+use Rattle.sets.proofs.Tidy.{TidyBelow, bare, next}
+use Rattle.signals.specs.Names.{AllTidy}
+use Rattle.assigns.specs.Given.{Gives}
+use Rattle.assigns.proofs.Callers.{assigned-once}
+use Rattle.measures.specs.Measures.{joined}
+use Rattle.measures.specs.Uses.{usesCap, rowLength, flag, Uses, Given}
+use Rattle.measures.proofs.Counting.{differ}
+use Rattle.measures.proofs.Marked.{none-marked}
+
+-- ---- `#` in statements behind statements
+
+pub outside-joined : (a b : Body) → outside (joined a b) ≡ outside a ++ outside b
+unfolding joined outside
+outside-joined done b = refl
+outside-joined (vec p x r) b = ap (λ (l : List ℕ). marked x ++ l) (outside-joined r b) ∙ sym (append-assoc (marked x) (outside r) (outside b))
+outside-joined (set′ x r) b = outside-joined r b
+outside-joined (inner w c r) b = outside-joined r b
+
+pub shifting-joined : (a b : Body) → shifting (joined a b) ≡ shifting a ++ shifting b
+unfolding joined shifting
+shifting-joined done b = refl
+shifting-joined (vec p x r) b = shifting-joined r b
+shifting-joined (set′ x r) b = shifting-joined r b
+shifting-joined (inner w c r) b =
+    ap (λ (l : List ℕ). inShift w (outside c) ++ l) (shifting-joined r b) ∙ sym (append-assoc (inShift w (outside c)) (shifting r) (shifting b))
+
+-- ---- a row
+
+-- only these two count
+uses-alike : {b c : Body} {row : List ℕ} → outside c ≡ outside b → shifting c ≡ shifting b → Uses b row → Uses c row
+uses-alike e f u =
+    record {
+      long = u .long;
+      outside-is = λ s h. u .outside-is s h ∙ ap (λ (l : List ℕ). min usesCap (count s l)) (sym e);
+      shifting-is = λ s h. u .shifting-is s h ∙ ap (λ (l : List ℕ). flag (has s l)) (sym f);
+      below = λ s h. u .below s (sym (rw (e, f)) ∙ h);
+    }
+
+-- no use yet
+pub uses-none : Uses done (replicate rowLength 0)
+unfolding outside shifting has count
+uses-none =
+    record {
+      long = length-replicate {A = ℕ} rowLength 0;
+      outside-is = λ s h. getD-replicate {A = ℕ} rowLength s 0 0 (omega arith);
+      shifting-is = λ s h. getD-replicate {A = ℕ} rowLength (signalsMost + s) 0 0 (omega arith);
+      below = λ s h. absurd (differ (sym h));
+    }
+
+-- ---- a statement without `#`
+
+module _ {b : Body} {row : List ℕ} (u : Uses b row) where
+  uses-plain : (x : Body) → outside x ≡ [] → shifting x ≡ [] → Uses (joined b x) row
+  uses-plain x e f =
+      uses-alike (outside-joined b x ∙ ap (λ (l : List ℕ). outside b ++ l) e ∙ append-nil (outside b))
+      (shifting-joined b x ∙ ap (λ (l : List ℕ). shifting b ++ l) f ∙ append-nil (shifting b)) u
+
+  -- V where `#` may not stand
+  pub uses-unmarked : {a : Assigns} {given : List ℕ} (p : ℕ) → Given a given → ((s : ℕ) → s < signalsMost → eqb (getD given s 0) mark ≡ false)
+      → Uses (joined b (vec p a done)) row
+  unfolding outside shifting
+  uses-unmarked {a} p g h = uses-plain (vec p a done) (ap (λ (l : List ℕ). l ++ []) (none-marked g h)) refl
+
+  pub uses-setting : (x : Setting) → Uses (joined b (set′ x done)) row
+  unfolding outside shifting
+  uses-setting x = uses-plain (set′ x done) refl refl
+
+  pub uses-looped : (n : ℕ) (c : Body) → Uses (joined b (inner (looped n) c done)) row
+  unfolding outside shifting inShift
+  uses-looped n c = uses-plain (inner (looped n) c done) refl refl
+
+  pub uses-entered : (k : Kind) (t : ℕ) (x : Args) (c : Body) → Uses (joined b (inner (entered k t x) c done)) row
+  unfolding outside shifting inShift
+  uses-entered k t x c = uses-plain (inner (entered k t x) c done) refl refl
+
+-- ---- for callers: what was read has no signal twice, and none above the bound
+
+tidy-below : {most : ℕ} {l : List ℕ} → TidyBelow most l → (s : ℕ) → has s l ≡ true → s < most
+unfolding has
+tidy-below bare s h = absurd (differ (sym h))
+tidy-below {most} (next {x} {l} b e t) s h = by (eqb x s) refl h (tidy-below t s)
+  where
+    by : (z : Bool) → eqb x s ≡ z → (z || has s l) ≡ true → (has s l ≡ true → s < most) → s < most
+    by true q k ih = omega (arith, eqb-true x s q)
+    by false q k ih = ih k
+
+pub given-read : {text : List ℕ} {c r : Cursor} {ns : Names} (may : Bool) {given : List ℕ} → AllTidy signalsMost ns
+    → (g : Gives text c (assigns ns may) r given) → alive r ≡ true → Given (g .it) given
+given-read may all g live =
+    let t = assigned-once may all g live in
+    record { gave = g .gave live; once = t .1; below = tidy-below (t .0) }

@@ -1,0 +1,77 @@
+-- Each turn takes the next signal: a mark where its character is `#`.
+use Prim.Native.Nat.{_+_, _-_, _≤_, _<_}
+use native.Mathlib.Omega.{arith}
+use mathlib.Core.Path.{refl}
+use mathlib.Core.Logic.{⊎-elim}
+use lib.ListN.{length, getD}
+use borrow.Author.Tests.{eq-eqb, ne-eqb}
+use borrow.Author.Needs.{needs}
+use Rattle.meaning.specs.Bounds.{signalsMost}
+use Rattle.measures.proofs.Changed.{Changed, changed-none, changed-next, changed-same}
+use Rattle.measures.proofs.Counted.{shown, uses-shown}
+use Rattle.measures.proofs.mark_uses.Statement.{statement}
+use Rattle.measures.proofs.mark_uses.Tie as tie
+
+abbrev Inv-loop : tie.InvT-loop
+Inv-loop given row₀ s₀ row s = (s ≤ signalsMost) × Changed (λ k n. shown (getD given k 0) n) signalsMost s row₀ row
+
+abbrev μ-loop : tie.MeasureT-loop
+μ-loop given row₀ s₀ row s = signalsMost - s
+
+loop-holds : tie.Need-loop-holds Inv-loop μ-loop
+loop-holds c = (omega arith, changed-none)
+
+shared-slice-read-if1 : tie.Need-shared-slice-read-if1 Inv-loop μ-loop
+shared-slice-read-if1 c = search needs
+
+add-row : tie.Need-add-row Inv-loop μ-loop
+add-row c = search needs
+
+mul-row : tie.Need-mul-row Inv-loop μ-loop
+mul-row c = search needs
+
+slice-write-row : tie.Need-slice-write-row Inv-loop μ-loop
+slice-write-row c = search needs
+
+add-s : tie.Need-add-s Inv-loop μ-loop
+add-s c = search needs
+
+loop-less : tie.Need-loop-less Inv-loop μ-loop
+loop-less c = search needs
+
+loop-again : tie.Need-loop-again Inv-loop μ-loop
+loop-again c =
+    let turn = c .before .before .before in
+    let loop = turn .loop in
+    let x = loop .inv .1 in
+    let at = signalsMost + loop .s in
+    let inside : at < length (loop .row) = omega (arith, x .long, turn .before .pre .1) in (
+      omega arith,
+      ⊎-elim
+          (λ w. rw (w .1) (changed-next x at refl _ inside (rw (eq-eqb _ _ (w .0 .taken)))))
+          (λ w. rw (w .1) (changed-same x at refl inside (rw (ne-eqb _ _ (w .0 .left)))))
+          (c .if1 .came),
+    )
+
+same-length : tie.Need-same-length Inv-loop μ-loop
+same-length c = c .before .loop .inv .1 .long
+
+returns : tie.Need-returns Inv-loop μ-loop
+returns c = λ p a b g u. uses-shown (omega arith) p g u (c .before .loop .inv .1)
+
+pub mark-uses-spec : {M : Type 1} → statement M
+mark-uses-spec =
+    tie.close
+    (tie.spec
+    Inv-loop
+    μ-loop
+    loop-holds
+    shared-slice-read-if1
+    add-row
+    mul-row
+    slice-write-row
+    add-s
+    loop-less
+    loop-again
+    same-length
+    returns)
