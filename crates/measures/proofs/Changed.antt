@@ -1,13 +1,13 @@
 -- A loop over places of a list, each changed in its turn.
-use Prim.Native.Nat.{ℕ, _+_, _≤_, _<_}
+use Prim.Native.Nat.{ℕ, _+_, _-_, _≤_, _<_}
 use native.Mathlib.Omega.{arith}
 use mathlib.Core.Path.{_≡_, refl, sym, ap, _∙_, subst}
 use mathlib.Core.Bool.{Bool, true, false}
 use mathlib.Core.List.{List}
-use lib.Dec.{eqb}
+use lib.Dec.{ltb, eqb}
 use lib.ListN.{length, getD, set, length-set}
 use lib.Seq.{getD-set-same, getD-set-other, set-getD}
-use borrow.Author.Tests.{eqb-true, eqb-false}
+use borrow.Author.Tests.{ltb-true, ltb-false, eqb-true, eqb-false}
 
 -- of the places from `base` on, the first s hold what f made of what was there; all others are as they were
 pub record Changed (f : ℕ → ℕ → ℕ) (base s : ℕ) (before list : List ℕ) : Type 0 where
@@ -43,3 +43,16 @@ module _ {f : ℕ → ℕ → ℕ} {base : ℕ} {before : List ℕ} where
     pub changed-same : at < length list → f s (getD list at 0) ≡ getD list at 0 → Changed f base (s + 1) before list
     changed-same inside e =
         subst (Changed f base (s + 1) before) (set-getD list at 0) (changed-next (getD list at 0) inside (sym e))
+
+-- a place that is none of those
+pub not-changed : {f : ℕ → ℕ → ℕ} {base s : ℕ} {before list : List ℕ} → Changed f base s before list → (at : ℕ)
+    → ((k : ℕ) → k < s → at ≡ base + k → ⊥) → getD list at 0 ≡ getD before at 0
+not-changed {f} {base} {s} {before} {list} x at h = by (ltb at base) (ltb at (base + s)) refl refl
+  where
+    by : (a b : Bool) → ltb at base ≡ a → ltb at (base + s) ≡ b → getD list at 0 ≡ getD before at 0
+    by true b p q = x .ahead at (ltb-true at base p)
+    by false true p q =
+        let above = ltb-false at base p in
+        let inside = ltb-true at (base + s) q in
+        absurd (h (at - base) (omega arith) (omega arith))
+    by false false p q = x .behind at (ltb-false at (base + s) q)

@@ -1,8 +1,11 @@
 mod Capped
 pub mod Joined
 mod Measured
+pub mod Within
 mod Counting
 mod Changed
 mod Marked
 pub mod Uses
 mod Counted
+mod Kept
+pub mod Book
