@@ -5,34 +5,34 @@ use native.Mathlib.Nat.{add-zero, mul-zero, mul-add, mul-left-comm}
 use mathlib.Core.Path.{_≡_, sym, ap, _∙_}
 use Rattle.meaning.specs.Body.{Args, Kind, looped, entered, Body, done, inner, depth}
 use Rattle.meaning.specs.Run.{size, turnsOf, shiftOf, cycles}
-use Rattle.measures.specs.Measures.{depthCap, sizeCap, cyclesCap, Measures, joined}
+use Rattle.measures.specs.Measures.{sizeCap, cyclesCap, Measures, joined, Around}
 use Rattle.measures.specs.declared.Measure.{Measure}
 use Rattle.measures.proofs.Capped.{sum-alike, product-alike, capped-turns}
 use Rattle.measures.proofs.Joined.{depth-joined, size-joined, cycles-joined}
 
-module _ {b : Body} {x r : Measure} (m : Measures b x) (deep : r .depth ≡ min depthCap (x .depth + 1)) (sized : r .size ≡ min sizeCap (x .size + 1)) where
+module _ {b : Body} {x r : Measure} {cs ss : ℕ} (m : Measures b x) (w : Around x cs ss r) where
   -- each turn of a Loop plays the Shift of its body as often
-  pub loop-measures : (n : ℕ) → r .cycles ≡ min cyclesCap (n * x .cycles) → r .shifts ≡ min cyclesCap (n * x .shifts) → Measures (inner (looped n) b done) r
+  pub loop-measures : (n : ℕ) → cs ≡ min cyclesCap (n * x .cycles) → ss ≡ min cyclesCap (n * x .shifts) → Measures (inner (looped n) b done) r
   unfolding depth size cycles turnsOf shiftOf
   loop-measures n e f =
       record {
-        depth-is = omega (arith, m .depth-is);
-        size-is = omega (arith, m .size-is);
+        depth-is = omega (arith, m .depth-is, w .depth-is);
+        size-is = omega (arith, m .size-is, w .size-is);
         cycles-is = λ t.
-            (rw (e, f) (capped-turns cyclesCap t (n * x .cycles) (n * x .shifts)))
+            (rw (w .cycles-is ∙ e, w .shifts-is ∙ f) (capped-turns cyclesCap t (n * x .cycles) (n * x .shifts)))
             ∙ ap (min cyclesCap) (sym (mul-add n (x .cycles) (t * x .shifts) ∙ ap (λ (k : ℕ). n * x .cycles + k) (mul-left-comm n t (x .shifts))))
             ∙ product-alike cyclesCap n (x .cycles + t * x .shifts) (cycles t b) (m .cycles-is t)
             ∙ ap (min cyclesCap) (sym (add-zero (n * cycles t b)));
       }
 
-  pub use-measures : (k : Kind) (t : ℕ) (a : Args) → r .cycles ≡ min cyclesCap (x .cycles + min cyclesCap (t * x .shifts)) → r .shifts ≡ 0
+  pub use-measures : (k : Kind) (t : ℕ) (a : Args) → cs ≡ min cyclesCap (x .cycles + min cyclesCap (t * x .shifts)) → ss ≡ 0
       → Measures (inner (entered k t a) b done) r
   unfolding depth size cycles turnsOf shiftOf
   use-measures k t a e f =
       record {
-        depth-is = omega (arith, m .depth-is);
-        size-is = omega (arith, m .size-is);
-        cycles-is = λ u. omega (arith, ap (λ (k : ℕ). u * k) f, mul-zero u, m .cycles-is t);
+        depth-is = omega (arith, m .depth-is, w .depth-is);
+        size-is = omega (arith, m .size-is, w .size-is);
+        cycles-is = λ u. omega (arith, ap (λ (k : ℕ). u * k) (w .shifts-is ∙ f), mul-zero u, w .cycles-is, m .cycles-is t);
       }
 
 pub joined-measures : {a b : Body} {x y r : Measure} → Measures a x → Measures b y → r .depth ≡ max (x .depth) (y .depth)

@@ -1,6 +1,6 @@
 -- The book of all declared bodies: macros, procedures, the burst and the patterns. In front each one's name, by its place and end in the text; behind
 -- the names five numbers each: where the body begins, and its measure.
-use Prim.Native.Nat.{ℕ, suc, _+_, _*_, _<_, _≤_}
+use Prim.Native.Nat.{ℕ, suc, _+_, _*_, _<_}
 use mathlib.Core.Path.{_≡_}
 use mathlib.Core.List.{List, [], _∷_}
 use lib.ListN.{length, getD}

@@ -1,8 +1,6 @@
 -- What the code keeps of a body: its depth, its size and its cycles, each up to one above its bound.
 use Prim.Native.Nat.{ℕ, suc, _+_, _*_, min}
 use mathlib.Core.Path.{_≡_}
-use mathlib.Core.Option.{none}
-use mathlib.Core.List.{List}
 use Rattle.meaning.specs.Bounds.{depthMost, sizeMost, cyclesMost}
 use Rattle.meaning.specs.Body.{Body, done, vec, set′, inner, depth}
 use Rattle.meaning.specs.Run.{size, cycles}
@@ -30,3 +28,10 @@ joined done b = b
 joined (vec p a r) b = vec p a (joined r b)
 joined (set′ x r) b = set′ x (joined r b)
 joined (inner w c r) b = inner w c (joined r b)
+
+-- the numbers of a statement with a body of measure x in it
+pub record Around (x : Measure) (cycles shifts : ℕ) (r : Measure) : Type 0 where
+  pub depth-is : r .depth ≡ min depthCap (x .depth + 1)
+  pub size-is : r .size ≡ min sizeCap (x .size + 1)
+  pub cycles-is : r .cycles ≡ cycles
+  pub shifts-is : r .shifts ≡ shifts

@@ -1,13 +1,12 @@
 // What is kept of a body: its depth, its size, its cycles, and its uses of `#`. Each number is held up to one above its bound, so that nothing wraps.
 ghost use mathlib.Core.Path.{_≡_};
 ghost use mathlib.Core.Bool.{not};
-ghost use mathlib.Core.List.{List};
 ghost use Prim.Native.Nat.{ℕ, _+_, _*_, _<_, min, max};
-ghost use lib.ListN.{length, getD};
+ghost use lib.ListN.{length};
 ghost use Rattle.meaning.specs.Bounds.{signalsMost};
 ghost use Rattle.meaning.specs.Lists.{empty};
 ghost use Rattle.meaning.specs.Body.{Assigns, Args, Kind, Setting, looped as loopedWay, shifted, entered, Body, done, vec, set′, inner, marked};
-ghost use Rattle.measures.specs.Measures.{Measures, joined};
+ghost use Rattle.measures.specs.Measures.{Measures, joined, Around};
 ghost use Rattle.measures.specs.Uses.{rowLength, Uses, Given};
 ghost use Rattle.measures.specs.Book.{entries, bookLength, rowsLength, bodies as bodiesIn, startAt, measureAt, Kept, KeptRow};
 use words::Cursor;
@@ -130,16 +129,27 @@ pub fn shift() -> Measure
     }
 }
 
-// Loop N over a body.
-pub fn looped(n: usize, x: Measure) -> Measure
-    ensures { λ r. ⌜ ((b : Body) → Measures b x → Measures (inner (loopedWay n) b done) r) ⌝ }
+// A statement with a body in it: one level and one statement more.
+fn around(x: Measure, cycles: usize, shifts: usize) -> Measure
+    ensures { λ r. ⌜ Around x cycles shifts r ⌝ }
 {
     Measure {
         depth: sum(x.depth, 1, DEPTH_CAP),
         size: sum(x.size, 1, SIZE_CAP),
-        cycles: product(n, x.cycles, CYCLES_CAP),
-        shifts: product(n, x.shifts, CYCLES_CAP),
+        cycles: cycles,
+        shifts: shifts,
     }
+}
+
+// Loop N over a body.
+pub fn looped(n: usize, x: Measure) -> Measure
+    ensures { λ r. ⌜ ((b : Body) → Measures b x → Measures (inner (loopedWay n) b done) r) ⌝ }
+{
+    around(
+        x,
+        product(n, x.cycles, CYCLES_CAP),
+        product(n, x.shifts, CYCLES_CAP),
+    )
 }
 
 // A body entered once, its Shift played t times.
@@ -147,12 +157,7 @@ pub fn used(t: usize, x: Measure) -> Measure
     ensures { λ r. ⌜ ((k : Kind) (a : Args) (b : Body) → Measures b x → Measures (inner (entered k t a) b done) r) ⌝ }
 {
     let shifted = product(t, x.shifts, CYCLES_CAP);
-    Measure {
-        depth: sum(x.depth, 1, DEPTH_CAP),
-        size: sum(x.size, 1, SIZE_CAP),
-        cycles: sum(x.cycles, shifted, CYCLES_CAP),
-        shifts: 0,
-    }
+    around(x, sum(x.cycles, shifted, CYCLES_CAP), 0)
 }
 
 // Statements, and others behind them.

@@ -11,19 +11,14 @@ product-requires c κs = search needs
 sum-requires : tie.Need-sum-requires
 sum-requires c κs = search needs
 
-sum-requires-2 : tie.Need-sum-requires-2
-sum-requires-2 c κs = search needs
-
-sum-requires-3 : tie.Need-sum-requires-3
-sum-requires-3 c κs = search needs
+around-requires : tie.Need-around-requires
+around-requires c κs = search needs
 
 returns : tie.Need-returns
 returns c =
     λ k a b m.
-    use-measures m (c .before .before .sum .ensures) (c .before .sum2 .ensures) k (c .before .before .before .before .args .t) a
-    (rw (c .before .before .before .product .ensures) at (c .sum3 .ensures))
+    use-measures m (c .around .ensures) k (c .before .before .before .args .t) a (rw (c .before .before .product .ensures) at (c .before .sum .ensures))
     refl
 
 pub used-spec : {M : Type 1} → statement M
-used-spec =
-    tie.close (tie.spec product-requires sum-requires sum-requires-2 sum-requires-3 returns)
+used-spec = tie.close (tie.spec product-requires sum-requires around-requires returns)
