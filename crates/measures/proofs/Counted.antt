@@ -99,7 +99,8 @@ module _ {a : Assigns} {b : Body} {given row row′ : List ℕ} {end : ℕ} (las
               x .ahead s (omega arith) ∙ u .outside-is s h
               ∙ ap (λ (l : List ℕ). min usesCap (count s l)) (sym (outside-joined b (inner shifted (vec p a done) done) ∙ append-nil (outside b)));
           shifting-is = λ s h.
-              x .changed s (signalsMost + s) refl (omega arith) ∙ shown-is (getD given s 0) (getD row (signalsMost + s) 0) (count s (shifting b)) (u .shifting-is s h ∙ flag-has s (shifting b))
+              x .changed s (signalsMost + s) refl (omega arith)
+              ∙ shown-is (getD given s 0) (getD row (signalsMost + s) 0) (count s (shifting b)) (u .shifting-is s h ∙ flag-has s (shifting b))
               ∙ sym (flag-has s _ ∙ ap (min 1) (more g s (shifting b) _ h all));
           below = below-joined b (inner shifted (vec p a done) done) (u .below) (λ s h. marked-below g s (simp append-nil at h));
         }

@@ -18,7 +18,8 @@ count-append s [] m = omega arith
 count-append s (y ∷ l) m = by (eqb y s) (count-append s l m)
   where
     by : (b : Bool) → count s (l ++ m) ≡ count s l + count s m
-        → _≡_ {A = ℕ} (elim b [ true ↦ suc (count s (l ++ m)) | false ↦ count s (l ++ m) ]) (elim b [ true ↦ suc (count s l) | false ↦ count s l ] + count s m)
+        → _≡_ {A = ℕ} (elim b [ true ↦ suc (count s (l ++ m)) | false ↦ count s (l ++ m) ])
+        (elim b [ true ↦ suc (count s l) | false ↦ count s l ] + count s m)
     by true ih = omega arith
     by false ih = ih
 

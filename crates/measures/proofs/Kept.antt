@@ -3,13 +3,14 @@ use Prim.Native.Nat.{ℕ, _+_, _-_, _*_, _<_, min}
 use native.Mathlib.Omega.{arith}
 use mathlib.Core.Path.{_≡_, refl, sym, ap, _∙_}
 use mathlib.Core.List.{List, [], _∷_}
-use lib.ListN.{length, getD, drop, set, length-take, length-drop}
-use lib.Seq.{getD-take, getD-drop, ext-getD}
+use lib.ListN.{length, getD, set}
+use lib.Seq.{ext-getD}
 use Rattle.words.specs.declared.Cursor.{Cursor}
 use Rattle.measures.specs.Uses.{rowLength, rowAt}
 use Rattle.measures.specs.Book.{entries, numbers, numbersAt, bookLength, bodies, rowsLength, measureAt, Kept, KeptRow}
 use Rattle.measures.specs.declared.Measure.{Measure}
 use Rattle.measures.proofs.Changed.{Changed, changed-none, changed-next, not-changed}
+use Rattle.measures.proofs.Uses.{row-length, row-place}
 
 -- the places of a name, and those of its numbers
 abbrev pub name-list : Cursor → List ℕ
@@ -42,16 +43,23 @@ module _ {before middle behind : List ℕ} {i : ℕ} (c : Cursor) (start : ℕ) 
   other : (j m : ℕ) → (j ≡ i → ⊥) → m < numbers → getD behind (numbersAt j + m) 0 ≡ getD before (numbersAt j + m) 0
   other j m o h = other-number j m (numbersAt j + m) o h refl
 
+  other-measure : (j : ℕ) → (j ≡ i → ⊥) → measureAt behind j ≡ measureAt before j
+  other-measure j o =
+      same-measure _ _ _ _ (measureAt before j) (other j 1 o (omega arith)) (other j 2 o (omega arith)) (other j 3 o (omega arith))
+      (other j 4 o (omega arith))
+
   pub all-kept : Kept before i c start x behind
   all-kept =
       record {
         long = xs .long ∙ ns .long;
         name-at = (name-place 0 (i * 2) (omega arith) (omega arith), name-place 1 (i * 2 + 1) (omega arith) refl);
         start-is = xs .changed 0 (numbersAt i) (omega arith) (omega arith);
-        measure-is = same-measure _ _ _ _ x (number-place 1 (omega arith)) (number-place 2 (omega arith)) (number-place 3 (omega arith)) (number-place 4 (omega arith));
+        measure-is =
+            same-measure _ _ _ _ x (number-place 1 (omega arith)) (number-place 2 (omega arith)) (number-place 3 (omega arith))
+            (number-place 4 (omega arith));
         other-names = λ j l o.
             (other-name j 0 (j * 2) l o (omega arith) (omega arith), other-name j 1 (j * 2 + 1) l o (omega arith) refl);
-        others = λ j l o. (other-number j 0 (numbersAt j) o (omega arith) (omega arith), same-measure _ _ _ _ (measureAt before j) (other j 1 o (omega arith)) (other j 2 o (omega arith)) (other j 3 o (omega arith)) (other j 4 o (omega arith)));
+        others = λ j l o. (other-number j 0 (numbersAt j) o (omega arith) (omega arith), other-measure j o);
       }
 
 -- one store behind the other
@@ -85,14 +93,8 @@ module _ (book : List ℕ) (i : ℕ) (c : Cursor) (start : ℕ) (x : Measure) (b
 
 -- ---- a row
 
-module _ (rows rows′ row : List ℕ) (i : ℕ) {end : ℕ} (last : end ≡ rowLength) (sized : length rows ≡ rowsLength) (long : length row ≡ rowLength) (below : i < bodies)
-    (x : Changed (λ k n. getD row k 0) (i * rowLength) end rows rows′) where
-  row-length : (l : List ℕ) (j : ℕ) → length (rowAt l j) ≡ min rowLength (length l - j * rowLength)
-  row-length l j = length-take rowLength (drop (j * rowLength) l) ∙ ap (min rowLength) (length-drop (j * rowLength) l)
-
-  row-place : (l : List ℕ) (j k : ℕ) → k < rowLength → getD (rowAt l j) k 0 ≡ getD l (j * rowLength + k) 0
-  row-place l j k h = getD-take rowLength (drop (j * rowLength) l) k 0 h ∙ getD-drop (j * rowLength) l k 0
-
+module _ (rows rows′ row : List ℕ) (i : ℕ) {end : ℕ} (last : end ≡ rowLength) (sized : length rows ≡ rowsLength)
+    (long : length row ≡ rowLength) (below : i < bodies) (x : Changed (λ k n. getD row k 0) (i * rowLength) end rows rows′) where
   pub row-kept : KeptRow rows i row rows′
   row-kept =
       record {
@@ -103,7 +105,8 @@ module _ (rows rows′ row : List ℕ) (i : ℕ) {end : ℕ} (last : end ≡ row
             let inside : k < rowLength = omega arith in
             row-place rows′ i k inside ∙ x .changed k (i * rowLength + k) refl (omega arith));
         others = λ j o.
-            ext-getD 0 (rowAt rows′ j) (rowAt rows j) (row-length rows′ j ∙ ap (λ (n : ℕ). min rowLength (n - j * rowLength)) (x .long) ∙ sym (row-length rows j))
+            ext-getD 0 (rowAt rows′ j) (rowAt rows j)
+            (row-length rows′ j ∙ ap (λ (n : ℕ). min rowLength (n - j * rowLength)) (x .long) ∙ sym (row-length rows j))
             (λ k h. let l = row-length rows′ j in
             let inside : k < rowLength = omega arith in
             row-place rows′ j k inside ∙ not-changed x (j * rowLength + k) (λ m q z. o (omega arith)) ∙ sym (row-place rows j k inside));

@@ -1,11 +1,12 @@
 -- A body's uses of `#`, one statement more at a time.
-use Prim.Native.Nat.{ℕ, _+_, _<_, min}
+use Prim.Native.Nat.{ℕ, _+_, _-_, _*_, _<_, min}
 use native.Mathlib.Omega.{arith}
 use mathlib.Core.Path.{_≡_, refl, sym, ap, _∙_}
 use mathlib.Core.Bool.{Bool, true, false, _||_}
 use mathlib.Core.List.{List, [], _++_, append-nil, append-assoc}
 use lib.Dec.{eqb}
-use lib.ListN.{getD, replicate, length-replicate, getD-replicate}
+use lib.ListN.{length, getD, drop, replicate, length-take, length-drop, length-replicate, getD-replicate}
+use lib.Seq.{getD-take, getD-drop}
 use borrow.Author.Tests.{eqb-true}
 use Rattle.meaning.specs.Bounds.{signalsMost}
 use Rattle.meaning.specs.Lists.{has, count}
@@ -19,7 +20,7 @@ use Rattle.signals.specs.Names.{AllTidy}
 use Rattle.assigns.specs.Given.{Gives}
 use Rattle.assigns.proofs.Callers.{assigned-once}
 use Rattle.measures.specs.Measures.{joined}
-use Rattle.measures.specs.Uses.{usesCap, rowLength, flag, Uses, Given}
+use Rattle.measures.specs.Uses.{usesCap, rowLength, flag, rowAt, Uses, Given}
 use Rattle.measures.proofs.Counting.{differ}
 use Rattle.measures.proofs.Marked.{none-marked}
 
@@ -41,6 +42,14 @@ shifting-joined (inner w c r) b =
     ap (λ (l : List ℕ). inShift w (outside c) ++ l) (shifting-joined r b) ∙ sym (append-assoc (inShift w (outside c)) (shifting r) (shifting b))
 
 -- ---- a row
+
+-- where it lies among the rows
+module _ (rows : List ℕ) (i : ℕ) where
+  pub row-length : length (rowAt rows i) ≡ min rowLength (length rows - i * rowLength)
+  row-length = length-take rowLength (drop (i * rowLength) rows) ∙ ap (min rowLength) (length-drop (i * rowLength) rows)
+
+  pub row-place : (k : ℕ) → k < rowLength → getD (rowAt rows i) k 0 ≡ getD rows (i * rowLength + k) 0
+  row-place k h = getD-take rowLength (drop (i * rowLength) rows) k 0 h ∙ getD-drop (i * rowLength) rows k 0
 
 -- only these two count
 uses-alike : {b c : Body} {row : List ℕ} → outside c ≡ outside b → shifting c ≡ shifting b → Uses b row → Uses c row
