@@ -145,11 +145,9 @@ fn around(x: Measure, cycles: usize, shifts: usize) -> Measure
 pub fn looped(n: usize, x: Measure) -> Measure
     ensures { λ r. ⌜ ((b : Body) → Measures b x → Measures (inner (loopedWay n) b done) r) ⌝ }
 {
-    around(
-        x,
-        product(n, x.cycles, CYCLES_CAP),
-        product(n, x.shifts, CYCLES_CAP),
-    )
+    let cycles = product(n, x.cycles, CYCLES_CAP);
+    let shifts = product(n, x.shifts, CYCLES_CAP);
+    around(x, cycles, shifts)
 }
 
 // A body entered once, its Shift played t times.

@@ -6,6 +6,7 @@ use lib.ListN.{length, getD}
 use borrow.Author.Tests.{eq-eqb, ne-eqb, lt-ltb, le-ltb}
 use borrow.Author.Needs.{needs}
 use Rattle.meaning.specs.Bounds.{signalsMost}
+use Rattle.measures.specs.Uses.{usesCap}
 use Rattle.measures.proofs.Changed.{Changed, changed-none, changed-next, changed-same}
 use Rattle.measures.proofs.Counted.{counted, uses-counted}
 use Rattle.measures.proofs.count_uses.Statement.{statement}
@@ -52,12 +53,13 @@ loop-again c =
     let turn = c .before .before .before in
     let loop = turn .loop in
     let x = loop .inv .1 in
+    let n = getD (loop .row) (loop .s) 0 in
     let inside : loop .s < length (loop .row) = omega (arith, x .long, turn .before .pre .1) in (
       omega arith,
       ⊎-elim
-          (λ w. rw (w .4) (changed-next x (loop .s) (omega arith) _ inside (rw (eq-eqb _ _ (w .0 .taken), lt-ltb _ _ (w .2 .taken)))))
+          (λ w. rw (w .4) (changed-next x (loop .s) (omega arith) _ inside (rw (eq-eqb _ _ (w .0 .taken), lt-ltb n usesCap (omega (arith, w .2 .taken))))))
           (⊎-elim
-          (λ w. rw (w .3) (changed-same x (loop .s) (omega arith) inside (rw (eq-eqb _ _ (w .0 .taken), le-ltb _ _ (w .2 .left)))))
+          (λ w. rw (w .3) (changed-same x (loop .s) (omega arith) inside (rw (eq-eqb _ _ (w .0 .taken), le-ltb n usesCap (omega (arith, w .2 .left))))))
           (λ w. rw (w .1) (changed-same x (loop .s) (omega arith) inside (rw (ne-eqb _ _ (w .0 .left))))))
           (c .if1 .came),
     )

@@ -1,5 +1,5 @@
 -- Each turn copies the next number of the row.
-use Prim.Native.Nat.{_+_, _-_, _*_, _≤_}
+use Prim.Native.Nat.{_-_, _*_, _≤_}
 use native.Mathlib.Omega.{arith}
 use mathlib.Core.Path.{refl}
 use lib.ListN.{getD}
@@ -48,7 +48,7 @@ loop-again c =
     let start = c .before .before .before in
     let loop = c .before .before .loop in
     let x = loop .inv .1 in
-    (omega arith, changed-next x (start .args .i * rowLength + loop .j) refl _ (omega (arith, x .long, start .pre .2)) refl)
+    (omega arith, changed-next x _ (omega arith) _ (omega (arith, x .long, start .pre .2)) refl)
 
 same-length : tie.Need-same-length Inv-loop μ-loop
 same-length c = c .before .loop .inv .1 .long

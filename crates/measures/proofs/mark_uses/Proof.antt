@@ -44,12 +44,11 @@ loop-again c =
     let turn = c .before .before .before in
     let loop = turn .loop in
     let x = loop .inv .1 in
-    let at = signalsMost + loop .s in
-    let inside : at < length (loop .row) = omega (arith, x .long, turn .before .pre .1) in (
+    let inside : signalsMost + loop .s < length (loop .row) = omega (arith, x .long, turn .before .pre .1) in (
       omega arith,
       ⊎-elim
-          (λ w. rw (w .1) (changed-next x at refl _ inside (rw (eq-eqb _ _ (w .0 .taken)))))
-          (λ w. rw (w .1) (changed-same x at refl inside (rw (ne-eqb _ _ (w .0 .left)))))
+          (λ w. rw (w .1) (changed-next x _ (omega arith) _ (omega arith) (rw (eq-eqb _ _ (w .0 .taken)))))
+          (λ w. rw (w .1) (changed-same x (signalsMost + loop .s) refl inside (rw (ne-eqb _ _ (w .0 .left)))))
           (c .if1 .came),
     )
 

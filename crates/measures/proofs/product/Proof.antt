@@ -17,18 +17,18 @@ div-if2 c = search needs
 returns-2 : tie.Need-returns-2
 returns-2 c =
     let args = c .before .before .args in
-    omega (arith, above (args .a) (args .b) (args .cap) (omega arith) (c .if2 .taken))
+    omega (arith, above (args .a) (args .b) (args .cap) (omega arith) (omega arith))
 
 mul-result : tie.Need-mul-result
 mul-result c =
     let args = c .before .before .args in
-    let fits = within (args .a) (args .b) (args .cap) (omega arith) (c .if2 .left) in
+    let fits = within (args .a) (args .b) (args .cap) (omega arith) (omega arith) in
     search needs
 
 returns-3 : tie.Need-returns-3
 returns-3 c =
     let args = c .before .before .args in
-    omega (arith, within (args .a) (args .b) (args .cap) (omega arith) (c .if2 .left))
+    omega (arith, within (args .a) (args .b) (args .cap) (omega arith) (omega arith))
 
 pub product-spec : {M : Type 1} → statement M
 product-spec = tie.close (tie.spec returns div-if2 returns-2 mul-result returns-3)
