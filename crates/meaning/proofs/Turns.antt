@@ -33,16 +33,16 @@ length-sets [] v = refl
 length-sets (x ∷ a) v = length-sets a _ ∙ length-set v (x .0) (x .1)
 
 -- a setting, or what was there
-over : {A : Type 0} → Option A → A → A
+unfoldable pub over : {A : Type 0} → Option A → A → A
 over none x = x
 over (some c) x = c
 
 -- the later of two settings
-later : {A : Type 0} → Option A → Option A → Option A
+unfoldable pub later : {A : Type 0} → Option A → Option A → Option A
 later x none = x
 later x (some c) = some c
 
-over-later : {A : Type 0} (x y : Option A) (a : A) → over (later x y) a ≡ over y (over x a)
+pub over-later : {A : Type 0} (x y : Option A) (a : A) → over (later x y) a ≡ over y (over x a)
 unfolding over later
 over-later x none a = refl
 over-later x (some c) a = refl
@@ -185,7 +185,7 @@ Good (set′ x r) = Good r
 Good (inner w b r) = IfLoop w (Plain b) × Good b × Good r
 
 -- it leaves the arguments
-abbrev Keeps : (State → State) → Type 0
+abbrev pub Keeps : (State → State) → Type 0
 Keeps f = (s : State) → f s .args ≡ s .args
 
 keeps-puts : (xs : Assigns) → marked xs ≡ [] → Keeps (puts xs)
@@ -216,7 +216,7 @@ keeps-playing t (entered macro u a) f P h k = λ s. refl
 keeps-playing t (entered procedure u a) f P h k = λ s. refl
 keeps-playing t (entered listed u a) f P h k = λ s. refl
 
-keeps : (t : ℕ) (b : Body) → Plain b → Keeps (λ s. play t b s .0)
+pub keeps : (t : ℕ) (b : Body) → Plain b → Keeps (λ s. play t b s .0)
 unfolding Plain play follow
 keeps t done h s = refl
 keeps t (vec p a r) h s = keeps t r (h .1) _ ∙ keeps-puts a (h .0) s
@@ -284,7 +284,7 @@ playTwo t b = play t (shortened b)
 -- ---- the first failing cycle
 
 -- the first of two places
-orElse : Option ℕ → Option ℕ → Option ℕ
+unfoldable pub orElse : Option ℕ → Option ℕ → Option ℕ
 orElse none b = b
 orElse (some a) b = some a
 
@@ -299,7 +299,7 @@ or-none none = refl
 or-none (some a) = refl
 
 module _ (tabs : Tables) where
-  fails-++ : (a b : List Cycle) → firstFailing tabs (a ++ b) ≡ orElse (firstFailing tabs a) (firstFailing tabs b)
+  pub fails-++ : (a b : List Cycle) → firstFailing tabs (a ++ b) ≡ orElse (firstFailing tabs a) (firstFailing tabs b)
   unfolding firstFailing orElse
   fails-++ [] b = refl
   fails-++ (c ∷ a) b = by (playable tabs c) (fails-++ a b)
@@ -310,7 +310,7 @@ module _ (tabs : Tables) where
       by true h = h
       by false h = refl
 
-  fails-copies : (n : ℕ) (l : List Cycle) → firstFailing tabs (copies (suc n) l) ≡ firstFailing tabs l
+  pub fails-copies : (n : ℕ) (l : List Cycle) → firstFailing tabs (copies (suc n) l) ≡ firstFailing tabs l
   unfolding copies firstFailing
   fails-copies zero l = fails-++ l [] ∙ or-none _
   fails-copies (suc n) l = fails-++ l (copies (suc n) l) ∙ ap (orElse (firstFailing tabs l)) (fails-copies n l) ∙ or-same _

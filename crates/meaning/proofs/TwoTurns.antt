@@ -18,9 +18,12 @@ unfolding Good
 good-run no-more = tt
 good-run (one-more p h) = (tt, p, good-run h)
 
+pub run-good : (text : List ℕ) (d : Read) (ts : Toks) (r : Body) → document (toks text 0) ≡ ok d ts → runOf (d .patterns) (d .listed) ≡ given r → Good r
+run-good text d ts r e f =
+    let every = everywhere Good (λ e k own. read-good e k depthMost own) .all (toks text 0) d ts e in
+    good-run (runs Good (d .patterns) every (d .listed) r f)
+
 pub two-turns : (text : List ℕ) (d : Read) (ts : Toks) (r : Body) → document (toks text 0) ≡ ok d ts → runOf (d .patterns) (d .listed) ≡ given r
     → (n : ℕ) → firstFailing (d .tables) (cyclesOf n r) ≡ firstFailing (d .tables) (playTwo 0 r (start n) .1)
 unfolding cyclesOf
-two-turns text d ts r e f n =
-    let every = everywhere Good (λ e k own. read-good e k depthMost own) .all (toks text 0) d ts e in
-    first-failing-two (d .tables) 0 r (good-run (runs Good (d .patterns) every (d .listed) r f)) (start n)
+two-turns text d ts r e f n = first-failing-two (d .tables) 0 r (run-good text d ts r e f) (start n)
