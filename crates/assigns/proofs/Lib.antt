@@ -1,6 +1,6 @@
-mod Rows
+pub mod Rows
 pub mod Table
 pub mod Read
-mod Assigning
+pub mod Assigning
 mod Turns
 pub mod Callers

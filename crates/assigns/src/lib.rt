@@ -15,7 +15,7 @@ use words::Cursor;
 const BAD_DATA: u8 = 12;
 
 // How many signals the name of number i has.
-fn size(lists: &[u16], i: usize) -> usize
+pub fn size(lists: &[u16], i: usize) -> usize
     requires { ⌜ (length (now lists) ≡ namesMost * rowLength) × (i < namesMost) ⌝ }
     ensures { λ r. ⌜ r ≡ length (listAt (now (lists .entry)) i) ⌝ }
 {
@@ -24,7 +24,7 @@ fn size(lists: &[u16], i: usize) -> usize
 }
 
 // Is one of its signals given a character already?
-fn met(lists: &[u16], i: usize, given: &[u8]) -> bool
+pub fn met(lists: &[u16], i: usize, given: &[u8]) -> bool
     requires { ⌜ Row (now lists) i (now given) ⌝ }
     ensures { λ r. ⌜ ((xs : Assigns) → Gave xs (now (given .entry)) → r ≡ meets (listAt (now (lists .entry)) i) (assigned xs)) ⌝ }
 {
