@@ -1,0 +1,4 @@
+pub mod Pieces
+mod Spans
+mod Ahead
+mod Passing
