@@ -1,7 +1,7 @@
 -- All that is declared before the bodies: `STIL 1.0;`, the names and the tables (document 01, "The text we read").
 use Prim.Native.Nat.{ℕ, _*_}
 use mathlib.Core.Path.{_≡_}
-use mathlib.Core.Bool.{true}
+use mathlib.Core.Bool.{Bool, true}
 use mathlib.Core.Option.{Option, none, some}
 use mathlib.Core.List.{List, [], _∷_}
 use lib.ListN.{length, getD}
@@ -10,11 +10,14 @@ use Rattle.meaning.specs.Bounds.{tablesMost}
 use Rattle.meaning.specs.Reader.{Res, ok, refuse, Reader, _>>=_, _>>_, give, due}
 use Rattle.meaning.specs.Signals.{Names}
 use Rattle.meaning.specs.Timing.{Tables, timing}
+use Rattle.meaning.specs.Meaning.{tableAt}
 use Rattle.words.specs.Cursor.{alive, Goes}
 use Rattle.words.specs.declared.Cursor.{Cursor}
 use Rattle.signals.specs.Names.{namesOf, Sized, front}
 use Rattle.timing.specs.Marks.{tableSize}
 use Rattle.timing.specs.Held.{Held}
+use Rattle.timing.specs.Watch.{Watched}
+use Rattle.timing.specs.declared.Watch.{Watch}
 
 unfoldable pub version : Reader ℕ
 version = do
@@ -38,8 +41,9 @@ pub record Blank (places lists tplaces waves : List ℕ) : Type 0 where
   pub unset : (i : ℕ) → getD waves i 0 ≡ 0
 
 -- THE PROMISE of the reader of all declarations: from c the definition goes to r, and the arrays hold what it answers
-pub record Declares (text : List ℕ) (c r : Cursor) (places lists tplaces waves : List ℕ) (signals names tables : ℕ) : Type 0 where
+pub record Declares (text : List ℕ) (c r : Cursor) (places lists tplaces waves : List ℕ) (signals names tables : ℕ) (w : Watch) (found : Bool) (place : ℕ) : Type 0 where
   pub it : Tables
   pub goes : Goes text c declarations r (namesOf text places lists signals, namesOf text places lists names, it)
   pub held : alive r ≡ true → Held text tplaces waves tables it
+  pub watched : alive r ≡ true → Watched text w found place (tableAt it (w .table))
   pub sized : Sized places lists

@@ -6,12 +6,14 @@ ghost use Rattle.declared.specs.Declarations.{version as versionDue, dec
 ghost use Rattle.declared.specs.Numbers.{refusal, numbersOf, toldOf, written};
 use words::Cursor;
 
-// How many signals, names and tables there are, and the cursor behind them.
+// How many signals, names and tables there are, where the watched waveform is found, and the cursor behind them.
 pub struct Read {
     pub cursor: Cursor,
     pub signals: usize,
     pub names: usize,
     pub tables: usize,
+    pub found: bool,
+    pub place: usize,
 }
 
 // The cursor behind `STIL 1.0;`, and where its `;` stands.
@@ -37,21 +39,24 @@ pub fn declarations(
     lists: &mut [u16],
     tplaces: &mut [usize],
     waves: &mut [u8],
+    watch: timing::Watch,
 ) -> Read
     requires { ⌜ Blank (now places) (now lists) (now tplaces) (now waves) ⌝ }
-    ensures { λ r. ⌜ Declares (now (text .entry)) c (r .cursor) (now (places .exit)) (now (lists .exit)) (now (tplaces .exit)) (now (waves .exit)) (r .signals) (r .names) (r .tables) ⌝ }
+    ensures { λ r. ⌜ Declares (now (text .entry)) c (r .cursor) (now (places .exit)) (now (lists .exit)) (now (tplaces .exit)) (now (waves .exit)) (r .signals) (r .names) (r .tables) watch (r .found) (r .place) ⌝ }
 {
     let v = version(text, c);
     let behind = v.cursor;
     let f = signals::front(text, behind, places, lists);
     let named = f.cursor;
-    let t = timing::timing(text, named, places, lists, f.names, tplaces, waves);
+    let t = timing::timing(text, named, places, lists, f.names, tplaces, waves, watch);
     let cursor = t.cursor;
     Read {
         cursor,
         signals: f.signals,
         names: f.names,
         tables: t.count,
+        found: t.found,
+        place: t.place,
     }
 }
 
@@ -85,7 +90,20 @@ fn read_all(text: &[u8]) -> Told
     let mut tplaces = [0usize; timing::PLACES];
     let mut waves = [0u8; timing::WAVES];
     let c = words::cursor_at(text, 0);
-    let d = declarations(text, c, &mut places, &mut lists, &mut tplaces, &mut waves);
+    let nothing = timing::Watch {
+        table: timing::TABLES,
+        signal: 0,
+        char: 0,
+    };
+    let d = declarations(
+        text,
+        c,
+        &mut places,
+        &mut lists,
+        &mut tplaces,
+        &mut waves,
+        nothing,
+    );
     let behind = d.cursor;
     if behind.no != 0 {
         return refused(behind.no as usize, behind.at);

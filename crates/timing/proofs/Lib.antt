@@ -3,5 +3,7 @@ mod EventLetters
 mod EventTimes
 mod EventReading
 mod Marking
+mod Places
+pub mod Watching
 mod EntryReading
 pub mod TableReading

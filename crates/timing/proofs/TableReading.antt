@@ -1,13 +1,13 @@
 -- Tables as they are read: a name, the head, the waveforms; and the code's marks of all tables, of which each has its own part.
 use Prim.Native.Nat.{ℕ, zero, suc, _+_, _*_, _-_, _≤_, _<_}
 use native.Mathlib.Omega.{arith}
-use mathlib.Core.Path.{_≡_, refl, sym, ap, _∙_}
-use mathlib.Core.Bool.{Bool, true, false, _&&_}
+use mathlib.Core.Path.{_≡_, refl, sym, ap, _∙_, subst}
+use mathlib.Core.Bool.{Bool, true, false, cond, _&&_}
 use mathlib.Core.List.{List, [], _∷_, _++_}
 use lib.ListN.{length, getD, take, drop, set, length-set, length-take, List·getD-append}
 use lib.Seq.{getD-take, getD-drop, getD-append-add, getD-set-same, getD-set-other}
 use lib.Dec.{eqb, ltb, leb}
-use borrow.Author.Tests.{eqb-true, eqb-false, ltb-true, ltb-false, leb-false, lt-ltb}
+use borrow.Author.Tests.{eqb-true, eqb-false, ltb-true, ltb-false, leb-false, lt-ltb, le-ltb}
 use Rattle.tokens.specs.Tokens.{Tok}
 use Rattle.meaning.specs.Bounds.{signalsMost, tablesMost}
 use Rattle.meaning.specs.Refusals.{tooMany}
@@ -27,9 +27,13 @@ use Rattle.timing.specs.Makes.{Makes, Brings}
 use Rattle.timing.specs.Marks.{charsMost, tableSize, Marks}
 use Rattle.timing.specs.Parts.{block, headThen}
 use Rattle.timing.specs.Held.{Held}
+use Rattle.timing.specs.Watch.{Watched, Kept}
+use Rattle.timing.specs.declared.Watch.{Watch}
+use Rattle.timing.specs.declared.Sight.{Sight}
 use Rattle.timing.proofs.Making.{made, onward}
 use Rattle.timing.proofs.EventReading.{takes-quoted}
 use Rattle.timing.proofs.EntryReading.{takes-waveforms}
+use Rattle.timing.proofs.Watching.{watched-none}
 
 -- ---- names
 
@@ -121,14 +125,23 @@ part-free {text} {tplaces} {waves} {k} {tabs} a h = record { each = λ s b q. by
 pub held-none : (text tplaces waves : List ℕ) → ((i : ℕ) → getD waves i 0 ≡ 0) → Held text tplaces waves 0 []
 unfolding firsts namesFrom tableAt hasWave
 held-none text tplaces waves z =
-    record { few = omega arith; named = refl; marks = λ k s b h q o. ap (λ (x : ℕ). eqb x 1) (z ((k * signalsMost + s) * charsMost + b)) }
+    record {
+      few = omega arith;
+      named = refl;
+      marks = λ k s b h q o. ap (λ (x : ℕ). eqb x 1) (z ((k * signalsMost + s) * charsMost + b));
+      above = λ k s b q o. refl;
+    }
+
+pub kept-none : (text tplaces waves : List ℕ) (w : Watch) → ((i : ℕ) → getD waves i 0 ≡ 0) → Kept text tplaces waves 0 w false 0 []
+unfolding tableAt
+kept-none text tplaces waves w z = record { held = held-none text tplaces waves z; watched = watched-none text w true 0 refl }
 
 module _ {text tplaces waves : List ℕ} {k : ℕ} {tabs : Tables} (a : Held text tplaces waves k tabs) (h : k < tablesMost) where
   pub held-more : {after : List ℕ} {ws : List Wave} (b : Cursor) (n : ℕ) → length tplaces ≡ tablesMost * 2 → length waves ≡ tablesMost * tableSize
       → length after ≡ tableSize → Marks after ws
       → Held text (set (set tplaces (k * 2) (b .at)) (k * 2 + 1) (b .end)) (put (k * tableSize) (k * tableSize + tableSize - k * tableSize) waves after) (k + 1)
       (tabs ++ (ahead text b, record { period = n; waves = ws }) ∷ [])
-  held-more {after} {ws} b n lt lw la m = record { few = omega arith; named = named; marks = marks }
+  held-more {after} {ws} b n lt lw la m = record { few = omega arith; named = named; marks = marks; above = above }
     where
       x : Tok × Table
       x = (ahead text b, record { period = n; waves = ws })
@@ -157,6 +170,15 @@ module _ {text tplaces waves : List ℕ} {k : ℕ} {tabs : Tables} (a : Held tex
       other j s c p q o d e =
           ap (λ (y : ℕ). eqb y 1) e ∙ a .marks j s c p q o ∙ ap (hasWave s c) (sym (table-other tabs x j (λ z. d (sym (held-count a) ∙ z))))
 
+      above : (j s c : ℕ) → s < signalsMost → charsMost ≤ c → hasWave s c (tableAt (tabs ++ x ∷ []) j) ≡ false
+      above j s c q o = here (eqb k j) refl
+        where
+          here : (y : Bool) → eqb k j ≡ y → hasWave s c (tableAt (tabs ++ x ∷ []) j) ≡ false
+          here true e =
+              ap (hasWave s c) (table-last tabs x j (held-count a ∙ eqb-true k j e)) ∙ sym (m .each s c q)
+              ∙ ap (λ (y : Bool). y && eqb (getD after (s * charsMost + c) 0) 1) (le-ltb c charsMost o)
+          here false e = ap (hasWave s c) (table-other tabs x j (λ z. eqb-false k j e (sym (held-count a) ∙ z))) ∙ a .above j s c q o
+
       by : (j s c : ℕ) → j < tablesMost → s < signalsMost → c < charsMost → (y : Bool) → eqb k j ≡ y → (z : Bool) → ltb j k ≡ z
           → eqb (getD all (at j s c) 0) 1 ≡ hasWave s c (tableAt (tabs ++ x ∷ []) j)
       by j s c p q o true e z f =
@@ -181,6 +203,21 @@ module _ {text tplaces waves : List ℕ} {k : ℕ} {tabs : Tables} (a : Held tex
 
       marks : (j s c : ℕ) → j < tablesMost → s < signalsMost → c < charsMost → eqb (getD all (at j s c) 0) 1 ≡ hasWave s c (tableAt (tabs ++ x ∷ []) j)
       marks j s c p q o = by j s c p q o (eqb k j) refl (ltb j k) refl
+
+-- what was seen stays, unless this is the watched table
+module _ {text tplaces waves : List ℕ} {k : ℕ} {tabs : Tables} (a : Held text tplaces waves k tabs) where
+  pub watched-table : {w : Watch} {s t s′ : Sight} (x : Tok × Table) → s′ ≡ cond (eqb k (w .table)) t s
+      → (eqb k (w .table) ≡ true → Watched text w (t .found) (t .place) (x .1 .waves)) → Watched text w (s .found) (s .place) (tableAt tabs (w .table))
+      → Watched text w (s′ .found) (s′ .place) (tableAt (tabs ++ x ∷ []) (w .table))
+  watched-table {w} {s} {t} {s′} x q f h =
+      subst (λ (v : Sight). Watched text w (v .found) (v .place) (tableAt (tabs ++ x ∷ []) (w .table))) (sym q) (by (eqb k (w .table)) refl)
+    where
+      by : (b : Bool) → eqb k (w .table) ≡ b → Watched text w (cond b t s .found) (cond b t s .place) (tableAt (tabs ++ x ∷ []) (w .table))
+      by true e =
+          subst (λ (ws : List Wave). Watched text w (t .found) (t .place) ws) (sym (table-last tabs x (w .table) (held-count a ∙ eqb-true k (w .table) e))) (f e)
+      by false e =
+          subst (λ (ws : List Wave). Watched text w (s .found) (s .place) ws)
+          (sym (table-other tabs x (w .table) (λ z. eqb-false k (w .table) e (sym (held-count a) ∙ z)))) h
 
 -- ---- a table is read
 

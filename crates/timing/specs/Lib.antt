@@ -3,3 +3,4 @@ pub mod Events
 pub mod Marks
 pub mod Parts
 pub mod Held
+pub mod Watch

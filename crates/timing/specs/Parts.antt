@@ -13,7 +13,7 @@ use Rattle.meaning.specs.Reader.{Reader, _>>=_, _>>_, refuseIf, due, word, unti
 use Rattle.meaning.specs.Timing.{Wave, Tables, quoted, allChars, taken, entry, waveforms}
 use Rattle.meaning.specs.Signals.{Names}
 use Rattle.words.specs.declared.Cursor.{Cursor}
-use Rattle.words.specs.Cursor.{alive, ahead}
+use Rattle.words.specs.Cursor.{alive, ahead, Goes}
 use Rattle.timing.specs.Makes.{Brings}
 use Rattle.timing.specs.Marks.{Marks}
 
@@ -26,9 +26,10 @@ charsThen sigs ws k = do
   refuseIf (not (allChars (t .word))) badData (t .at)
   k t
 
--- they are read, and where reading goes on they are not too many, and letters and digits
+-- they are read, and where reading goes on they are the word ahead, not too many, and letters and digits
 pub record Chars (text : List ℕ) (c : Cursor) (sigs table : List ℕ) (r : Cursor) : Type 0 where
   pub brings : (ws : List Wave) → Marks table ws → (k : Tok → Reader (List Wave)) → Brings text c (charsThen sigs ws k) r (k (ahead text c))
+  pub token : alive r ≡ true → Goes text c word r (ahead text c)
   pub few : alive r ≡ true → length (ahead text c .word) ≤ entryMost
   pub good : alive r ≡ true → allChars (ahead text c .word) ≡ true
 

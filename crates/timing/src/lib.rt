@@ -1,12 +1,13 @@
-// Timing: tables of waveforms. Of each the code keeps its name, and a mark for each signal and character that has a waveform.
+// Timing: tables of waveforms. Of each the code keeps its name, and a mark for each signal and character that has a waveform; and of
+// one waveform that is wanted, where its entry stands.
 ghost use mathlib.Core.Path.{_≡_};
 ghost use Prim.Native.Nat.{ℕ, _+_, _*_, _≤_, _<_, min};
-ghost use mathlib.Core.Bool.{true, false, not, _&&_};
+ghost use mathlib.Core.Bool.{Bool, true, false, cond, not, _&&_};
 ghost use mathlib.Core.List.{List, [], _∷_, _++_};
 ghost use lib.ListN.{length, getD};
 ghost use lib.Dec.{eqb};
 ghost use Rattle.meaning.specs.Bounds.{entryMost, timeMost, signalsMost, tablesMost};
-ghost use Rattle.meaning.specs.Lists.{repeats as repeatsOf};
+ghost use Rattle.meaning.specs.Lists.{has, repeats as repeatsOf};
 ghost use Rattle.meaning.specs.Reader.{Reader};
 ghost use Rattle.meaning.specs.Timing.{drives as drivesOf, compares as comparesOf, eventLetter, letterDue, letters as lettersOf, spread, Events, Wave, Tables as TablesOf, oneEvent, event as eventOf, waveChar, allChars, blanks, entry as entryOf, waveforms as waveformsOf, table as tableOf, timing as timingOf};
 ghost use Rattle.words.specs.Cursor.{Goes, alive};
@@ -17,6 +18,7 @@ ghost use Rattle.timing.specs.Events.{allEvents, Lettered, slot as slotO
 ghost use Rattle.timing.specs.Marks.{tableSize, mark, Marks, Described, markOf, markAmong, Marked, Below, AllBelow};
 ghost use Rattle.timing.specs.Parts.{Chars, entries as entriesOf, block as blockOf, headThen};
 ghost use Rattle.timing.specs.Held.{Held};
+ghost use Rattle.timing.specs.Watch.{Placed, looked, Noted, Kept};
 
 // ---- letters of events
 
@@ -231,6 +233,7 @@ fn event(text: &[u8], c: words::Cursor, n: usize, times: Times) -> TimesRead
 fn events(text: &[u8], c: words::Cursor, n: usize) -> words::Cursor
     requires { ⌜ n ≤ entryMost ⌝ }
     ensures { λ r. ⌜ ((cs : List ℕ) → length cs ≡ n → Makes (now (text .entry)) c (eventsOf cs) r (λ s. length (s .0) ≡ n)) ⌝ }
+    ensures { λ r. ⌜ Placed (now (text .entry)) r ⌝ }
 {
     let first = event(text, c, n, no_events());
     let mut cursor = first.cursor;
@@ -334,10 +337,63 @@ fn mark_all(table: &mut [u8], sigs: &[u16], w: &[u8])
     }
 }
 
+// ---- the watch
+
+// A waveform that is wanted, by the numbers of its table and signal and its character. Any numbers: what there is not is not found.
+pub struct Watch {
+    pub table: usize,
+    pub signal: usize,
+    pub char: u8,
+}
+
+// Is it found, and at which place: where the CHARS of the entry that gives it stand.
+struct Sight {
+    found: bool,
+    place: usize,
+}
+
+// Is the signal s one of these?
+fn lists_signal(sigs: &[u16], s: usize) -> bool
+    ensures { λ r. ⌜ r ≡ has s (now (sigs .entry)) ⌝ }
+{
+    let mut i = 0;
+    while i < sigs.len() {
+        if sigs[i] as usize == s {
+            return true;
+        }
+        i += 1;
+    }
+    false
+}
+
+// The entry at a place has these characters, for these signals. The first that gives the waveform stays.
+fn look(watch: Watch, sight: Sight, sigs: &[u16], w: &[u8], place: usize) -> Sight
+    ensures { λ r. ⌜ r ≡ looked watch sight (now (sigs .entry)) (now (w .entry)) place ⌝ }
+{
+    if sight.found {
+        return sight;
+    }
+    let found = words::holds(w, watch.char) & lists_signal(sigs, watch.signal);
+    Sight { found, place }
+}
+
+// Of two sights, the one that counts.
+fn either(test: bool, yes: Sight, no: Sight) -> Sight
+    ensures { λ r. ⌜ r ≡ cond test yes no ⌝ }
+{
+    if test { yes } else { no }
+}
+
+// Where reading stands, and what was seen up to there.
+struct Seen {
+    cursor: words::Cursor,
+    sight: Sight,
+}
+
 // ---- entries
 
 // Tables that a text may have.
-const TABLES: usize = 8;
+pub const TABLES: usize = 8;
 
 // How long the tables' names and their marks are.
 pub const PLACES: usize = TABLES * 2;
@@ -379,31 +435,37 @@ fn chars(text: &[u8], c: words::Cursor, sigs: &[u16], table: &[u8]) -> words::Cu
 }
 
 // CHARS and their events, for these signals.
-fn entry(text: &[u8], c: words::Cursor, sigs: &[u16], table: &mut [u8]) -> words::Cursor
-    requires { ⌜ (length (now table) ≡ tableSize) × Below (now sigs) ⌝ }
-    ensures { λ r. ⌜ ((ws : List Wave) → Marks (now (table .entry)) ws → Makes (now (text .entry)) c (entryOf (now (sigs .entry)) ws) r (Marks (now (table .exit)))) ⌝ }
+fn entry(text: &[u8], x: Seen, sigs: &[u16], table: &mut [u8], watch: Watch) -> Seen
+    requires { ⌜ (length (now table) ≡ tableSize) × Below (now sigs) × Placed (now text) (x .cursor) ⌝ }
+    ensures { λ r. ⌜ ((here : Bool) (ws : List Wave) → Noted (now (text .entry)) here watch (now (table .entry)) (x .sight) ws → Makes (now (text .entry)) (x .cursor) (entryOf (now (sigs .entry)) ws) (r .cursor) (Noted (now (text .entry)) here watch (now (table .exit)) (r .sight))) ⌝ }
+    ensures { λ r. ⌜ Placed (now (text .entry)) (r .cursor) ⌝ }
 {
+    let c = x.cursor;
+    let sight = x.sight;
     let d = chars(text, c, sigs, &table[..]);
     if d.no != 0 {
-        return d;
+        return Seen { cursor: d, sight };
     }
     let w = words::bytes_of(text, c.at, c.end);
     let e = words::due(text, d, b"{");
-    let r = events(text, e, w.len());
+    let cursor = events(text, e, w.len());
     mark_all(table, sigs, w);
-    r
+    let sight = look(watch, sight, sigs, w, c.at);
+    Seen { cursor, sight }
 }
 
 // The entries of a name, up to its closing brace.
-fn entries(text: &[u8], c: words::Cursor, sigs: &[u16], table: &mut [u8]) -> words::Cursor
-    requires { ⌜ (length (now table) ≡ tableSize) × Below (now sigs) × Described (now table) ⌝ }
-    ensures { λ r. ⌜ ((ws : List Wave) → Marks (now (table .entry)) ws → Makes (now (text .entry)) c (entriesOf (now (sigs .entry)) ws) r (Marks (now (table .exit)))) ⌝ }
+fn entries(text: &[u8], x: Seen, sigs: &[u16], table: &mut [u8], watch: Watch) -> Seen
+    requires { ⌜ (length (now table) ≡ tableSize) × Below (now sigs) × Described (now table) × Placed (now text) (x .cursor) ⌝ }
+    ensures { λ r. ⌜ ((here : Bool) (ws : List Wave) → Noted (now (text .entry)) here watch (now (table .entry)) (x .sight) ws → Makes (now (text .entry)) (x .cursor) (entriesOf (now (sigs .entry)) ws) (r .cursor) (Noted (now (text .entry)) here watch (now (table .exit)) (r .sight))) ⌝ }
 {
-    let mut cursor = c;
-    while words::until(text, cursor, b"}") {
-        cursor = entry(text, cursor, sigs, table);
+    let mut x = x;
+    while words::until(text, x.cursor, b"}") {
+        x = entry(text, x, sigs, table, watch);
     }
-    words::due(text, cursor, b"}")
+    let cursor = words::due(text, x.cursor, b"}");
+    let sight = x.sight;
+    Seen { cursor, sight }
 }
 
 // ---- tables
@@ -411,41 +473,47 @@ fn entries(text: &[u8], c: words::Cursor, sigs: &[u16], table: &mut [u8]) -> wor
 // The waveforms of a signal, or of a group for each of its signals.
 fn waveforms<'a>(
     text: &'a [u8],
-    c: words::Cursor,
+    x: Seen,
     places: &'a [usize],
     lists: &[u16],
     names: usize,
     table: &mut [u8],
-) -> words::Cursor
+    watch: Watch,
+) -> Seen
     requires { ⌜ (length (now table) ≡ tableSize) × Sized (now places) (now lists) × AllBelow (namesOf (now text) (now places) (now lists) names) × Described (now table) ⌝ }
-    ensures { λ r. ⌜ ((ws : List Wave) → Marks (now (table .entry)) ws → Makes (now (text .entry)) c (waveformsOf (namesOf (now (text .entry)) (now (places .entry)) (now (lists .entry)) names) ws) r (Marks (now (table .exit)))) ⌝ }
+    ensures { λ r. ⌜ ((here : Bool) (ws : List Wave) → Noted (now (text .entry)) here watch (now (table .entry)) (x .sight) ws → Makes (now (text .entry)) (x .cursor) (waveformsOf (namesOf (now (text .entry)) (now (places .entry)) (now (lists .entry)) names) ws) (r .cursor) (Noted (now (text .entry)) here watch (now (table .exit)) (r .sight))) ⌝ }
 {
-    let x = words::old_name(text, c, places, names);
-    let d = words::due(text, x.cursor, b"{");
-    if d.no != 0 {
-        return d;
+    let old = words::old_name(text, x.cursor, places, names);
+    let cursor = words::due(text, old.cursor, b"{");
+    let sight = x.sight;
+    let y = Seen { cursor, sight };
+    if cursor.no != 0 {
+        return y;
     }
-    let sigs = row(lists, x.number);
-    entries(text, d, sigs, table)
+    let sigs = row(lists, old.number);
+    entries(text, y, sigs, table, watch)
 }
 
 // All waveforms of a table, up to their closing brace.
 fn block<'a>(
     text: &'a [u8],
-    c: words::Cursor,
+    x: Seen,
     places: &'a [usize],
     lists: &[u16],
     names: usize,
     table: &mut [u8],
-) -> words::Cursor
+    watch: Watch,
+) -> Seen
     requires { ⌜ (length (now table) ≡ tableSize) × Sized (now places) (now lists) × AllBelow (namesOf (now text) (now places) (now lists) names) × Described (now table) ⌝ }
-    ensures { λ r. ⌜ ((ws : List Wave) → Marks (now (table .entry)) ws → Makes (now (text .entry)) c (blockOf (namesOf (now (text .entry)) (now (places .entry)) (now (lists .entry)) names) ws) r (Marks (now (table .exit)))) ⌝ }
+    ensures { λ r. ⌜ ((here : Bool) (ws : List Wave) → Noted (now (text .entry)) here watch (now (table .entry)) (x .sight) ws → Makes (now (text .entry)) (x .cursor) (blockOf (namesOf (now (text .entry)) (now (places .entry)) (now (lists .entry)) names) ws) (r .cursor) (Noted (now (text .entry)) here watch (now (table .exit)) (r .sight))) ⌝ }
 {
-    let mut cursor = c;
-    while words::until(text, cursor, b"}") {
-        cursor = waveforms(text, cursor, places, lists, names, table);
+    let mut x = x;
+    while words::until(text, x.cursor, b"}") {
+        x = waveforms(text, x, places, lists, names, table, watch);
     }
-    words::due(text, cursor, b"}")
+    let cursor = words::due(text, x.cursor, b"}");
+    let sight = x.sight;
+    Seen { cursor, sight }
 }
 
 // What stands between a table's name and its waveforms; its period.
@@ -461,41 +529,56 @@ fn head(text: &[u8], c: words::Cursor) -> words::Numbered
     words::Numbered { cursor, n: t.n }
 }
 
-// A table behind the first k.
+// A table behind the first k. Where another one is watched, nothing is looked for in it.
 fn table<'a>(
     text: &'a [u8],
-    c: words::Cursor,
+    x: Seen,
     places: &'a [usize],
     lists: &[u16],
     names: usize,
     tplaces: &mut [usize],
     k: usize,
     waves: &mut [u8],
-) -> words::Cursor
+    watch: Watch,
+) -> Seen
     requires { ⌜ (length (now tplaces) ≡ tablesMost * 2) × (length (now waves) ≡ tablesMost * tableSize) × Sized (now places) (now lists) × AllBelow (namesOf (now text) (now places) (now lists) names) ⌝ }
     requires { ⌜ ((tabs : TablesOf) × Held (now text) (now tplaces) (now waves) k tabs) ⌝ }
-    ensures { λ r. ⌜ ((tabs : TablesOf) → Held (now (text .entry)) (now (tplaces .entry)) (now (waves .entry)) k tabs → Makes (now (text .entry)) c (tableOf (namesOf (now (text .entry)) (now (places .entry)) (now (lists .entry)) names) tabs) r (Held (now (text .entry)) (now (tplaces .exit)) (now (waves .exit)) (k + 1))) ⌝ }
+    ensures { λ r. ⌜ ((tabs : TablesOf) → Kept (now (text .entry)) (now (tplaces .entry)) (now (waves .entry)) k watch (x .sight .found) (x .sight .place) tabs → Makes (now (text .entry)) (x .cursor) (tableOf (namesOf (now (text .entry)) (now (places .entry)) (now (lists .entry)) names) tabs) (r .cursor) (Kept (now (text .entry)) (now (tplaces .exit)) (now (waves .exit)) (k + 1) watch (r .sight .found) (r .sight .place))) ⌝ }
 {
+    let c = x.cursor;
+    let sight = x.sight;
     let a = words::due(text, c, b"WaveformTable");
     let b = words::refuse_if(a, TABLES <= k, 8, c.at);
     let d = words::new_name(text, b, &tplaces[..], k);
-    let x = head(text, d);
-    let e = x.cursor;
+    let headed = head(text, d);
+    let e = headed.cursor;
     if e.no != 0 {
-        return e;
+        return Seen { cursor: e, sight };
     }
     tplaces[k * 2] = b.at;
     tplaces[k * 2 + 1] = b.end;
     let first = k * TABLE;
     let end = first + TABLE;
-    let f = block(text, e, places, lists, names, &mut waves[first..end]);
-    words::due(text, f, b"}")
+    let here = k == watch.table;
+    let found = !here;
+    let unseen = Sight { found, place: 0 };
+    let y = Seen {
+        cursor: e,
+        sight: unseen,
+    };
+    let marks = &mut waves[first..end];
+    let z = block(text, y, places, lists, names, marks, watch);
+    let cursor = words::due(text, z.cursor, b"}");
+    let sight = either(here, z.sight, sight);
+    Seen { cursor, sight }
 }
 
-// How many tables were read, and the cursor behind them.
+// How many tables were read, is the watched waveform found and at which place its entry stands, and the cursor behind them.
 pub struct Tables {
     pub cursor: words::Cursor,
     pub count: usize,
+    pub found: bool,
+    pub place: usize,
 }
 
 // Timing: at least one table. The names of the tables go to `tplaces`, and a mark for each signal and character with a waveform to `waves`.
@@ -507,26 +590,43 @@ pub fn timing<'a>(
     names: usize,
     tplaces: &mut [usize],
     waves: &mut [u8],
+    watch: Watch,
 ) -> Tables
     requires { ⌜ (length (now tplaces) ≡ tablesMost * 2) × (length (now waves) ≡ tablesMost * tableSize) × Sized (now places) (now lists) ⌝ }
     requires { ⌜ ((i : ℕ) → getD (now waves) i 0 ≡ 0) ⌝ }
     requires { ⌜ (alive c ≡ true → AllBelow (namesOf (now text) (now places) (now lists) names)) ⌝ }
-    ensures { λ r. ⌜ Makes (now (text .entry)) c (timingOf (namesOf (now (text .entry)) (now (places .entry)) (now (lists .entry)) names)) (r .cursor) (Held (now (text .entry)) (now (tplaces .exit)) (now (waves .exit)) (r .count)) ⌝ }
+    ensures { λ r. ⌜ Makes (now (text .entry)) c (timingOf (namesOf (now (text .entry)) (now (places .entry)) (now (lists .entry)) names)) (r .cursor) (Kept (now (text .entry)) (now (tplaces .exit)) (now (waves .exit)) (r .count) watch (r .found) (r .place)) ⌝ }
 {
     if c.no != 0 {
         return Tables {
             cursor: c,
             count: 0,
+            found: false,
+            place: 0,
         };
     }
     let a = words::due(text, c, b"Timing");
     let b = words::due(text, a, b"{");
-    let mut cursor = table(text, b, places, lists, names, tplaces, 0, waves);
+    let unseen = Sight {
+        found: false,
+        place: 0,
+    };
+    let y = Seen {
+        cursor: b,
+        sight: unseen,
+    };
+    let mut x = table(text, y, places, lists, names, tplaces, 0, waves, watch);
     let mut count = 1;
-    while words::until(text, cursor, b"}") {
-        cursor = table(text, cursor, places, lists, names, tplaces, count, waves);
+    while words::until(text, x.cursor, b"}") {
+        x = table(text, x, places, lists, names, tplaces, count, waves, watch);
         count += 1;
     }
-    let end = words::due(text, cursor, b"}");
-    Tables { cursor: end, count }
+    let cursor = words::due(text, x.cursor, b"}");
+    let sight = x.sight;
+    Tables {
+        cursor,
+        count,
+        found: sight.found,
+        place: sight.place,
+    }
 }

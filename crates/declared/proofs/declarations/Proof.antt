@@ -41,7 +41,8 @@ returns c =
     record {
       it = tables .it;
       goes = then _ (read .before .before .before .before .version .ensures) (then _ (names .goes) (then _ (tables .goes) given));
-      held = tables .held;
+      held = λ h. tables .held h .held;
+      watched = λ h. tables .held h .watched;
       sized = names .sized;
     }
 

@@ -10,6 +10,7 @@ use Rattle.words.proofs.Loops.{room}
 use Rattle.timing.specs.Events.{Timed, events}
 use Rattle.timing.proofs.Making.{Looping, looping, again, fewer, leaves, closes, made, makes-bind}
 use Rattle.timing.proofs.EventReading.{takes-event}
+use Rattle.timing.proofs.Places.{due-placed}
 use borrow.Author.Needs.{needs}
 use Rattle.timing.proofs.events.Statement.{statement}
 use Rattle.timing.proofs.events.Tie as tie
@@ -53,10 +54,13 @@ due-requires c κs = search needs
 
 returns : tie.Need-returns Inv-loop μ-loop
 unfolding events bytes
-returns c = λ cs e.
-    let first = c .before .before .before .before .before .before .before .before .event .ensures (blanks cs, 0) (rw e at (c .before .before .before .before .before .before .before .before .before .no-events .ensures cs)) in
-    let last = closes "}" (event (c .before .before .before .before .before .before .before .before .before .before .before .args .n)) (first .it) (leaves (takes-event (c .before .before .before .before .before .before .before .before .before .before .before .args .n)) (c .before .before .before .before .before .loop .inv (first .it) (first .held)) (c .before .before .before .until .ensures) (c .before .before .if1 .left)) (c .due .ensures) in
-    rw e (makes-bind _ first (made (last .goes) λ h. last .held h .chars))
+returns c = (
+  λ cs e.
+      let first = c .before .before .before .before .before .before .before .before .event .ensures (blanks cs, 0) (rw e at (c .before .before .before .before .before .before .before .before .before .no-events .ensures cs)) in
+      let last = closes "}" (event (c .before .before .before .before .before .before .before .before .before .before .before .args .n)) (first .it) (leaves (takes-event (c .before .before .before .before .before .before .before .before .before .before .before .args .n)) (c .before .before .before .before .before .loop .inv (first .it) (first .held)) (c .before .before .before .until .ensures) (c .before .before .if1 .left)) (c .due .ensures) in
+      rw e (makes-bind _ first (made (last .goes) λ h. last .held h .chars)),
+  due-placed (bytes "}") (c .due .ensures),
+)
 
 pub events-spec : {M : Type 1} → statement M
 events-spec =

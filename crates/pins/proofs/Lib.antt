@@ -1,0 +1,9 @@
+mod Written
+mod Turns
+mod Rows
+pub mod Puts
+mod Putting
+mod Supplying
+pub mod Search
+pub mod Callers
+mod Cycles

@@ -1,0 +1,119 @@
+-- Each turn of the outer loop is a turn of the V, each of the inner one a signal of its cycle.
+use Prim.Native.Nat.{_-_, _≤_}
+use native.Mathlib.Omega.{arith}
+use mathlib.Core.Path.{_≡_, refl, _∙_}
+use mathlib.Core.Bool.{false}
+use Rattle.pins.specs.Shown.{Others}
+use Rattle.pins.proofs.Callers.{others-none, others-then, roomy-kept}
+use Rattle.pins.proofs.Cycles.{Searched, searched-none, searched-next, searched-lacks, searched-all, After, after-none, after-all, after-no-table, after-searched, after-lacks}
+use Rattle.pins.proofs.vectors.Statement.{statement}
+use Rattle.pins.proofs.vectors.Tie as tie
+
+abbrev Inv-loop : tie.InvT-loop
+Inv-loop text given values feeds level signals waves table t failed₀ i s₀ failed s = (failed ≡ false) × (s ≤ signals) × Searched waves values signals table s
+
+abbrev μ-loop : tie.MeasureT-loop
+μ-loop text given values feeds level signals waves table t failed₀ i s₀ failed s = signals - s
+
+abbrev Inv-search : tie.InvT-search
+Inv-search text given values₀ feeds₀ level signals waves table t failed₀ i₀ values feeds failed i = (i ≤ t) × (failed ≡ false) × Others level values₀ values feeds₀ feeds × After text given waves values₀ feeds₀ level signals table t i values feeds
+
+abbrev μ-search : tie.MeasureT-search
+μ-search text given values₀ feeds₀ level signals waves table t failed₀ i₀ values feeds failed i = t - i
+
+search-holds : tie.Need-search-holds Inv-loop μ-loop Inv-search μ-search
+search-holds c = (omega arith, refl, others-none, after-none)
+
+put-requires : tie.Need-put-requires Inv-loop μ-loop Inv-search μ-search
+put-requires c κs = (roomy-kept (c .before .before .before .before .before .before .before .before .before .pre .0) (c .before .before .before .search .inv .2), c .before .before .before .before .before .before .before .before .before .pre .1)
+
+loop-holds : tie.Need-loop-holds Inv-loop μ-loop Inv-search μ-search
+loop-holds c = (c .before .before .before .before .before .before .before .before .before .search .inv .1, omega arith, searched-none)
+
+lacks-requires : tie.Need-lacks-requires Inv-loop μ-loop Inv-search μ-search
+lacks-requires c κs =
+    let room = roomy-kept (c .before .before .before .before .before .before .before .before .before .before .before .before .before .before .before .before .before .before .pre .0) (others-then (c .before .before .before .before .before .before .before .before .before .before .before .before .search .inv .2) (c .before .before .before .before .before .before .before .before .put .ensures .0)) in
+    (room .values-long, c .before .before .before .before .before .before .before .before .before .before .before .before .before .before .before .before .before .before .pre .2, c .before .before .before .if1 .left, omega (arith, room .few))
+
+add-s : tie.Need-add-s Inv-loop μ-loop Inv-search μ-search
+add-s c = omega (arith, c .before .before .before .before .before .before .before .before .before .before .before .before .before .before .before .before .before .before .before .before .pre .0 .few)
+
+loop-less : tie.Need-loop-less Inv-loop μ-loop Inv-search μ-search
+loop-less c = omega arith
+
+loop-again : tie.Need-loop-again Inv-loop μ-loop Inv-search μ-search
+loop-again c =
+    let room = roomy-kept (c .before .before .before .before .before .before .before .before .before .before .before .before .before .before .before .before .before .before .before .before .pre .0) (others-then (c .before .before .before .before .before .before .before .before .before .before .before .before .before .before .search .inv .2) (c .before .before .before .before .before .before .before .before .before .before .put .ensures .0)) in
+    (c .before .before .before .before .loop .inv .0, omega arith, searched-next (c .before .before .before .before .loop .inv .2) (omega (arith, room .values-long, room .few)) (c .before .before .before .loop-test .taken) (c .before .lacks .ensures) (c .if2 .left))
+
+add-i : tie.Need-add-i Inv-loop μ-loop Inv-search μ-search
+add-i c = omega (arith, c .before .before .before .before .before .before .before .before .before .before .search-test .taken)
+
+search-less : tie.Need-search-less Inv-loop μ-loop Inv-search μ-search
+search-less c = omega (arith, c .before .before .before .before .before .before .before .before .before .before .search-test .taken)
+
+search-again : tie.Need-search-again Inv-loop μ-loop Inv-search μ-search
+search-again c =
+    let others = others-then (c .before .before .before .before .before .before .before .before .before .before .before .search .inv .2) (c .before .before .before .before .before .before .before .put .ensures .0) in
+    let room = roomy-kept (c .before .before .before .before .before .before .before .before .before .before .before .before .before .before .before .before .before .pre .0) others in
+    let searched = searched-all (c .before .loop .inv .2) (omega (arith, room .values-long, room .few)) (c .loop-test .left) in
+    (omega (arith, c .before .before .before .before .before .before .before .before .before .before .search-test .taken), c .before .loop .inv .0, others, after-searched (c .before .before .before .before .before .before .before .before .before .before .before .search .inv .3) (c .before .before .before .before .before .before .before .before .before .before .search-test .taken) (c .before .before .before .before .before .before .before .put .ensures .1) (c .before .before .if1 .left) searched)
+
+same-length : tie.Need-same-length Inv-loop μ-loop Inv-search μ-search
+same-length c = c .before .search .inv .2 .values-long
+
+same-length-2 : tie.Need-same-length-2 Inv-loop μ-loop Inv-search μ-search
+same-length-2 c = c .before .search .inv .2 .feeds-long
+
+returns : tie.Need-returns Inv-loop μ-loop Inv-search μ-search
+returns c = (c .before .search .inv .2, rw (c .before .search .inv .1) (after-all (c .before .search .inv .3) (omega arith)))
+
+same-length-3 : tie.Need-same-length-3 Inv-loop μ-loop Inv-search μ-search
+same-length-3 c = c .before .before .before .before .before .put .ensures .0 .values-long ∙ c .before .before .before .before .before .before .before .before .before .search .inv .2 .values-long
+
+same-length-4 : tie.Need-same-length-4 Inv-loop μ-loop Inv-search μ-search
+same-length-4 c = c .before .before .before .before .before .put .ensures .0 .feeds-long ∙ c .before .before .before .before .before .before .before .before .before .search .inv .2 .feeds-long
+
+returns-2 : tie.Need-returns-2 Inv-loop μ-loop Inv-search μ-search
+returns-2 c = (others-then (c .before .before .before .before .before .before .before .before .before .search .inv .2) (c .before .before .before .before .before .put .ensures .0), after-no-table (c .before .before .before .before .before .before .before .before .before .search .inv .3) (c .before .before .before .before .before .before .before .before .search-test .taken) (c .before .before .before .before .before .put .ensures .1) (c .if1 .taken))
+
+same-length-5 : tie.Need-same-length-5 Inv-loop μ-loop Inv-search μ-search
+same-length-5 c = c .before .before .before .before .before .before .before .before .before .before .put .ensures .0 .values-long ∙ c .before .before .before .before .before .before .before .before .before .before .before .before .before .before .search .inv .2 .values-long
+
+same-length-6 : tie.Need-same-length-6 Inv-loop μ-loop Inv-search μ-search
+same-length-6 c = c .before .before .before .before .before .before .before .before .before .before .put .ensures .0 .feeds-long ∙ c .before .before .before .before .before .before .before .before .before .before .before .before .before .before .search .inv .2 .feeds-long
+
+returns-3 : tie.Need-returns-3 Inv-loop μ-loop Inv-search μ-search
+returns-3 c =
+    let others = others-then (c .before .before .before .before .before .before .before .before .before .before .before .before .before .before .search .inv .2) (c .before .before .before .before .before .before .before .before .before .before .put .ensures .0) in
+    let room = roomy-kept (c .before .before .before .before .before .before .before .before .before .before .before .before .before .before .before .before .before .before .before .before .pre .0) others in
+    let lacking = searched-lacks (c .before .before .before .before .loop .inv .2) (omega (arith, room .values-long, room .few)) (c .before .before .before .loop-test .taken) (c .before .lacks .ensures) (c .if2 .taken) in
+    (others, after-lacks (c .before .before .before .before .before .before .before .before .before .before .before .before .before .before .search .inv .3) (c .before .before .before .before .before .before .before .before .before .before .before .before .before .search-test .taken) (c .before .before .before .before .before .before .before .before .before .before .put .ensures .1) (c .before .before .before .before .before .if1 .left) lacking)
+
+pub vectors-spec : {M : Type 1} → statement M
+vectors-spec =
+    tie.close
+    (tie.spec
+    Inv-loop
+    μ-loop
+    Inv-search
+    μ-search
+    search-holds
+    put-requires
+    loop-holds
+    lacks-requires
+    add-s
+    loop-less
+    loop-again
+    add-i
+    search-less
+    search-again
+    same-length
+    same-length-2
+    returns
+    same-length-3
+    same-length-4
+    returns-2
+    same-length-5
+    same-length-6
+    returns-3)

@@ -1,0 +1,182 @@
+// The pins and what a V does to them: characters assigned, `#` fed from arguments, and the search for a missing waveform.
+ghost use mathlib.Core.Path.{_≡_};
+ghost use mathlib.Core.Bool.{not, _||_};
+ghost use mathlib.Core.List.{List};
+ghost use Prim.Native.Nat.{ℕ, _+_, _*_, _<_};
+ghost use lib.ListN.{length, getD};
+ghost use lib.Dec.{eqb};
+ghost use Rattle.meaning.specs.Bounds.{signalsMost, tablesMost};
+ghost use Rattle.meaning.specs.Body.{Assigns, Args};
+ghost use Rattle.meaning.specs.Timing.{Tables};
+ghost use Rattle.meaning.specs.Run.{State, unassigned, puts, again};
+ghost use Rattle.meaning.specs.Meaning.{hasWave, tableAt};
+ghost use Rattle.timing.specs.Marks.{tableSize};
+ghost use Rattle.timing.specs.Held.{Held};
+ghost use Rattle.measures.specs.Uses.{Given};
+ghost use Rattle.arguments.specs.Supplied.{Supplied};
+ghost use Rattle.pins.specs.Shown.{Shows, Roomy, Playable, Others, Feeding, Fills, Told, Leaves, Returns, vector, feedAt, valuesLength, feedsLength, levels};
+use feeds::Feed;
+
+const MARK: u8 = 35;
+
+const TABLES: usize = 8;
+
+const CHARS: usize = 128;
+
+// Rows of values: the pins in force, and one for each level.
+pub const LEVELS: usize = 9;
+
+pub const VALUES: usize = (LEVELS + 1) * sets::MOST;
+
+pub const FEEDS: usize = LEVELS * sets::MOST * 3;
+// No table.
+pub const NONE: usize = TABLES;
+
+// ---- arguments
+
+// What is left of signal s's argument, at a level.
+fn feed_at(feeds: &[usize], level: usize, s: usize) -> Feed
+    requires { ⌜ (length (now feeds) ≡ feedsLength) × (level < levels) × (s < signalsMost) ⌝ }
+    ensures { λ r. ⌜ r ≡ feedAt (now (feeds .entry)) level s ⌝ }
+{
+    let i = (level * sets::MOST + s) * 3;
+    Feed {
+        at: feeds[i],
+        end: feeds[i + 1],
+        left: feeds[i + 2],
+    }
+}
+
+fn put_feed(feeds: &mut [usize], level: usize, s: usize, f: Feed)
+    requires { ⌜ (length (now feeds) ≡ feedsLength) × (level < levels) × (s < signalsMost) ⌝ }
+    ensures { λ _. ⌜ Fills (now (feeds .entry)) level s f (now (feeds .exit)) ⌝ }
+{
+    let i = (level * sets::MOST + s) * 3;
+    feeds[i] = f.at;
+    feeds[i + 1] = f.end;
+    feeds[i + 2] = f.left;
+}
+
+// A body's arguments, all of each left.
+pub fn supply(given: &[u8], args: &[usize], feeds: &mut [usize], level: usize)
+    requires { ⌜ (length (now given) ≡ signalsMost) × (length (now args) ≡ signalsMost * 2) × (length (now feeds) ≡ feedsLength) × (level < levels) ⌝ }
+    ensures { λ _. ⌜ (length (now (feeds .exit)) ≡ feedsLength) × ((l s : ℕ) → s < signalsMost → (l ≡ level → ⊥) → feedAt (now (feeds .exit)) l s ≡ feedAt (now (feeds .entry)) l s) × ((text : List ℕ) (xs : Args) → Supplied text xs (now (given .entry)) (now (args .entry)) → Feeding text (now (feeds .exit)) level xs) ⌝ }
+{
+    let mut s = 0;
+    while s < sets::MOST {
+        if given[s] != 0 {
+            put_feed(feeds, level, s, feeds::start(args[sets::MOST + s]));
+        }
+        s += 1;
+    }
+}
+
+// ---- assignments
+
+// Each signal is given its character, or the next of its argument.
+pub fn put(
+    text: &[u8],
+    given: &[u8],
+    values: &mut [u8],
+    feeds: &mut [usize],
+    level: usize,
+    signals: usize,
+)
+    requires { ⌜ Roomy signals (now values) (now feeds) level × (length (now given) ≡ signalsMost) ⌝ }
+    ensures { λ _. ⌜ Others level (now (values .entry)) (now (values .exit)) (now (feeds .entry)) (now (feeds .exit)) × ((a : Assigns) (s : State) (table : ℕ) → Given a (now (given .entry)) → Playable signals a (s .args) → Shows (now (text .entry)) signals (now (values .entry)) table (now (feeds .entry)) level s → Shows (now (text .entry)) signals (now (values .exit)) table (now (feeds .exit)) level (puts a s)) ⌝ }
+{
+    let mut s = 0;
+    while s < signals {
+        let b = given[s];
+        if b == MARK {
+            let x = feeds::next(text, feed_at(feeds, level, s));
+            values[s] = x.char;
+            put_feed(feeds, level, s, x.feed);
+        } else if b != 0 {
+            values[s] = b;
+        }
+        s += 1;
+    }
+}
+
+// ---- a V
+
+// Has signal s an assigned character without a waveform in the table?
+fn lacks(values: &[u8], waves: &[u8], table: usize, s: usize) -> bool
+    requires { ⌜ (length (now values) ≡ valuesLength) × (length (now waves) ≡ tablesMost * tableSize) × (table < tablesMost) × (s < signalsMost) ⌝ }
+    ensures { λ r. ⌜ ((text tplaces : List ℕ) (tables : ℕ) (tabs : Tables) → Held text tplaces (now (waves .entry)) tables tabs → r ≡ not (eqb (getD (now (values .entry)) s 0) unassigned || hasWave s (getD (now (values .entry)) s 0) (tableAt tabs table))) ⌝ }
+{
+    let b = values[s] as usize;
+    if b == 0 {
+        return false;
+    }
+    if CHARS <= b {
+        return true;
+    }
+    waves[(table * sets::MOST + s) * CHARS + b] != 1
+}
+
+// A V, t times: is there a cycle without a table, or with an assigned character that has no waveform in it?
+pub fn vectors(
+    text: &[u8],
+    given: &[u8],
+    values: &mut [u8],
+    feeds: &mut [usize],
+    level: usize,
+    signals: usize,
+    waves: &[u8],
+    table: usize,
+    t: usize,
+) -> bool
+    requires { ⌜ Roomy signals (now values) (now feeds) level × (length (now given) ≡ signalsMost) × (length (now waves) ≡ tablesMost * tableSize) ⌝ }
+    ensures { λ r. ⌜ Others level (now (values .entry)) (now (values .exit)) (now (feeds .entry)) (now (feeds .exit)) × ((a : Assigns) (s : State) (tplaces : List ℕ) (tables p : ℕ) (tabs : Tables) → Held (now (text .entry)) tplaces (now (waves .entry)) tables tabs → Given a (now (given .entry)) → Playable signals a (s .args) → Shows (now (text .entry)) signals (now (values .entry)) table (now (feeds .entry)) level s → Told tabs (now (text .entry)) signals (now (values .exit)) table (now (feeds .exit)) level r p (again t (vector p a) s)) ⌝ }
+{
+    let mut failed = false;
+    let mut i = 0;
+    'search: while i < t {
+        put(text, given, values, feeds, level, signals);
+        if TABLES <= table {
+            failed = true;
+            break 'search;
+        }
+        let mut s = 0;
+        while s < signals {
+            if lacks(values, waves, table, s) {
+                failed = true;
+                break 'search;
+            }
+            s += 1;
+        }
+        i += 1;
+    }
+    failed
+}
+
+// ---- procedures
+
+// The caller's pins are kept in the row of a level, and all signals are unassigned.
+pub fn leave(values: &mut [u8], level: usize)
+    requires { ⌜ (length (now values) ≡ valuesLength) × (level < levels) ⌝ }
+    ensures { λ _. ⌜ Leaves level (now (values .entry)) (now (values .exit)) ⌝ }
+{
+    let at = (level + 1) * sets::MOST;
+    let mut s = 0;
+    while s < sets::MOST {
+        values[at + s] = values[s];
+        values[s] = 0;
+        s += 1;
+    }
+}
+
+// They come back.
+pub fn come_back(values: &mut [u8], level: usize)
+    requires { ⌜ (length (now values) ≡ valuesLength) × (level < levels) ⌝ }
+    ensures { λ _. ⌜ Returns level (now (values .entry)) (now (values .exit)) ⌝ }
+{
+    let at = (level + 1) * sets::MOST;
+    let mut s = 0;
+    while s < sets::MOST {
+        values[s] = values[at + s];
+        s += 1;
+    }
+}
