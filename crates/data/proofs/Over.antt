@@ -17,7 +17,7 @@ over-length [] e = refl
 over-length (c ∷ cs) [] = refl
 over-length (c ∷ cs) (b ∷ e) = ap suc (over-length cs e)
 
-over-set : (cs e : List ℕ) (x : ℕ) → set (over cs e) (length cs) x ≡ over (cs ++ x ∷ []) e
+pub over-set : (cs e : List ℕ) (x : ℕ) → set (over cs e) (length cs) x ≡ over (cs ++ x ∷ []) e
 unfolding over
 over-set [] [] x = refl
 over-set [] (b ∷ e) x = refl

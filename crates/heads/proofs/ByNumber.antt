@@ -53,7 +53,7 @@ module _ {text places lists tplaces book rows : List ℕ} {known : Known} {e : E
 abbrev pub fromFirst : List ℕ → Part → List ℕ
 fromFirst book part = take (length book - part .first * 2) (drop (part .first * 2) book)
 
-from-first : (book : List ℕ) (part : Part) → fromFirst book part ≡ drop (part .first * 2) book
+pub from-first : (book : List ℕ) (part : Part) → fromFirst book part ≡ drop (part .first * 2) book
 from-first book part = take-all (length book - part .first * 2) (drop (part .first * 2) book) (omega (arith, length-drop (part .first * 2) book))
 
 nothing : Decl

@@ -2,9 +2,9 @@
 use Prim.Native.Nat.{ℕ, zero, suc, _≤_, _<_}
 use native.Mathlib.Omega.{arith}
 use mathlib.Core.Path.{_≡_, refl, sym, ap, _∙_, subst}
-use mathlib.Core.Bool.{Bool, true, false, _&&_}
+use mathlib.Core.Bool.{true}
 use mathlib.Core.Option.{Option, none, some}
-use mathlib.Core.List.{List, [], _∷_}
+use mathlib.Core.List.{List, []}
 use lib.ListN.{length, getD, take, replicate, length-take, length-replicate, getD-replicate}
 use lib.Seq.{getD-take, ext-getD}
 use borrow.Author.Tests.{lt-ltb, le-ltb}
@@ -15,8 +15,9 @@ use Rattle.meaning.specs.Data.{assigned}
 use Rattle.meaning.specs.Run.{State, unassigned, puts, changed, follow, again, bare, play, start}
 use Rattle.feeds.specs.declared.Feed.{Feed}
 use Rattle.feeds.specs.Feeds.{Feeds}
+use Rattle.arguments.proofs.Lists.{differ, inside-each, inside-all}
 use Rattle.pins.specs.Shown.{tableOf, feedAt, Feeding, Shows, Roomy, Playable, Others, vector, keptAt, Leaves, Returns}
-use Rattle.pins.proofs.Puts.{puts-supplied, inside-has}
+use Rattle.pins.proofs.Puts.{puts-supplied}
 
 -- ---- tables
 
@@ -30,22 +31,12 @@ table-none k h = rw (le-ltb k tablesMost h, tableOf)
 
 -- ---- assignments that can be made
 
-inside-trans : (l m n : List ℕ) → inside l m ≡ true → inside m n ≡ true → inside l n ≡ true
-unfolding inside
-inside-trans [] m n h k = refl
-inside-trans (x ∷ l) m n h k =
-    let p = both (has x m) (inside l m) h in
-    rw (inside-has x m n k (p .0)) (inside-trans l m n (p .1) k)
-  where
-    both : (a b : Bool) → (a && b) ≡ true → (a ≡ true) × (b ≡ true)
-    both true b e = (refl, e)
-    both false b e = absurd (let z : _≡_ {A = ℕ} 0 1 = cc in omega arith)
-
 module _ {signals : ℕ} {a : Assigns} where
   -- where every signal with `#` is among some that have an argument
   pub playable-among : {args : Args} (l : List ℕ) → ((s : ℕ) → has s (assigned a) ≡ true → s < signals) → inside (marked a) l ≡ true
       → inside l (supplied args) ≡ true → Playable signals a args
-  playable-among {args} l b h k = record { below = b; fed = inside-trans (marked a) l (supplied args) h k }
+  playable-among {args} l b h k =
+      record { below = b; fed = inside-all (marked a) (supplied args) (λ s e. inside-each l (supplied args) k s (inside-each (marked a) l h s e)) }
 
   -- an assignment takes characters of arguments, and no argument
   pub playable-puts : (b : Assigns) (s : State) → Playable signals a (s .args) → Playable signals a (puts b s .args)
@@ -102,7 +93,7 @@ module _ {text feeds feeds′ : List ℕ} {l : ℕ} {xs : Args} where
 
 pub feeding-none : {text feeds : List ℕ} {level : ℕ} → Feeding text feeds level []
 unfolding supplied has
-feeding-none = record { each = λ s h. absurd (let z : _≡_ {A = ℕ} 0 1 = cc in omega arith) }
+feeding-none = record { each = λ s h. absurd (differ (sym h)) }
 
 -- ---- pins
 

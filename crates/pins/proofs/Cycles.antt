@@ -14,12 +14,10 @@ use Rattle.meaning.specs.Run.{State, Played, puts, cycleAt, again}
 use Rattle.meaning.specs.Meaning.{allWaves, tableAt, playable, firstFailing}
 use Rattle.timing.specs.Held.{Held}
 use Rattle.measures.specs.Uses.{Given}
+use Rattle.arguments.proofs.Lists.{differ}
 use Rattle.pins.specs.Shown.{Shows, Playable, Told, vector}
 use Rattle.pins.proofs.Search.{fine, waves-here, waves-next, waves-end, turn-fails, turn-passes, turn-state, turns-end, no-table, a-table}
 use Rattle.pins.proofs.Callers.{table-some, table-none, playable-puts}
-
-differ : true ≡ false → ⊥
-differ e = let z : _≡_ {A = ℕ} 0 1 = cc in omega arith
 
 -- ---- the signals of a cycle
 

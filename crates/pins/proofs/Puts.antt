@@ -1,19 +1,19 @@
 -- Assignments signal by signal: no signal stands twice, so what it shows afterwards, and what is left of its argument, does not depend on the order.
 use Prim.Native.Nat.{ℕ, _<_}
-use native.Mathlib.Omega.{arith}
 use mathlib.Core.Path.{_≡_, refl, sym, ap, _∙_, subst}
-use mathlib.Core.Bool.{Bool, true, false, _&&_, _||_}
+use mathlib.Core.Bool.{Bool, true, false, _||_}
 use mathlib.Core.List.{List, [], _∷_}
 use lib.Dec.{eqb}
 use lib.ListN.{length, getD, set, length-set}
 use lib.Seq.{getD-set-same, getD-set-other}
 use borrow.Author.Tests.{ne-eqb, eqb-true, eqb-false}
-use Rattle.meaning.specs.Lists.{has, inside, repeats}
+use Rattle.meaning.specs.Lists.{has, repeats}
 use Rattle.meaning.specs.Body.{Assigns, Args, mark, argOf, supplied, marked}
 use Rattle.meaning.specs.Data.{assigned}
 use Rattle.meaning.specs.Run.{State, unassigned, next, behind, taken, put, puts}
 use Rattle.assigns.specs.Given.{charOf, chars}
 use Rattle.assigns.proofs.Table.{or-false}
+use Rattle.arguments.proofs.Lists.{differ}
 
 -- ---- what is left of the arguments
 
@@ -79,6 +79,10 @@ put-is x s = by (eqb (x .1) mark)
     by true = refl
     by false = refl
 
+-- what holds of both kinds
+by-put : {A : Type 0} (f : State → A) {a : A} (x : ℕ × ℕ) (s : State) → ((b : Bool) → f (one b x s) ≡ a) → f (put x s) ≡ a
+by-put f x s h = ap f (put-is x s) ∙ h (eqb (x .1) mark)
+
 module _ (x : ℕ × ℕ) (s : State) where
   one-table : (b : Bool) → one b x s .table ≡ s .table
   one-table true = refl
@@ -115,7 +119,7 @@ module _ (x : ℕ × ℕ) (s : State) where
 kept : {A : Type 0} (f : State → A) → ((x : ℕ × ℕ) (s : State) (b : Bool) → f (one b x s) ≡ f s) → (a : Assigns) (s : State) → f (puts a s) ≡ f s
 unfolding puts
 kept f h [] s = refl
-kept f h (x ∷ xs) s = kept f h xs (put x s) ∙ ap f (put-is x s) ∙ h x s (eqb (x .1) mark)
+kept f h (x ∷ xs) s = kept f h xs (put x s) ∙ by-put f x s (h x s)
 
 pub puts-table : (a : Assigns) (s : State) → puts a s .table ≡ s .table
 puts-table = kept (λ s. s .table) one-table
@@ -133,7 +137,7 @@ unfolding puts has assigned
 unmoved j f h [] n s = refl
 unmoved j f h (x ∷ xs) n s =
     let q = or-false (eqb (x .0) j) (has j (assigned xs)) n in
-    unmoved j f h xs (q .1) (put x s) ∙ ap f (put-is x s) ∙ h x s (eqb-false (x .0) j (q .0)) (eqb (x .1) mark)
+    unmoved j f h xs (q .1) (put x s) ∙ by-put f x s (h x s (eqb-false (x .0) j (q .0)))
 
 module _ (j : ℕ) where
   pin-unmoved : (a : Assigns) → has j (assigned a) ≡ false → (s : State) → getD (puts a s .pins) j 0 ≡ getD (s .pins) j 0
@@ -149,7 +153,7 @@ module _ (j : ℕ) where
   puts-pin (x ∷ xs) s r z h =
       let p = or-false (has (x .0) (assigned xs)) (repeats (assigned xs)) r in
       let q = or-false (eqb (x .1) 0) (has 0 (chars xs)) z in
-      by (eqb (x .0) j) refl p (q .0) (puts-pin xs (put x s) (p .1) (q .1) (subst (λ (n : ℕ). j < n) (sym (ap (λ (t : State). length (t .pins)) (put-is x s) ∙ one-long x s (eqb (x .1) mark))) h))
+      by (eqb (x .0) j) refl p (q .0) (puts-pin xs (put x s) (p .1) (q .1) (subst (λ (n : ℕ). j < n) (sym (by-put (λ t. length (t .pins)) x s (one-long x s))) h))
     where
       by : (b : Bool) → eqb (x .0) j ≡ b → (has (x .0) (assigned xs) ≡ false) × (repeats (assigned xs) ≡ false) → eqb (x .1) 0 ≡ false
           → getD (puts xs (put x s) .pins) j 0 ≡ shown (charOf j xs) (getD (put x s .pins) j 0) (argOf j (put x s .args))
@@ -160,8 +164,8 @@ module _ (j : ℕ) where
           ∙ subst (λ (i : ℕ). getD (one (eqb (x .1) mark) x s .pins) i 0 ≡ shown (x .1) (getD (s .pins) i 0) (argOf i (s .args))) o (rw (q, shown) (own-pin x s (eqb (x .1) mark) (rw o h)))
       by false e p q ih =
           let o = eqb-false (x .0) j e in
-          ih ∙ ap (λ (n : ℕ). shown (charOf j xs) n (argOf j (put x s .args))) (ap (λ (t : State). getD (t .pins) j 0) (put-is x s) ∙ other-pin x s j o (eqb (x .1) mark))
-          ∙ ap (λ (l : List ℕ). shown (charOf j xs) (getD (s .pins) j 0) l) (ap (λ (t : State). argOf j (t .args)) (put-is x s) ∙ other-arg x s j o (eqb (x .1) mark))
+          ih ∙ ap (λ (n : ℕ). shown (charOf j xs) n (argOf j (put x s .args))) (by-put (λ t. getD (t .pins) j 0) x s (other-pin x s j o))
+          ∙ ap (λ (l : List ℕ). shown (charOf j xs) (getD (s .pins) j 0) l) (by-put (λ t. argOf j (t .args)) x s (other-arg x s j o))
 
   pub puts-arg : (a : Assigns) (s : State) → repeats (assigned a) ≡ false → argOf j (puts a s .args) ≡ left (charOf j a) (argOf j (s .args))
   unfolding puts charOf assigned repeats has
@@ -178,14 +182,14 @@ module _ (j : ℕ) where
           ∙ subst (λ (i : ℕ). argOf i (one (eqb (x .1) mark) x s .args) ≡ left (x .1) (argOf i (s .args))) o (own-arg x s (eqb (x .1) mark))
       by false e p ih =
           let o = eqb-false (x .0) j e in
-          ih ∙ ap (left (charOf j xs)) (ap (λ (t : State). argOf j (t .args)) (put-is x s) ∙ other-arg x s j o (eqb (x .1) mark))
+          ih ∙ ap (left (charOf j xs)) (by-put (λ t. argOf j (t .args)) x s (other-arg x s j o))
 
 -- ---- `#` and arguments
 
 -- a signal that is given `#` is marked
 pub char-marked : (j : ℕ) (a : Assigns) → eqb (charOf j a) mark ≡ true → has j (marked a) ≡ true
 unfolding charOf marked has
-char-marked j [] e = absurd (let z : _≡_ {A = ℕ} 0 1 = cc in omega arith)
+char-marked j [] e = absurd (differ (sym e))
 char-marked j (x ∷ xs) e = by (eqb (x .0) j) refl e (char-marked j xs) (eqb (x .1) mark) refl
   where
     later : (m : Bool) → has j (marked xs) ≡ true → has j (elim m [ true ↦ x .0 ∷ marked xs | false ↦ marked xs ]) ≡ true
@@ -199,16 +203,5 @@ char-marked j (x ∷ xs) e = by (eqb (x .0) j) refl e (char-marked j xs) (eqb (x
     by : (b : Bool) → eqb (x .0) j ≡ b → eqb (elim b [ true ↦ x .1 | false ↦ charOf j xs ]) mark ≡ true → (eqb (charOf j xs) mark ≡ true → has j (marked xs) ≡ true)
         → (m : Bool) → eqb (x .1) mark ≡ m → has j (elim m [ true ↦ x .0 ∷ marked xs | false ↦ marked xs ]) ≡ true
     by true o e ih true f = rw o
-    by true o e ih false f = absurd (let z : true ≡ false = sym e ∙ f in let w : _≡_ {A = ℕ} 0 1 = cc in omega arith)
+    by true o e ih false f = absurd (differ (sym e ∙ f))
     by false o e ih m f = later m (ih e)
-
-pub inside-has : (j : ℕ) (l m : List ℕ) → inside l m ≡ true → has j l ≡ true → has j m ≡ true
-unfolding inside has
-inside-has j [] m h e = absurd (let z : _≡_ {A = ℕ} 0 1 = cc in omega arith)
-inside-has j (x ∷ l) m h e = by (has x m) refl (eqb x j) refl h e (inside-has j l m)
-  where
-    by : (b : Bool) → has x m ≡ b → (c : Bool) → eqb x j ≡ c → (b && inside l m) ≡ true → (c || has j l) ≡ true
-        → (inside l m ≡ true → has j l ≡ true → has j m ≡ true) → has j m ≡ true
-    by true p true q h e ih = subst (λ (y : ℕ). has y m ≡ true) (eqb-true x j q) p
-    by true p false q h e ih = ih h e
-    by false p c q h e ih = absurd (let z : _≡_ {A = ℕ} 0 1 = cc in omega arith)

@@ -18,9 +18,10 @@ use Rattle.feeds.specs.declared.Feed.{Feed}
 use Rattle.feeds.specs.declared.Fed.{Fed}
 use Rattle.feeds.specs.Feeds.{Feeds, Takes}
 use Rattle.measures.specs.Uses.{Given}
+use Rattle.arguments.proofs.Lists.{inside-each}
 use Rattle.pins.specs.Shown.{feedAt, Fills, Shows, Roomy, Playable, Others}
 use Rattle.pins.proofs.Turns.{Done, done-none, done-next, done-same, Refilled, refilled-none, refilled-next, refilled-same}
-use Rattle.pins.proofs.Puts.{shown, left, puts-table, puts-long, puts-supplied, puts-pin, puts-arg, arg-unmoved, char-marked, inside-has}
+use Rattle.pins.proofs.Puts.{shown, left, puts-table, puts-long, puts-supplied, puts-pin, puts-arg, arg-unmoved, char-marked}
 
 -- what signal k shows afterwards, whatever characters its feed has left
 abbrev Showing : List ℕ → List ℕ → List ℕ → List ℕ → ℕ → ℕ → ℕ → Type 0
@@ -98,7 +99,7 @@ module _ {text given values feeds values′ feeds′ : List ℕ} {level signals 
     -- `#` has an argument
     feeds-there : (k : ℕ) → k < signals → eqb (getD given k 0) mark ≡ true → Feeds text (feedAt feeds level k) (argOf k (s .args))
     feeds-there k b e =
-        h .args-are .each k (inside-has k _ (supplied (s .args)) (p .fed) (char-marked k a (ap (λ (c : ℕ). eqb c mark) (char k b) ∙ e))) .1
+        h .args-are .each k (inside-each _ (supplied (s .args)) (p .fed) k (char-marked k a (ap (λ (c : ℕ). eqb c mark) (char k b) ∙ e))) .1
 
     pin : (k : ℕ) → k < signals → getD (puts a s .pins) k 0 ≡ getD (take signals values′) k 0
     pin k b =

@@ -1,20 +1,20 @@
 -- A body's arguments: each signal that has one is given the feed of its DATA.
 use Prim.Native.Nat.{ℕ, _+_, _≤_}
 use native.Mathlib.Omega.{arith}
-use mathlib.Core.Path.{_≡_, refl, sym, ap, _∙_}
-use mathlib.Core.Bool.{true, false}
-use mathlib.Core.List.{List, [], _∷_}
+use mathlib.Core.Path.{_≡_, sym, _∙_}
+use mathlib.Core.Bool.{false}
+use mathlib.Core.List.{List}
 use lib.ListN.{getD}
 use Rattle.tokens.specs.Tokens.{Toks, toks}
 use Rattle.meaning.specs.Bounds.{signalsMost}
-use Rattle.meaning.specs.Lists.{has}
 use Rattle.meaning.specs.Reader.{ok}
-use Rattle.meaning.specs.Body.{Args, supplied}
-use Rattle.meaning.specs.Data.{dataRead, assigned}
-use Rattle.assigns.proofs.Table.{given-none}
+use Rattle.meaning.specs.Body.{Args}
+use Rattle.meaning.specs.Data.{dataRead}
 use Rattle.feeds.specs.declared.Feed.{Feed}
 use Rattle.feeds.specs.Feeds.{Feeds}
-use Rattle.arguments.specs.Supplied.{marksOf, Supplied}
+use Rattle.arguments.specs.Supplied.{Supplied}
+use Rattle.arguments.proofs.Lists.{differ}
+use Rattle.arguments.proofs.Counted.{argument-none}
 use Rattle.pins.specs.Shown.{Feeding}
 use Rattle.pins.proofs.Turns.{Refilled}
 
@@ -25,11 +25,6 @@ Starts place f = (text cs : List ℕ) (q : ℕ) (us : Toks) → dataRead false (
 abbrev pub Begun : List ℕ → List ℕ → ℕ → Feed → Type 0
 Begun given args k f = (getD given k 0 ≡ 0 → ⊥) → Starts (getD args (signalsMost + k) 0) f
 
-assigned-marks : (xs : Args) → assigned (marksOf xs) ≡ supplied xs
-unfolding assigned marksOf supplied
-assigned-marks [] = refl
-assigned-marks (x ∷ xs) = ap (λ (l : List ℕ). x .0 ∷ l) (assigned-marks xs)
-
 pub begun-all : {given args before feeds : List ℕ} {level s : ℕ} → signalsMost ≤ s → Refilled (Begun given args) level s before feeds
     → (text : List ℕ) (xs : Args) → Supplied text xs given args → Feeding text feeds level xs
 begun-all {given} {args} {before} {feeds} {level} {s} e x text xs u =
@@ -37,8 +32,5 @@ begun-all {given} {args} {before} {feeds} {level} {s} e x text xs u =
       each = λ k h.
           let below = u .below k h in
           let from = u .each k h .at in
-          (below, x .each k (omega arith) (λ z. never k h (ap (has k) (sym (assigned-marks xs)) ∙ given-none (u .gave) k below z)) text _ (from .0) (from .1) (from .2));
+          (below, x .each k (omega arith) (λ z. differ (sym h ∙ argument-none u k below z)) text _ (from .0) (from .1) (from .2));
     }
-  where
-    never : (k : ℕ) → has k (supplied xs) ≡ true → has k (supplied xs) ≡ false → ⊥
-    never k h n = let t : true ≡ false = sym h ∙ n in let z : _≡_ {A = ℕ} 0 1 = cc in omega arith

@@ -46,7 +46,7 @@ gives-quoted a =
 -- ---- the code's tests are the definition's
 
 -- on the number of alternatives, of which the code counts one too many at most
-same-counts : {n m : ℕ} {l es : List ℕ} → n ≤ entryMost → Lettered m l es
+pub same-counts : {n m : ℕ} {l es : List ℕ} → n ≤ entryMost → Lettered m l es
     → (not (eqb m 1) && not (eqb m n)) ≡ (not (eqb (length es) 1) && not (eqb (length es) n))
 same-counts {n} {m} {l} {es} h a = ap (λ (b : Bool). not b && not (eqb m n)) (by 1 (omega arith)) ∙ ap (λ (b : Bool). not (eqb (length es) 1) && not b) (by n h)
   where

@@ -26,13 +26,13 @@ zeros zero i = refl
 zeros (suc n) zero = refl
 zeros (suc n) (suc i) = zeros n i
 
-blank : (cs : List ℕ) (i : ℕ) → getD (blanks cs) i [] ≡ []
+pub blank : (cs : List ℕ) (i : ℕ) → getD (blanks cs) i [] ≡ []
 unfolding blanks
 blank [] i = refl
 blank (c ∷ cs) zero = refl
 blank (c ∷ cs) (suc i) = blank cs i
 
-as-many : (cs : List ℕ) → length (blanks cs) ≡ length cs
+pub as-many : (cs : List ℕ) → length (blanks cs) ≡ length cs
 unfolding blanks
 as-many [] = refl
 as-many (c ∷ cs) = ap suc (as-many cs)

@@ -1,7 +1,7 @@
 pub mod Making
 mod EventLetters
-mod EventTimes
-mod EventReading
+pub mod EventTimes
+pub mod EventReading
 mod Marking
 mod Places
 pub mod Watching

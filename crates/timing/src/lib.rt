@@ -70,9 +70,9 @@ fn letter(text: &[u8], c: words::Cursor) -> LetterRead
 const ENTRY: usize = 16;
 
 // Alternatives of one event: how many, up to one too many, and the first of them.
-struct Alternatives {
-    n: usize,
-    l: [u8; ENTRY],
+pub struct Alternatives {
+    pub n: usize,
+    pub l: [u8; ENTRY],
 }
 
 fn no_letters() -> Alternatives
@@ -100,13 +100,13 @@ fn more(a: Alternatives, e: u8) -> Alternatives
 }
 
 // Alternatives that were read, and the cursor behind them.
-struct LettersRead {
-    cursor: words::Cursor,
-    a: Alternatives,
+pub struct LettersRead {
+    pub cursor: words::Cursor,
+    pub a: Alternatives,
 }
 
 // Alternatives, parted by `/`.
-fn letters(text: &[u8], c: words::Cursor) -> LettersRead
+pub fn letters(text: &[u8], c: words::Cursor) -> LettersRead
     ensures { λ r. ⌜ Makes (now (text .entry)) c lettersOf (r .cursor) (Lettered (r .a .n) (r .a .l)) ⌝ }
 {
     let x = letter(text, c);
@@ -122,7 +122,7 @@ fn letters(text: &[u8], c: words::Cursor) -> LettersRead
 }
 
 // The letter for the character of number i: the only one, or its own.
-fn letter_at(a: Alternatives, i: usize) -> u8
+pub fn letter_at(a: Alternatives, i: usize) -> u8
     requires { ⌜ i < entryMost ⌝ }
     ensures { λ r. ⌜ ((n : ℕ) (es : List ℕ) → n ≤ entryMost → Lettered (a .n) (a .l) es → (not (eqb (a .n) 1) && not (eqb (a .n) n)) ≡ false → i < n → r ≡ getD (spread n es) i 0) ⌝ }
 {

@@ -25,15 +25,22 @@ search-holds : tie.Need-search-holds Inv-loop μ-loop Inv-search μ-search
 search-holds c = (omega arith, refl, others-none, after-none)
 
 put-requires : tie.Need-put-requires Inv-loop μ-loop Inv-search μ-search
-put-requires c κs = (roomy-kept (c .before .before .before .before .before .before .before .before .before .pre .0) (c .before .before .before .search .inv .2), c .before .before .before .before .before .before .before .before .before .pre .1)
+put-requires c κs =
+    let search = c .before .before .before in
+    let pre = search .before .before .before .before .before .before .pre in
+    (roomy-kept (pre .0) (search .search .inv .2), pre .1)
 
 loop-holds : tie.Need-loop-holds Inv-loop μ-loop Inv-search μ-search
 loop-holds c = (c .before .before .before .before .before .before .before .before .before .search .inv .1, omega arith, searched-none)
 
 lacks-requires : tie.Need-lacks-requires Inv-loop μ-loop Inv-search μ-search
 lacks-requires c κs =
-    let room = roomy-kept (c .before .before .before .before .before .before .before .before .before .before .before .before .before .before .before .before .before .before .pre .0) (others-then (c .before .before .before .before .before .before .before .before .before .before .before .before .search .inv .2) (c .before .before .before .before .before .before .before .before .put .ensures .0)) in
-    (room .values-long, c .before .before .before .before .before .before .before .before .before .before .before .before .before .before .before .before .before .before .pre .2, c .before .before .before .if1 .left, omega (arith, room .few))
+    let put = c .before .before .before .before .before .before .before .before in
+    let search = put .before .before .before .before in
+    let others = others-then (search .search .inv .2) (put .put .ensures .0) in
+    let pre = search .before .before .before .before .before .before .pre in
+    let room = roomy-kept (pre .0) others in
+    (room .values-long, pre .2, c .before .before .before .if1 .left, omega (arith, room .few))
 
 add-s : tie.Need-add-s Inv-loop μ-loop Inv-search μ-search
 add-s c = omega (arith, c .before .before .before .before .before .before .before .before .before .before .before .before .before .before .before .before .before .before .before .before .pre .0 .few)
@@ -43,8 +50,13 @@ loop-less c = omega arith
 
 loop-again : tie.Need-loop-again Inv-loop μ-loop Inv-search μ-search
 loop-again c =
-    let room = roomy-kept (c .before .before .before .before .before .before .before .before .before .before .before .before .before .before .before .before .before .before .before .before .pre .0) (others-then (c .before .before .before .before .before .before .before .before .before .before .before .before .before .before .search .inv .2) (c .before .before .before .before .before .before .before .before .before .before .put .ensures .0)) in
-    (c .before .before .before .before .loop .inv .0, omega arith, searched-next (c .before .before .before .before .loop .inv .2) (omega (arith, room .values-long, room .few)) (c .before .before .before .loop-test .taken) (c .before .lacks .ensures) (c .if2 .left))
+    let put = c .before .before .before .before .before .before .before .before .before .before in
+    let search = put .before .before .before .before in
+    let others = others-then (search .search .inv .2) (put .put .ensures .0) in
+    let pre = search .before .before .before .before .before .before .pre in
+    let room = roomy-kept (pre .0) others in
+    let turn = c .before .before .before .before .loop in
+    (turn .inv .0, omega arith, searched-next (turn .inv .2) (omega (arith, room .values-long, room .few)) (c .before .before .before .loop-test .taken) (c .before .lacks .ensures) (c .if2 .left))
 
 add-i : tie.Need-add-i Inv-loop μ-loop Inv-search μ-search
 add-i c = omega (arith, c .before .before .before .before .before .before .before .before .before .before .search-test .taken)
@@ -54,10 +66,15 @@ search-less c = omega (arith, c .before .before .before .before .before .before 
 
 search-again : tie.Need-search-again Inv-loop μ-loop Inv-search μ-search
 search-again c =
-    let others = others-then (c .before .before .before .before .before .before .before .before .before .before .before .search .inv .2) (c .before .before .before .before .before .before .before .put .ensures .0) in
-    let room = roomy-kept (c .before .before .before .before .before .before .before .before .before .before .before .before .before .before .before .before .before .pre .0) others in
-    let searched = searched-all (c .before .loop .inv .2) (omega (arith, room .values-long, room .few)) (c .loop-test .left) in
-    (omega (arith, c .before .before .before .before .before .before .before .before .before .before .search-test .taken), c .before .loop .inv .0, others, after-searched (c .before .before .before .before .before .before .before .before .before .before .before .search .inv .3) (c .before .before .before .before .before .before .before .before .before .before .search-test .taken) (c .before .before .before .before .before .before .before .put .ensures .1) (c .before .before .if1 .left) searched)
+    let put = c .before .before .before .before .before .before .before in
+    let search = put .before .before .before .before in
+    let others = others-then (search .search .inv .2) (put .put .ensures .0) in
+    let pre = search .before .before .before .before .before .before .pre in
+    let room = roomy-kept (pre .0) others in
+    let turn = c .before .loop in
+    let more = put .before .before .before .search-test .taken in
+    let searched = searched-all (turn .inv .2) (omega (arith, room .values-long, room .few)) (c .loop-test .left) in
+    (omega (arith, more), turn .inv .0, others, after-searched (search .search .inv .3) more (put .put .ensures .1) (c .before .before .if1 .left) searched)
 
 same-length : tie.Need-same-length Inv-loop μ-loop Inv-search μ-search
 same-length c = c .before .search .inv .2 .values-long
@@ -69,26 +86,45 @@ returns : tie.Need-returns Inv-loop μ-loop Inv-search μ-search
 returns c = (c .before .search .inv .2, rw (c .before .search .inv .1) (after-all (c .before .search .inv .3) (omega arith)))
 
 same-length-3 : tie.Need-same-length-3 Inv-loop μ-loop Inv-search μ-search
-same-length-3 c = c .before .before .before .before .before .put .ensures .0 .values-long ∙ c .before .before .before .before .before .before .before .before .before .search .inv .2 .values-long
+same-length-3 c =
+    let put = c .before .before .before .before .before in
+    let search = put .before .before .before .before in
+    put .put .ensures .0 .values-long ∙ search .search .inv .2 .values-long
 
 same-length-4 : tie.Need-same-length-4 Inv-loop μ-loop Inv-search μ-search
-same-length-4 c = c .before .before .before .before .before .put .ensures .0 .feeds-long ∙ c .before .before .before .before .before .before .before .before .before .search .inv .2 .feeds-long
+same-length-4 c =
+    let put = c .before .before .before .before .before in
+    let search = put .before .before .before .before in
+    put .put .ensures .0 .feeds-long ∙ search .search .inv .2 .feeds-long
 
 returns-2 : tie.Need-returns-2 Inv-loop μ-loop Inv-search μ-search
-returns-2 c = (others-then (c .before .before .before .before .before .before .before .before .before .search .inv .2) (c .before .before .before .before .before .put .ensures .0), after-no-table (c .before .before .before .before .before .before .before .before .before .search .inv .3) (c .before .before .before .before .before .before .before .before .search-test .taken) (c .before .before .before .before .before .put .ensures .1) (c .if1 .taken))
+returns-2 c =
+    let put = c .before .before .before .before .before in
+    let search = put .before .before .before .before in
+    (others-then (search .search .inv .2) (put .put .ensures .0), after-no-table (search .search .inv .3) (put .before .before .before .search-test .taken) (put .put .ensures .1) (c .if1 .taken))
 
 same-length-5 : tie.Need-same-length-5 Inv-loop μ-loop Inv-search μ-search
-same-length-5 c = c .before .before .before .before .before .before .before .before .before .before .put .ensures .0 .values-long ∙ c .before .before .before .before .before .before .before .before .before .before .before .before .before .before .search .inv .2 .values-long
+same-length-5 c =
+    let put = c .before .before .before .before .before .before .before .before .before .before in
+    let search = put .before .before .before .before in
+    put .put .ensures .0 .values-long ∙ search .search .inv .2 .values-long
 
 same-length-6 : tie.Need-same-length-6 Inv-loop μ-loop Inv-search μ-search
-same-length-6 c = c .before .before .before .before .before .before .before .before .before .before .put .ensures .0 .feeds-long ∙ c .before .before .before .before .before .before .before .before .before .before .before .before .before .before .search .inv .2 .feeds-long
+same-length-6 c =
+    let put = c .before .before .before .before .before .before .before .before .before .before in
+    let search = put .before .before .before .before in
+    put .put .ensures .0 .feeds-long ∙ search .search .inv .2 .feeds-long
 
 returns-3 : tie.Need-returns-3 Inv-loop μ-loop Inv-search μ-search
 returns-3 c =
-    let others = others-then (c .before .before .before .before .before .before .before .before .before .before .before .before .before .before .search .inv .2) (c .before .before .before .before .before .before .before .before .before .before .put .ensures .0) in
-    let room = roomy-kept (c .before .before .before .before .before .before .before .before .before .before .before .before .before .before .before .before .before .before .before .before .pre .0) others in
-    let lacking = searched-lacks (c .before .before .before .before .loop .inv .2) (omega (arith, room .values-long, room .few)) (c .before .before .before .loop-test .taken) (c .before .lacks .ensures) (c .if2 .taken) in
-    (others, after-lacks (c .before .before .before .before .before .before .before .before .before .before .before .before .before .before .search .inv .3) (c .before .before .before .before .before .before .before .before .before .before .before .before .before .search-test .taken) (c .before .before .before .before .before .before .before .before .before .before .put .ensures .1) (c .before .before .before .before .before .if1 .left) lacking)
+    let put = c .before .before .before .before .before .before .before .before .before .before in
+    let search = put .before .before .before .before in
+    let others = others-then (search .search .inv .2) (put .put .ensures .0) in
+    let pre = search .before .before .before .before .before .before .pre in
+    let room = roomy-kept (pre .0) others in
+    let turn = c .before .before .before .before in
+    let lacking = searched-lacks (turn .loop .inv .2) (omega (arith, room .values-long, room .few)) (c .before .before .before .loop-test .taken) (c .before .lacks .ensures) (c .if2 .taken) in
+    (others, after-lacks (search .search .inv .3) (put .before .before .before .search-test .taken) (put .put .ensures .1) (turn .before .if1 .left) lacking)
 
 pub vectors-spec : {M : Type 1} → statement M
 vectors-spec =

@@ -1,0 +1,168 @@
+-- Statements and one statement, one proof for both: a Loop's body may stand one level less deep, so that twice the levels fall. What is kept at each
+-- statement: reading on behind those so far is reading them all, and the code has the measure and the uses of those.
+use Prim.Native.Nat.{_+_, _*_}
+use native.Mathlib.Omega.{arith}
+use mathlib.Core.Path.{_≡_, refl, _∙_}
+use lib.ListN.{length}
+use borrow.Author.Needs.{needs}
+use Rattle.meaning.specs.Bounds.{signalsMost}
+use Rattle.meaning.specs.Statements.{Env}
+use Rattle.words.proofs.Loops.{room}
+use Rattle.measures.specs.Uses.{rowLength}
+use Rattle.heads.specs.Known.{Describes}
+use Rattle.bodies.proofs.Beginning.{looped-deep, looped-whole}
+use Rattle.bodies.proofs.Reading.{Reading, reading-none, reading-more, reading-less, reading-all}
+use Prim.Native.Nat.{ℕ, _<_}
+use borrow.Fn.Kinds.{In}
+use borrow.Fn.PlainCycle.{Measures, is, falls, and}
+use Rattle.bodies.proofs.statement.Reads as statement′
+use Rattle.bodies.proofs.statement.Kinds as statement-kinds
+use Rattle.bodies.proofs.+statement+statements.Lts-statement as statement-lts
+use Rattle.bodies.proofs.statements.Reads as statements
+use Rattle.bodies.proofs.statements.Kinds as statements-kinds
+use Rattle.bodies.proofs.+statement+statements.Lts-statements as statements-lts
+use Rattle.bodies.proofs.begin.Reads as begin-reads
+use Rattle.bodies.proofs.went.Reads as went-reads
+use Rattle.measures.proofs.looped.Reads as looped-reads
+use Rattle.measures.proofs.nothing.Reads as nothing-reads
+use Rattle.measures.proofs.plus.Reads as plus-reads
+use Rattle.bodies.proofs.+statement+statements.{statement}
+use Rattle.bodies.proofs.+statement+statements.Tie.{close}
+
+abbrev μ-statement : Measures 3 statement-kinds.ps ℕ
+μ-statement κs a = 2 * a .1 .1 .1 .1 .1 .1 .1 .1 .1 .0
+
+abbrev μ-statements : Measures 3 statements-kinds.ps ℕ
+μ-statements κs a = 2 * a .1 .1 .1 .1 .1 .1 .1 .1 .1 .0 + 1
+
+abbrev statement-at : ℕ → In 3 statement-kinds.ps
+statement-at t = and 3 statement-kinds.ps (is 3 statement-kinds.ps μ-statement t) statement′.Pre
+
+abbrev statement-below : ℕ → In 3 statement-kinds.ps
+statement-below t =
+    and 3 statement-kinds.ps (falls 3 statement-kinds.ps _<_ μ-statement t) statement′.Pre
+
+abbrev statements-at : ℕ → In 3 statements-kinds.ps
+statements-at t =
+    and 3 statements-kinds.ps (is 3 statements-kinds.ps μ-statements t) statements.Pre
+
+abbrev statements-below : ℕ → In 3 statements-kinds.ps
+statements-below t =
+    and 3 statements-kinds.ps (falls 3 statements-kinds.ps _<_ μ-statements t) statements.Pre
+
+abbrev statement-calls : ℕ → statement-lts.Claims
+statement-calls t = (begin-reads.Asked, begin-reads.Learnt, statements-below t, statements.Post, looped-reads.Asked, looped-reads.Learnt, plus-reads.Asked, plus-reads.Learnt, went-reads.Asked, went-reads.Learnt)
+
+abbrev statements-calls : ℕ → statements-lts.Claims
+statements-calls t = (nothing-reads.Asked, nothing-reads.Learnt, statement-below t, statement′.Post)
+
+statement-begin-requires : (t : ℕ) → statement-lts.Need-begin-requires (statement-calls t) (statement-at t) statement′.Post
+statement-begin-requires t c κs = c .before .before .before .before .before .before .before .before .before .before .pre .1
+
+statement-same-length : (t : ℕ) → statement-lts.Need-same-length (statement-calls t) (statement-at t) statement′.Post
+statement-same-length t c = search needs
+
+statement-same-length-2 : (t : ℕ) → statement-lts.Need-same-length-2 (statement-calls t) (statement-at t) statement′.Post
+statement-same-length-2 t c = search needs
+
+statement-returns : (t : ℕ) → statement-lts.Need-returns (statement-calls t) (statement-at t) statement′.Post
+statement-returns t c = λ e s. c .before .before .before .before .before .begin .ensures e s .whole (c .if1 .taken)
+
+statement-sub-statements : (t : ℕ) → statement-lts.Need-sub-statements (statement-calls t) (statement-at t) statement′.Post
+statement-sub-statements t c =
+    let deep = looped-deep (c .before .before .before .before .before .before .begin .ensures (c .before .before .before .before .before .before .before .before .before .before .before .before .before .before .before .before .before .pre .1 .0 .env) (c .before .before .before .before .before .before .before .before .before .before .before .before .before .before .before .before .before .pre .1 .0 .describes)) (c .before .if1 .left) in
+    omega arith
+
+statement-statements-requires : (t : ℕ) → statement-lts.Need-statements-requires (statement-calls t) (statement-at t) statement′.Post
+statement-statements-requires t c κs =
+    let deep = looped-deep (c .before .before .before .before .before .before .before .before .begin .ensures (c .before .before .before .before .before .before .before .before .before .before .before .before .before .before .before .before .before .before .before .pre .1 .0 .env) (c .before .before .before .before .before .before .before .before .before .before .before .before .before .before .before .before .before .before .before .pre .1 .0 .describes)) (c .before .before .before .if1 .left) in
+    (omega (arith, c .before .before .before .before .before .before .before .before .before .before .before .before .before .before .before .before .before .before .before .pre .0), (c .before .before .before .before .before .before .before .before .before .before .before .before .before .before .before .before .before .before .before .pre .1 .0, omega (arith, c .before .before .before .before .before .before .before .before .before .before .before .before .before .before .before .before .before .before .before .pre .1 .1), c .before .before .before .before .before .before .before .before .begin .kept .1 .1 .1 .1 .1 .1 .1 .1 .1 .1 .1 .1 .0 ∙ c .before .before .before .before .before .before .before .before .before .before .before .before .before .before .before .before .before .before .before .pre .1 .2, c .before .before .before .before .before .before .before .before .begin .kept .1 .1 .1 .1 .1 .1 .1 .1 .1 .1 .1 .1 .1 .0 ∙ c .before .before .before .before .before .before .before .before .before .before .before .before .before .before .before .before .before .before .before .pre .1 .3))
+
+statement-looped-requires : (t : ℕ) → statement-lts.Need-looped-requires (statement-calls t) (statement-at t) statement′.Post
+statement-looped-requires t c κs = search needs
+
+statement-plus-requires : (t : ℕ) → statement-lts.Need-plus-requires (statement-calls t) (statement-at t) statement′.Post
+statement-plus-requires t c κs = search needs
+
+statement-went-requires : (t : ℕ) → statement-lts.Need-went-requires (statement-calls t) (statement-at t) statement′.Post
+statement-went-requires t c κs = search needs
+
+statement-same-length-3 : (t : ℕ) → statement-lts.Need-same-length-3 (statement-calls t) (statement-at t) statement′.Post
+statement-same-length-3 t c = c .before .before .before .before .before .before .before .before .before .statements .kept .1 .1 .1 .1 .1 .1 .1 .1 .1 .1 .0 ∙ c .before .before .before .before .before .before .before .before .before .before .before .before .before .before .before .before .before .before .begin .kept .1 .1 .1 .1 .1 .1 .1 .1 .1 .1 .1 .1 .0
+
+statement-same-length-4 : (t : ℕ) → statement-lts.Need-same-length-4 (statement-calls t) (statement-at t) statement′.Post
+statement-same-length-4 t c = c .before .before .before .before .before .before .before .before .before .statements .kept .1 .1 .1 .1 .1 .1 .1 .1 .1 .1 .1 .0 ∙ c .before .before .before .before .before .before .before .before .before .before .before .before .before .before .before .before .before .before .begin .kept .1 .1 .1 .1 .1 .1 .1 .1 .1 .1 .1 .1 .1 .0
+
+statement-returns-2 : (t : ℕ) → statement-lts.Need-returns-2 (statement-calls t) (statement-at t) statement′.Post
+statement-returns-2 t c = λ e s. looped-whole (c .before .before .before .before .before .before .before .before .before .before .before .before .before .before .before .before .before .before .begin .ensures e s) (c .before .before .before .before .before .before .before .before .before .before .before .before .before .if1 .left) (c .before .before .before .before .before .before .before .before .before .statements .ensures .2 e s) (c .before .before .looped .ensures) (c .before .plus .ensures) (c .went .ensures)
+
+abbrev statements-Inv-loop : statements-lts.InvT-loop
+statements-Inv-loop text places lists tplaces book rows known own d row₀ args₀ cursor₀ measure₀ seen₀ ends₀ row args cursor measure seen ends =
+    (length row ≡ rowLength)
+    × (length args ≡ signalsMost * 2)
+    × ((e : Env) → Describes text places lists tplaces book rows known e → Reading text e own d cursor₀ cursor ends seen measure row₀ row)
+
+abbrev statements-μ-loop : statements-lts.MeasureT-loop
+statements-μ-loop text places lists tplaces book rows known own d row₀ args₀ cursor₀ measure₀ seen₀ ends₀ row args cursor measure seen ends =
+    room text cursor
+
+statements-nothing-requires : (t : ℕ) → statements-lts.Need-nothing-requires (statements-calls t) (statements-at t) statements.Post statements-Inv-loop statements-μ-loop
+statements-nothing-requires t c κs = search needs
+
+statements-loop-holds : (t : ℕ) → statements-lts.Need-loop-holds (statements-calls t) (statements-at t) statements.Post statements-Inv-loop statements-μ-loop
+statements-loop-holds t c = (c .before .before .before .before .before .before .before .before .before .pre .1 .2, c .before .before .before .before .before .before .before .before .before .pre .1 .3, λ e s. reading-none (c .nothing .ensures))
+
+statements-statement-requires : (t : ℕ) → statements-lts.Need-statement-requires (statements-calls t) (statements-at t) statements.Post statements-Inv-loop statements-μ-loop
+statements-statement-requires t c κs = (omega (arith, c .before .before .before .before .before .before .before .before .before .before .before .before .before .before .pre .0), (c .before .before .before .before .before .before .before .before .before .before .before .before .before .before .pre .1 .0, c .before .before .before .before .before .before .before .before .before .before .before .before .before .before .pre .1 .1, c .before .before .before .before .loop .inv .0, c .before .before .before .before .loop .inv .1))
+
+statements-loop-less : (t : ℕ) → statements-lts.Need-loop-less (statements-calls t) (statements-at t) statements.Post statements-Inv-loop statements-μ-loop
+statements-loop-less t c =
+    let s = c .before .before .before .before .before .before .before .before .before .before .before .before .before .before .before .before .before .before .before .before .before .pre .1 .0 in
+    reading-less (c .before .before .before .before .before .before .before .before .before .before .before .loop .inv .2 (s .env) (s .describes)) (c .before .before .before .before .before .before .before .before .before .if1 .taken) (c .before .before .before .before .before .before .statement .ensures (s .env) (s .describes))
+
+statements-loop-again : (t : ℕ) → statements-lts.Need-loop-again (statements-calls t) (statements-at t) statements.Post statements-Inv-loop statements-μ-loop
+statements-loop-again t c = (
+  c .before .before .before .before .before .before .statement .kept .1 .1 .1 .1 .1 .1 .1 .1 .1 .1 .1 .1 .0 ∙ c .before .before .before .before .before .before .before .before .before .before .before .loop .inv .0,
+  c .before .before .before .before .before .before .statement .kept .1 .1 .1 .1 .1 .1 .1 .1 .1 .1 .1 .1 .1 .0 ∙ c .before .before .before .before .before .before .before .before .before .before .before .loop .inv .1,
+  λ e s. reading-more (c .before .before .before .before .before .before .before .before .before .before .before .loop .inv .2 e s) (c .before .before .before .before .before .before .before .before .before .if1 .taken) (c .before .before .before .before .before .before .statement .ensures e s),
+)
+
+statements-same-length : (t : ℕ) → statements-lts.Need-same-length (statements-calls t) (statements-at t) statements.Post statements-Inv-loop statements-μ-loop
+statements-same-length t c = search needs
+
+statements-same-length-2 : (t : ℕ) → statements-lts.Need-same-length-2 (statements-calls t) (statements-at t) statements.Post statements-Inv-loop statements-μ-loop
+statements-same-length-2 t c = search needs
+
+statements-returns : (t : ℕ) → statements-lts.Need-returns (statements-calls t) (statements-at t) statements.Post statements-Inv-loop statements-μ-loop
+statements-returns t c = (c .before .before .loop .inv .0, c .before .before .loop .inv .1, λ e s. reading-all (c .before .before .loop .inv .2 e s) (c .if1 .left))
+
+pub +statement+statements-spec : {M : Type 1} → statement M
++statement+statements-spec = close μ-statement μ-statements (λ t. statement-lts.spec (statement-calls t)
+    (statement-at t)
+    statement′.Post
+    (statement-begin-requires t)
+    (statement-same-length t)
+    (statement-same-length-2 t)
+    (statement-returns t)
+    (statement-sub-statements t)
+    (statement-statements-requires t)
+    (statement-looped-requires t)
+    (statement-plus-requires t)
+    (statement-went-requires t)
+    (statement-same-length-3 t)
+    (statement-same-length-4 t)
+    (statement-returns-2 t))
+    λ t. statements-lts.spec
+    (statements-calls t)
+    (statements-at t)
+    statements.Post
+    statements-Inv-loop
+    statements-μ-loop
+    (statements-nothing-requires t)
+    (statements-loop-holds t)
+    (statements-statement-requires t)
+    (statements-loop-less t)
+    (statements-loop-again t)
+    (statements-same-length t)
+    (statements-same-length-2 t)
+    (statements-returns t)

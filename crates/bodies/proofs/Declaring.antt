@@ -1,0 +1,200 @@
+-- One body more: its readers one behind the other, and where none of them refused, the book and the rows describe it too.
+use Prim.Native.Nat.{ℕ, suc, _+_, _*_, _-_, _≤_, _<_}
+use native.Mathlib.Omega.{arith}
+use mathlib.Core.Path.{_≡_, refl, sym, ap, _∙_, subst}
+use mathlib.Core.Bool.{Bool, true, false, cond}
+use mathlib.Core.List.{List, [], _∷_, _++_}
+use lib.Dec.{leb}
+use lib.ListN.{length, replicate, length-append}
+use borrow.Author.Tests.{leb-false}
+use Rattle.tokens.specs.Tokens.{Tok, Toks, toks}
+use Rattle.meaning.specs.Bounds.{bodiesMost, depthMost}
+use Rattle.meaning.specs.Refusals.{tooMany}
+use Rattle.meaning.specs.Reader.{Res, Reader, _>>=_, after, give, due}
+use Rattle.meaning.specs.Names.{newName}
+use Rattle.meaning.specs.Body.{Body, done}
+use Rattle.meaning.specs.Statements.{Decl, Decls, Env, statements, declared}
+use Rattle.meaning.specs.Document.{oneBody, bodiesOf, oneMacro, oneProcedure}
+use Rattle.words.specs.declared.Cursor.{Cursor}
+use Rattle.words.specs.Cursor.{ahead, alive, stream, from, Goes, Checked}
+use Rattle.words.specs.Table.{names}
+use Rattle.words.proofs.Flow.{from-on, from-stop, given, then, checked, passed, alive-before}
+use Rattle.timing.specs.Makes.{Makes}
+use Rattle.timing.proofs.Making.{made}
+use Rattle.measures.specs.declared.Measure.{Measure}
+use Rattle.measures.specs.Measures.{Measures, joined}
+use Rattle.measures.specs.Uses.{rowLength, Uses}
+use Rattle.measures.specs.Book.{firstProcedure, bodies, Entry, Listed, Used, Kept, KeptRow}
+use Rattle.measures.proofs.Uses.{uses-none}
+use Rattle.measures.proofs.Book.{listed-append, listed-entries, new-listed, used-new, used-stays}
+use Rattle.arguments.proofs.Read.{due-behind}
+use Rattle.heads.specs.declared.Known.{Known}
+use Rattle.heads.specs.declared.Part.{Part}
+use Rattle.heads.specs.Known.{Describes}
+use Rattle.heads.specs.Heads.{partOf}
+use Rattle.heads.proofs.ByNumber.{of-part, fromFirst, from-first}
+use Rattle.heads.proofs.Callers.{describes-frame}
+use Rattle.bodies.specs.Bodies.{Summed}
+use Rattle.bodies.specs.Blocks.{oneMore, oneOf}
+use Rattle.bodies.proofs.Stating.{differ}
+
+-- ---- a declaration
+
+-- with the tokens from its first on
+pub declared-goes : {text : List ℕ} {c r : Cursor} {b : Body} (e : Env) (own : Bool) → Goes text c (statements e depthMost own) r b
+    → Goes text c (declared e own) r (record { body = b; from = stream text c })
+unfolding declared _>>=_
+declared-goes {text} {c} {r} {b} e own g = record { same = then whole g given .same ∙ by (alive c) refl }
+  where
+    whole : Body → Reader Decl
+    whole b = give (record { body = b; from = stream text c })
+
+    by : (z : Bool) → alive c ≡ z → from text c (statements e depthMost own >>= whole) ≡ from text c (declared e own)
+    by true q = from-on text c _ q ∙ sym (from-on text c _ q)
+    by false q = from-stop text c _ q ∙ sym (from-stop text c _ q)
+
+-- ---- the tables with one body more
+
+-- the bodies of a kind, and an environment with others of it
+abbrev declsOf : Env → Bool → Decls
+declsOf e macros = cond macros (e .macros) (e .procs)
+
+abbrev withDecls : Env → Bool → Decls → Env
+withDecls e true ds = record { names = e .names; tables = e .tables; macros = ds; procs = e .procs }
+withDecls e false ds = record { names = e .names; tables = e .tables; macros = e .macros; procs = ds }
+
+length-more : {A : Type 0} (l : List A) (x : A) {n : ℕ} → length l ≡ n → length (l ++ x ∷ []) ≡ n + 1
+length-more l x q = length-append l (x ∷ []) ∙ ap (λ (k : ℕ). k + 1) q
+
+-- one behind the others of its kind
+module _ {text places lists tplaces book rows : List ℕ} {known : Known} {e : Env} (s : Describes text places lists tplaces book rows known e)
+    (room : known .macros + known .procs < bodiesMost) {x : Tok × Decl} where
+  listed-more : (i n : ℕ) (ds : Decls) → length ds ≡ n → Listed (Used text book rows) i ds → Used text book rows (i + n) x → Listed (Used text book rows) i (ds ++ x ∷ [])
+  listed-more i n ds q l u =
+      listed-append (Used text book rows) i ds l (subst (λ (k : ℕ). Used text book rows (i + k) x) (sym q) u)
+
+  describes-one : (macros : Bool) → Used text book rows (partOf known macros .first + partOf known macros .count) x
+      → Describes text places lists tplaces book rows (oneMore known macros) (withDecls e macros (declsOf e macros ++ x ∷ []))
+  describes-one true u =
+      record {
+        names-are = s .names-are;
+        ready = s .ready;
+        tables-are = s .tables-are;
+        few-tables = s .few-tables;
+        book-long = s .book-long;
+        rows-long = s .rows-long;
+        macros-counted = length-more (e .macros) x (s .macros-counted);
+        procs-counted = s .procs-counted;
+        few-bodies = omega arith;
+        macros-are = listed-more 0 (known .macros) (e .macros) (s .macros-counted) (s .macros-are) u;
+        procs-are = s .procs-are;
+      }
+  describes-one false u =
+      record {
+        names-are = s .names-are;
+        ready = s .ready;
+        tables-are = s .tables-are;
+        few-tables = s .few-tables;
+        book-long = s .book-long;
+        rows-long = s .rows-long;
+        macros-counted = s .macros-counted;
+        procs-counted = length-more (e .procs) x (s .procs-counted);
+        few-bodies = omega arith;
+        macros-are = s .macros-are;
+        procs-are = listed-more firstProcedure (known .procs) (e .procs) (s .procs-counted) (s .procs-are) u;
+      }
+
+-- ---- the next number of a kind
+
+module _ (known : Known) {part : Part} (macros : Bool) (part-is : part ≡ partOf known macros) where
+  pub first-most : part .first ≤ firstProcedure
+  first-most = rw part-is (by macros)
+    where
+      by : (z : Bool) → partOf known z .first ≤ firstProcedure
+      by true = omega arith
+      by false = omega arith
+
+  module _ (room : known .macros + known .procs < bodiesMost) where
+    -- is one of a body
+    pub next-below : part .first + part .count < bodies
+    next-below = rw part-is (by macros)
+      where
+        by : (z : Bool) → partOf known z .first + partOf known z .count < bodies
+        by true = omega arith
+        by false = omega arith
+
+    -- and is no other's
+    no-macro : (j : ℕ) → j < known .macros → j ≡ part .first + part .count → ⊥
+    no-macro j l = rw part-is (by macros)
+      where
+        by : (z : Bool) → j ≡ partOf known z .first + partOf known z .count → ⊥
+        by true q = omega arith
+        by false q = omega arith
+
+    no-procedure : (j : ℕ) → firstProcedure ≤ j → j < firstProcedure + known .procs → j ≡ part .first + part .count → ⊥
+    no-procedure j f l = rw part-is (by macros)
+      where
+        by : (z : Bool) → j ≡ partOf known z .first + partOf known z .count → ⊥
+        by true q = omega arith
+        by false q = omega arith
+
+-- ---- the readers
+
+one-due : (macros : Bool) (e : Env) → oneOf macros e ≡ (oneBody e (bodiesOf e) (declsOf e macros) >>= λ ds. give (withDecls e macros ds))
+unfolding oneOf oneMacro oneProcedure
+one-due true e = refl
+one-due false e = refl
+
+module _ {text places lists tplaces book rows : List ℕ} {known : Known} {e : Env} {part : Part} (macros : Bool) (part-is : part ≡ partOf known macros)
+    (s : Describes text places lists tplaces book rows known e) {c a b d r : Cursor} {p : ℕ} {row : List ℕ} {x : Measure}
+    (name : Goes text c (newName (names text (fromFirst book part) (part .count))) a (ahead text c))
+    (few : Checked a (leb bodiesMost (known .macros + known .procs)) tooMany (c .at) b) (opening : Goes text b (due "{") d p)
+    (body : Makes text d (statements e depthMost true) r (Summed true (replicate rowLength 0) row x)) where
+  new : Goes text c (newName (declsOf e macros)) a (ahead text c)
+  new =
+      let o = of-part s macros part-is in
+      new-listed text book (part .first) (declsOf e macros) (listed-entries text book rows (part .first) (declsOf e macros) (o .listed))
+      (rw (o .counted, ← from-first book part) name)
+
+  counted-all : bodiesOf e ≡ known .macros + known .procs
+  unfolding bodiesOf
+  counted-all = rw (s .macros-counted, s .procs-counted)
+
+  decl : Decl
+  decl = record { body = body .it; from = stream text d }
+
+  read-all : Goes text c (oneOf macros e) r (withDecls e macros (declsOf e macros ++ (ahead text c, decl) ∷ []))
+  unfolding oneBody decl
+  read-all =
+      rw (one-due macros e)
+      (then _
+      (then _ new
+      (then _ (checked few (ap (leb bodiesMost) (sym counted-all)) refl)
+      (then _ opening (then _ (declared-goes e true (body .goes)) given))))
+      given)
+
+  pub body-refused : {P : Env → Type 0} → alive r ≡ false → Makes text c (oneOf macros e) r P
+  body-refused off = made read-all (λ live. differ (sym live ∙ off))
+
+  module _ (live : alive r ≡ true) where
+    pub room-for : known .macros + known .procs < bodiesMost
+    room-for = leb-false bodiesMost (known .macros + known .procs) (passed few refl (alive-before opening (alive-before (body .goes) live)))
+
+    module _ {book′ rows′ : List ℕ} (k : Kept book (part .first + part .count) c (b .end) x book′) (kr : KeptRow rows (part .first + part .count) row rows′) where
+      others-stay : Describes text places lists tplaces book′ rows′ known e
+      others-stay =
+          describes-frame s (k .long) (kr .long)
+          (λ j y l u. used-stays k text kr (omega (arith, s .few-bodies)) (no-macro known macros part-is room-for j l) u)
+          (λ j y f l u. used-stays k text kr (omega (arith, s .few-bodies)) (no-procedure known macros part-is room-for j f l) u)
+
+      new-used : Used text book′ rows′ (part .first + part .count) (ahead text c, decl)
+      unfolding decl joined
+      new-used =
+          let h = body .held live in
+          used-new k text kr decl (due-behind _ opening (alive-before (body .goes) live)) (h .measured) (h .counted .counts refl done uses-none)
+
+      pub body-kept : {known′ : Known} → known′ ≡ oneMore known macros
+          → Makes text c (oneOf macros e) r (λ f. Describes text places lists tplaces book′ rows′ known′ f)
+      body-kept q =
+          let u = subst (λ (z : Part). Used text book′ rows′ (z .first + z .count) (ahead text c, decl)) part-is new-used in
+          made read-all (λ l. rw q (describes-one others-stay room-for macros u))

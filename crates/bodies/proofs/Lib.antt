@@ -1,0 +1,10 @@
+mod Turning
+mod Allowed
+mod Rowing
+mod Shifting
+mod Telling
+mod Stating
+mod Beginning
+mod Reading
+mod Declaring
+mod Ordering

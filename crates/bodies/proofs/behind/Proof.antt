@@ -1,0 +1,162 @@
+-- `behind` meets its contract: one law for each head.
+use mathlib.Core.Path.{_≡_, refl, sym, _∙_}
+use native.Mathlib.Omega.{arith}
+use borrow.Author.Tests.{eq-eqb, ne-eqb}
+use Rattle.bodies.proofs.Telling.{told-uses}
+use Rattle.bodies.proofs.Beginning.{begun-refused, begun-ends, begun-vector, begun-assigns, begun-chooses, begun-loop, begun-shift, begun-used}
+use borrow.Author.Needs.{needs}
+use Rattle.bodies.proofs.behind.Statement.{statement}
+use Rattle.bodies.proofs.behind.Tie as tie
+
+last-requires : tie.Need-last-requires
+last-requires c κs = search needs
+
+returns : tie.Need-returns
+returns c = λ e d k n t. begun-refused t (ne-eqb _ _ (c .before .if1 .taken)) (c .last .ensures)
+
+enum-told : tie.Need-enum-told
+enum-told c = search needs
+
+last-requires-2 : tie.Need-last-requires-2
+last-requires-2 c κs = search needs
+
+enum-known-what : tie.Need-enum-known-what
+enum-known-what c = search needs
+
+count-requires : tie.Need-count-requires
+count-requires c κs = search needs
+
+vector-requires : tie.Need-vector-requires
+vector-requires c κs = search needs
+
+plus-requires : tie.Need-plus-requires
+plus-requires c κs = search needs
+
+went-requires : tie.Need-went-requires
+went-requires c κs = search needs
+
+enum-told-2 : tie.Need-enum-told-2
+enum-told-2 c = search needs
+
+setting-requires : tie.Need-setting-requires
+setting-requires c κs = search needs
+
+plus-requires-2 : tie.Need-plus-requires-2
+plus-requires-2 c κs = search needs
+
+went-requires-2 : tie.Need-went-requires-2
+went-requires-2 c κs = search needs
+
+enum-known-what-2 : tie.Need-enum-known-what-2
+enum-known-what-2 c = search needs
+
+setting-requires-2 : tie.Need-setting-requires-2
+setting-requires-2 c κs = search needs
+
+plus-requires-3 : tie.Need-plus-requires-3
+plus-requires-3 c κs = search needs
+
+went-requires-3 : tie.Need-went-requires-3
+went-requires-3 c κs = search needs
+
+enum-known-what-3 : tie.Need-enum-known-what-3
+enum-known-what-3 c = search needs
+
+enum-told-3 : tie.Need-enum-told-3
+enum-told-3 c = search needs
+
+in-shift-requires : tie.Need-in-shift-requires
+in-shift-requires c κs = search needs
+
+shift-requires : tie.Need-shift-requires
+shift-requires c κs = search needs
+
+plus-requires-4 : tie.Need-plus-requires-4
+plus-requires-4 c κs = search needs
+
+went-requires-4 : tie.Need-went-requires-4
+went-requires-4 c κs = search needs
+
+enum-known-what-4 : tie.Need-enum-known-what-4
+enum-known-what-4 c = search needs
+
+measure-at-requires : tie.Need-measure-at-requires
+measure-at-requires c κs = (c .before .before .before .before .before .before .before .before .before .before .before .before .pre .0 .3, (let g = told-uses (c .before .before .before .before .before .before .before .before .before .before .before .before .pre .1 .2) (eq-eqb _ _ (c .before .before .before .if1 .left)) (c .before .what4 .given .1) in omega (arith, g .4)))
+
+used-requires : tie.Need-used-requires
+used-requires c κs = search needs
+
+plus-requires-5 : tie.Need-plus-requires-5
+plus-requires-5 c κs = search needs
+
+went-requires-5 : tie.Need-went-requires-5
+went-requires-5 c κs = search needs
+
+returns-2 : tie.Need-returns-2
+returns-2 c = λ e d k n t. begun-ends t (eq-eqb _ _ (c .before .before .before .if1 .left)) (c .before .enum-told .given .1) (c .last2 .ensures)
+
+same-length : tie.Need-same-length
+same-length c = search needs
+
+returns-3 : tie.Need-returns-3
+returns-3 c = λ e d k n t. begun-vector t (eq-eqb _ _ (c .before .before .before .before .before .before .before .before .before .before .if1 .left)) (c .before .plus .ensures) (c .before .before .before .before .before .before .before .before .what .given .1) (c .before .before .vector .ensures) (c .before .before .before .before .before .count .ensures) (c .went .ensures)
+
+returns-4 : tie.Need-returns-4
+returns-4 c = λ e d k n t. begun-assigns t (eq-eqb _ _ (c .before .before .before .before .before .if1 .left)) (c .before .plus2 .ensures) (c .before .before .setting .ensures) (c .went2 .ensures) (c .before .before .before .enum-told2 .given .1)
+
+returns-5 : tie.Need-returns-5
+returns-5 c = λ e d k n t. begun-chooses t (eq-eqb _ _ (c .before .before .before .before .before .before .if1 .left)) (c .before .plus3 .ensures) (c .before .before .setting2 .ensures) (c .went3 .ensures) (c .before .before .before .before .what2 .given .1)
+
+returns-6 : tie.Need-returns-6
+returns-6 c = λ e d k n t. begun-loop t (eq-eqb _ _ (c .before .before .before .if1 .left)) (c .before .what3 .given .1)
+
+same-length-2 : tie.Need-same-length-2
+same-length-2 c = search needs
+
+returns-7 : tie.Need-returns-7
+returns-7 c = λ e d k n t. begun-shift t (eq-eqb _ _ (c .before .before .before .before .before .before .before .before .before .if1 .left)) (c .before .plus4 .ensures) (c .before .before .before .before .before .before .before .enum-told3 .given .1) n (c .before .before .before .before .before .in-shift .ensures) (c .before .before .shift .ensures) (c .went4 .ensures)
+
+returns-8 : tie.Need-returns-8
+returns-8 c = λ e d k n t. begun-used t (eq-eqb _ _ (c .before .before .before .before .before .before .before .if1 .left)) (c .before .plus5 .ensures) (c .before .before .before .before .before .what4 .given .1) (c .before .before .before .measure-at .ensures) (c .before .before .used .ensures) (c .went5 .ensures)
+
+pub behind-spec : {M : Type 1} → statement M
+behind-spec =
+    tie.close
+    (tie.spec
+    last-requires
+    returns
+    enum-told
+    last-requires-2
+    enum-known-what
+    count-requires
+    vector-requires
+    plus-requires
+    went-requires
+    enum-told-2
+    setting-requires
+    plus-requires-2
+    went-requires-2
+    enum-known-what-2
+    setting-requires-2
+    plus-requires-3
+    went-requires-3
+    enum-known-what-3
+    enum-told-3
+    in-shift-requires
+    shift-requires
+    plus-requires-4
+    went-requires-4
+    enum-known-what-4
+    measure-at-requires
+    used-requires
+    plus-requires-5
+    went-requires-5
+    returns-2
+    same-length
+    returns-3
+    returns-4
+    returns-5
+    returns-6
+    same-length-2
+    returns-7
+    returns-8)

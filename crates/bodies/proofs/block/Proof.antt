@@ -1,0 +1,107 @@
+-- `block` meets its contract. What is kept at each body: reading on with what is declared so far is reading the whole block, and the tables describe that.
+use mathlib.Core.Path.{_≡_, refl, _∙_}
+use mathlib.Core.Bool.{not}
+use lib.ListN.{length}
+use borrow.Author.Needs.{needs}
+use Rattle.tokens.specs.Written.{bytes}
+use Rattle.meaning.specs.Reader.{aheadOf, while}
+use Rattle.meaning.specs.Statements.{Env}
+use Rattle.words.proofs.Loops.{room, on}
+use Rattle.timing.proofs.Making.{Looping, looping, again, fewer, leaves, closes, makes-onward}
+use Rattle.heads.specs.Known.{Describes}
+use Rattle.bodies.specs.Blocks.{oneOf}
+use Rattle.bodies.proofs.Ordering.{takes-one, block-there, block-missing}
+use Rattle.bodies.proofs.block.Statement.{statement}
+use Rattle.bodies.proofs.block.Tie as tie
+
+abbrev Inv-loop : tie.InvT-loop
+Inv-loop text places lists tplaces book₀ rows₀ macros args₀ cursor₀ all₀ t15 t16 book rows args cursor all =
+    (length book ≡ length book₀)
+    × (length rows ≡ length rows₀)
+    × (length args ≡ length args₀)
+    × ((e : Env) → Describes text places lists tplaces book₀ rows₀ all₀ e
+    → Looping text cursor₀ (while (λ ts. not (aheadOf t15 ts)) (oneOf macros) e) (λ ts. not (aheadOf t15 ts)) (oneOf macros) cursor
+    (λ f. Describes text places lists tplaces book rows all f))
+
+abbrev μ-loop : tie.MeasureT-loop
+μ-loop text places lists tplaces book₀ rows₀ macros args₀ cursor₀ all₀ t15 t16 book rows args cursor all =
+    room text cursor
+
+begins-requires : tie.Need-begins-requires Inv-loop μ-loop
+begins-requires c κs = search needs
+
+returns : tie.Need-returns Inv-loop μ-loop
+unfolding bytes
+returns c = λ e s. block-missing (c .before .before .before .before .before .before .before .before .before .args .macros) e (c .before .begins .ensures) (c .if1 .taken) s
+
+opened-requires : tie.Need-opened-requires Inv-loop μ-loop
+opened-requires c κs = search needs
+
+loop-holds : tie.Need-loop-holds Inv-loop μ-loop
+loop-holds c = (refl, refl, refl, λ e s. looping e (λ live. s))
+
+slice-aggregate-until : tie.Need-slice-aggregate-until Inv-loop μ-loop
+slice-aggregate-until c = search needs
+
+until-requires : tie.Need-until-requires Inv-loop μ-loop
+until-requires c κs = search needs
+
+one-body-requires : tie.Need-one-body-requires Inv-loop μ-loop
+one-body-requires c κs =
+    let l = c .before .before .before .before .before .before .loop .inv .3 (c .before .before .before .before .before .before .before .before .before .before .before .before .before .before .before .before .before .pre .0 .env) (c .before .before .before .before .before .before .before .before .before .before .before .before .before .before .before .before .before .pre .0 .describes) in
+    (record { env = l .state; describes = l .kept (on _ _ (c .before .before .before .before .until .ensures) (c .before .before .before .if2 .taken)) }, c .before .before .before .before .before .before .loop .inv .2 ∙ c .before .before .before .before .before .before .before .before .before .before .before .before .before .before .before .before .before .pre .1)
+
+loop-less : tie.Need-loop-less Inv-loop μ-loop
+loop-less c = fewer (takes-one (c .before .before .before .before .before .before .before .before .before .before .before .before .before .before .before .before .before .before .before .before .before .before .before .before .before .before .args .macros)) (c .before .before .before .before .before .before .before .before .before .before .before .before .before .before .before .loop .inv .3 (c .before .before .before .before .before .before .before .before .before .before .before .before .before .before .before .before .before .before .before .before .before .before .before .before .before .before .pre .0 .env) (c .before .before .before .before .before .before .before .before .before .before .before .before .before .before .before .before .before .before .before .before .before .before .before .before .before .before .pre .0 .describes)) (c .before .before .before .before .before .before .before .before .before .before .before .before .before .until .ensures) (c .before .before .before .before .before .before .before .before .before .before .before .before .if2 .taken) (c .before .before .before .before .before .before .before .before .one-body .ensures)
+
+loop-again : tie.Need-loop-again Inv-loop μ-loop
+loop-again c = (
+  c .before .before .before .before .before .before .before .before .one-body .kept .1 .1 .1 .1 .1 .0 ∙ c .before .before .before .before .before .before .before .before .before .before .before .before .before .before .before .loop .inv .0,
+  c .before .before .before .before .before .before .before .before .one-body .kept .1 .1 .1 .1 .1 .1 .0 ∙ c .before .before .before .before .before .before .before .before .before .before .before .before .before .before .before .loop .inv .1,
+  c .before .before .before .before .before .before .before .before .one-body .kept .1 .1 .1 .1 .1 .1 .1 .1 .1 .0 ∙ c .before .before .before .before .before .before .before .before .before .before .before .before .before .before .before .loop .inv .2,
+  λ e s. again (takes-one (c .before .before .before .before .before .before .before .before .before .before .before .before .before .before .before .before .before .before .before .before .before .before .before .before .before .before .args .macros)) (c .before .before .before .before .before .before .before .before .before .before .before .before .before .before .before .loop .inv .3 e s) (c .before .before .before .before .before .before .before .before .before .before .before .before .before .until .ensures) (c .before .before .before .before .before .before .before .before .before .before .before .before .if2 .taken) (c .before .before .before .before .before .before .before .before .one-body .ensures),
+)
+
+slice-aggregate-due : tie.Need-slice-aggregate-due Inv-loop μ-loop
+slice-aggregate-due c = search needs
+
+due-requires : tie.Need-due-requires Inv-loop μ-loop
+due-requires c κs = search needs
+
+same-length : tie.Need-same-length Inv-loop μ-loop
+same-length c = c .before .before .before .before .before .loop .inv .0
+
+same-length-2 : tie.Need-same-length-2 Inv-loop μ-loop
+same-length-2 c = c .before .before .before .before .before .loop .inv .1
+
+same-length-3 : tie.Need-same-length-3 Inv-loop μ-loop
+same-length-3 c = c .before .before .before .before .before .loop .inv .2
+
+returns-2 : tie.Need-returns-2 Inv-loop μ-loop
+unfolding bytes
+returns-2 c =
+    λ e s.
+    block-there (c .before .before .before .before .before .before .before .before .before .before .before .before .before .before .before .before .args .macros) e (c .before .before .before .before .before .before .before .before .begins .ensures) (c .before .before .before .before .before .before .before .if1 .left)
+    (makes-onward (c .before .before .before .before .before .before .opened .ensures _) (closes "}" (oneOf (c .before .before .before .before .before .before .before .before .before .before .before .before .before .before .before .before .args .macros)) e (leaves (takes-one (c .before .before .before .before .before .before .before .before .before .before .before .before .before .before .before .before .args .macros)) (c .before .before .before .before .before .loop .inv .3 e s) (c .before .before .before .until .ensures) (c .before .before .if2 .left)) (c .due .ensures)))
+
+pub block-spec : {M : Type 1} → statement M
+block-spec =
+    tie.close
+    (tie.spec
+    Inv-loop
+    μ-loop
+    begins-requires
+    returns
+    opened-requires
+    loop-holds
+    slice-aggregate-until
+    until-requires
+    one-body-requires
+    loop-less
+    loop-again
+    slice-aggregate-due
+    due-requires
+    same-length
+    same-length-2
+    same-length-3
+    returns-2)

@@ -1,0 +1,21 @@
+-- `count` meets its contract.
+use mathlib.Core.Path.{_≡_, refl, sym, _∙_}
+use Rattle.bodies.proofs.Stating.{differ}
+use borrow.Author.Needs.{needs}
+use Rattle.bodies.proofs.count.Statement.{statement}
+use Rattle.bodies.proofs.count.Tie as tie
+
+count-uses-requires : tie.Need-count-uses-requires
+count-uses-requires c κs = search needs
+
+same-length : tie.Need-same-length
+same-length c = search needs
+
+returns : tie.Need-returns
+returns c = λ p a g. record { counts = λ o b. c .before .before .count-uses .ensures p a b g; stays = λ o. differ (sym (c .before .before .before .before .if1 .taken) ∙ o) }
+
+returns-2 : tie.Need-returns-2
+returns-2 c = λ p a g. record { counts = λ o. differ (sym o ∙ c .if1 .left); stays = λ o. refl }
+
+pub count-spec : {M : Type 1} → statement M
+count-spec = tie.close (tie.spec count-uses-requires same-length returns returns-2)

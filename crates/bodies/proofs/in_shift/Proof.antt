@@ -1,0 +1,77 @@
+-- `in_shift` meets its contract: where nothing was refused, the signals with `#` are marked in the row.
+use mathlib.Core.Path.{_≡_, sym, _∙_}
+use borrow.Author.Tests.{eq-eqb, ne-eqb}
+use Rattle.tokens.specs.Written.{bytes}
+use Rattle.assigns.proofs.Table.{gave-zeros}
+use Rattle.bodies.proofs.Stating.{differ}
+use Rattle.bodies.proofs.Shifting.{in-shift}
+use borrow.Author.Needs.{needs}
+use Rattle.bodies.proofs.in_shift.Statement.{statement}
+use Rattle.bodies.proofs.in_shift.Tie as tie
+
+slice-aggregate-due : tie.Need-slice-aggregate-due
+slice-aggregate-due c = search needs
+
+due-requires : tie.Need-due-requires
+due-requires c κs = search needs
+
+slice-aggregate-assigns : tie.Need-slice-aggregate-assigns
+slice-aggregate-assigns c = search needs
+
+assigns-requires : tie.Need-assigns-requires
+assigns-requires c κs = (c .before .before .before .before .before .before .before .pre .0, gave-zeros)
+
+slice-aggregate-due-2 : tie.Need-slice-aggregate-due-2
+slice-aggregate-due-2 c = search needs
+
+due-requires-2 : tie.Need-due-requires-2
+due-requires-2 c κs = search needs
+
+slice-aggregate-has-mark : tie.Need-slice-aggregate-has-mark
+slice-aggregate-has-mark c = search needs
+
+has-mark-requires : tie.Need-has-mark-requires
+has-mark-requires c κs = search needs
+
+refuse-if-requires : tie.Need-refuse-if-requires
+refuse-if-requires c κs = search needs
+
+returns : tie.Need-returns
+unfolding bytes
+returns c =
+    in-shift (c .before .before .before .before .before .before .before .before .before .before .before .before .before .before .before .before .pre .0 .usable .tidy) (c .before .before .before .before .before .before .before .before .before .before .due .ensures) (c .before .before .before .before .before .before .before .before .assigns .ensures) (c .before .before .before .before .before .due2 .ensures) (c .before .before .before .has-mark .ensures) (c .before .before .refuse-if .ensures)
+    (λ live. differ (sym live ∙ ne-eqb _ _ (c .if1 .taken)))
+
+slice-aggregate-mark-uses : tie.Need-slice-aggregate-mark-uses
+slice-aggregate-mark-uses c = search needs
+
+mark-uses-requires : tie.Need-mark-uses-requires
+mark-uses-requires c κs = (c .before .before .before .before .before .before .before .before .before .before .assigns .ensures .long, c .before .before .before .before .before .before .before .before .before .before .before .before .before .before .before .before .before .before .pre .1)
+
+same-length : tie.Need-same-length
+same-length c = search needs
+
+returns-2 : tie.Need-returns-2
+unfolding bytes
+returns-2 c =
+    in-shift (c .before .before .before .before .before .before .before .before .before .before .before .before .before .before .before .before .before .before .before .before .before .pre .0 .usable .tidy) (c .before .before .before .before .before .before .before .before .before .before .before .before .before .before .before .due .ensures) (c .before .before .before .before .before .before .before .before .before .before .before .before .before .assigns .ensures) (c .before .before .before .before .before .before .before .before .before .before .due2 .ensures) (c .before .before .before .before .before .before .before .before .has-mark .ensures) (c .before .before .before .before .before .before .before .refuse-if .ensures)
+    (λ live f. c .before .before .mark-uses .ensures (c .before .before .before .before .before .before .before .before .before .before .before .before .before .before .before .before .before .before .before .before .before .args .c .at) (c .before .before .before .before .before .before .before .before .before .before .before .before .before .assigns .ensures .it) f)
+
+pub in-shift-spec : {M : Type 1} → statement M
+in-shift-spec =
+    tie.close
+    (tie.spec
+    slice-aggregate-due
+    due-requires
+    slice-aggregate-assigns
+    assigns-requires
+    slice-aggregate-due-2
+    due-requires-2
+    slice-aggregate-has-mark
+    has-mark-requires
+    refuse-if-requires
+    returns
+    slice-aggregate-mark-uses
+    mark-uses-requires
+    same-length
+    returns-2)

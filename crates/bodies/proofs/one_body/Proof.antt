@@ -1,0 +1,134 @@
+-- `one_body` meets its contract: where nothing was refused, there was room for one body more, and the book and its row have it.
+use Prim.Native.Nat.{_+_, _<_}
+use mathlib.Core.Path.{_∙_}
+use native.Mathlib.Omega.{arith}
+use borrow.Author.Tests.{eq-eqb, ne-eqb}
+use Rattle.tokens.specs.Written.{bytes}
+use Rattle.meaning.specs.Bounds.{bodiesMost}
+use Rattle.bodies.proofs.Declaring.{first-most, next-below, room-for, body-refused, body-kept}
+use borrow.Author.Needs.{needs}
+use Rattle.bodies.proofs.one_body.Statement.{statement}
+use Rattle.bodies.proofs.one_body.Tie as tie
+
+-- where nothing was refused
+room : (k : tie.Else1) → k .before .before .before .before .before .before .before .before .before .before .before .before .before .before .before .before .before .before .before .before .before .before .before .before .before .before .args .known .macros + k .before .before .before .before .before .before .before .before .before .before .before .before .before .before .before .before .before .before .before .before .before .before .before .before .before .before .args .known .procs < bodiesMost
+unfolding bytes
+room k =
+    let s = k .before .before .before .before .before .before .before .before .before .before .before .before .before .before .before .before .before .before .before .before .before .before .before .before .before .before .pre .0 in
+    room-for (k .before .before .before .before .before .before .before .before .before .before .before .before .before .before .before .before .before .before .before .before .before .before .before .before .before .before .args .macros) (k .before .before .before .before .before .before .before .before .before .before .before .before .before .before .before .before .before .before .part-of .ensures) (s .describes) (k .before .before .before .before .before .before .before .before .before .before .before .before .before .before .before .new-name .ensures) (k .before .before .before .before .before .before .before .before .before .before .before .before .before .refuse-if .ensures) (k .before .before .before .before .before .before .before .before .before .before .before .due .ensures)
+    (k .before .before .before .before .before .before .statements .ensures .2 (s .env) (s .describes)) (eq-eqb _ _ (k .if1 .left))
+
+part-of-requires : tie.Need-part-of-requires
+part-of-requires c κs = search needs
+
+mul-new-name : tie.Need-mul-new-name
+mul-new-name c = omega (arith, first-most (c .before .before .before .before .before .before .before .before .args .known) (c .before .before .before .before .before .before .before .before .args .macros) (c .part-of .ensures))
+
+mul-new-name-2 : tie.Need-mul-new-name-2
+mul-new-name-2 c = omega (arith, first-most (c .before .before .before .before .before .before .before .before .args .known) (c .before .before .before .before .before .before .before .before .args .macros) (c .part-of .ensures))
+
+sub-new-name : tie.Need-sub-new-name
+sub-new-name c = omega (arith, first-most (c .before .before .before .before .before .before .before .before .args .known) (c .before .before .before .before .before .before .before .before .args .macros) (c .part-of .ensures), c .before .before .before .before .before .before .before .before .pre .0 .describes .book-long)
+
+part-new-name-start : tie.Need-part-new-name-start
+part-new-name-start c = omega (arith, first-most (c .before .before .before .before .before .before .before .before .before .args .known) (c .before .before .before .before .before .before .before .before .before .args .macros) (c .before .part-of .ensures), c .before .before .before .before .before .before .before .before .before .pre .0 .describes .book-long)
+
+part-new-name-end : tie.Need-part-new-name-end
+part-new-name-end c = search needs
+
+new-name-requires : tie.Need-new-name-requires
+new-name-requires c κs = search needs
+
+add-many : tie.Need-add-many
+add-many c = search needs
+
+refuse-if-requires : tie.Need-refuse-if-requires
+refuse-if-requires c κs = search needs
+
+slice-aggregate-due : tie.Need-slice-aggregate-due
+slice-aggregate-due c = search needs
+
+due-requires : tie.Need-due-requires
+due-requires c κs = search needs
+
+slice-aggregate-statements : tie.Need-slice-aggregate-statements
+slice-aggregate-statements c = search needs
+
+statements-requires : tie.Need-statements-requires
+statements-requires c κs = (c .before .before .before .before .before .before .before .before .before .before .before .before .before .before .before .before .before .before .before .pre .0, omega arith, search needs, c .before .before .before .before .before .before .before .before .before .before .before .before .before .before .before .before .before .before .before .pre .1)
+
+same-length : tie.Need-same-length
+same-length c = search needs
+
+same-length-2 : tie.Need-same-length-2
+same-length-2 c = search needs
+
+same-length-3 : tie.Need-same-length-3
+same-length-3 c = search needs
+
+returns : tie.Need-returns
+unfolding bytes
+returns c = λ e s. body-refused (c .before .before .before .before .before .before .before .before .before .before .before .before .before .before .before .before .before .before .before .before .before .before .before .before .before .before .args .macros) (c .before .before .before .before .before .before .before .before .before .before .before .before .before .before .before .before .before .before .part-of .ensures) s (c .before .before .before .before .before .before .before .before .before .before .before .before .before .before .before .new-name .ensures) (c .before .before .before .before .before .before .before .before .before .before .before .before .before .refuse-if .ensures) (c .before .before .before .before .before .before .before .before .before .before .before .due .ensures) (c .before .before .before .before .before .before .statements .ensures .2 e s) (ne-eqb _ _ (c .if1 .taken))
+
+add-keep : tie.Need-add-keep
+add-keep c = omega (arith, next-below (c .before .before .before .before .before .before .before .before .before .before .before .before .before .before .before .before .before .before .before .before .before .before .before .before .before .before .before .before .args .known) (c .before .before .before .before .before .before .before .before .before .before .before .before .before .before .before .before .before .before .before .before .before .before .before .before .before .before .before .before .args .macros) (c .before .before .before .before .before .before .before .before .before .before .before .before .before .before .before .before .before .before .before .before .part-of .ensures) (room (c .before .before)))
+
+keep-requires : tie.Need-keep-requires
+keep-requires c κs = (c .before .before .before .before .before .before .before .before .before .before .before .before .before .before .before .before .before .before .before .before .before .before .before .before .before .before .before .before .pre .0 .describes .book-long, omega (arith, next-below (c .before .before .before .before .before .before .before .before .before .before .before .before .before .before .before .before .before .before .before .before .before .before .before .before .before .before .before .before .args .known) (c .before .before .before .before .before .before .before .before .before .before .before .before .before .before .before .before .before .before .before .before .before .before .before .before .before .before .before .before .args .macros) (c .before .before .before .before .before .before .before .before .before .before .before .before .before .before .before .before .before .before .before .before .part-of .ensures) (room (c .before .before))))
+
+add-keep-row : tie.Need-add-keep-row
+add-keep-row c = omega (arith, next-below (c .before .before .before .before .before .before .before .before .before .before .before .before .before .before .before .before .before .before .before .before .before .before .before .before .before .before .before .before .before .before .before .before .args .known) (c .before .before .before .before .before .before .before .before .before .before .before .before .before .before .before .before .before .before .before .before .before .before .before .before .before .before .before .before .before .before .before .before .args .macros) (c .before .before .before .before .before .before .before .before .before .before .before .before .before .before .before .before .before .before .before .before .before .before .before .before .part-of .ensures) (room (c .before .before .before .before .before .before)))
+
+slice-aggregate-keep-row : tie.Need-slice-aggregate-keep-row
+slice-aggregate-keep-row c = search needs
+
+keep-row-requires : tie.Need-keep-row-requires
+keep-row-requires c κs = (c .before .before .before .before .before .before .before .before .before .before .before .before .before .before .before .before .before .before .before .before .before .before .before .before .before .before .before .before .before .before .before .before .before .pre .0 .describes .rows-long, c .before .before .before .before .before .before .before .before .before .before .before .before .before .statements .ensures .0, next-below (c .before .before .before .before .before .before .before .before .before .before .before .before .before .before .before .before .before .before .before .before .before .before .before .before .before .before .before .before .before .before .before .before .before .args .known) (c .before .before .before .before .before .before .before .before .before .before .before .before .before .before .before .before .before .before .before .before .before .before .before .before .before .before .before .before .before .before .before .before .before .args .macros) (c .before .before .before .before .before .before .before .before .before .before .before .before .before .before .before .before .before .before .before .before .before .before .before .before .before .part-of .ensures) (room (c .before .before .before .before .before .before .before)))
+
+one-more-requires : tie.Need-one-more-requires
+one-more-requires c κs = room (c .before .before .before .before .before .before .before .before .before .before)
+
+same-length-4 : tie.Need-same-length-4
+same-length-4 c = search needs
+
+same-length-5 : tie.Need-same-length-5
+same-length-5 c = search needs
+
+same-length-6 : tie.Need-same-length-6
+same-length-6 c = search needs
+
+returns-2 : tie.Need-returns-2
+unfolding bytes
+returns-2 c = λ e s. body-kept (c .before .before .before .before .before .before .before .before .before .before .before .before .before .before .before .before .before .before .before .before .before .before .before .before .before .before .before .before .before .before .before .before .before .before .before .before .before .args .macros) (c .before .before .before .before .before .before .before .before .before .before .before .before .before .before .before .before .before .before .before .before .before .before .before .before .before .before .before .before .before .part-of .ensures) s (c .before .before .before .before .before .before .before .before .before .before .before .before .before .before .before .before .before .before .before .before .before .before .before .before .before .before .new-name .ensures) (c .before .before .before .before .before .before .before .before .before .before .before .before .before .before .before .before .before .before .before .before .before .before .before .before .refuse-if .ensures) (c .before .before .before .before .before .before .before .before .before .before .before .before .before .before .before .before .before .before .before .before .before .before .due .ensures) (c .before .before .before .before .before .before .before .before .before .before .before .before .before .before .before .before .before .statements .ensures .2 e s) (eq-eqb _ _ (c .before .before .before .before .before .before .before .before .before .before .before .if1 .left)) (c .before .before .before .before .before .before .before .before .keep .ensures) (c .before .before .before .keep-row .ensures) (c .one-more .ensures)
+
+pub one-body-spec : {M : Type 1} → statement M
+one-body-spec =
+    tie.close
+    (tie.spec
+    part-of-requires
+    mul-new-name
+    mul-new-name-2
+    sub-new-name
+    part-new-name-start
+    part-new-name-end
+    new-name-requires
+    add-many
+    refuse-if-requires
+    slice-aggregate-due
+    due-requires
+    slice-aggregate-statements
+    statements-requires
+    same-length
+    same-length-2
+    same-length-3
+    returns
+    add-keep
+    keep-requires
+    add-keep-row
+    slice-aggregate-keep-row
+    keep-row-requires
+    one-more-requires
+    same-length-4
+    same-length-5
+    same-length-6
+    returns-2)

@@ -1,0 +1,5 @@
+mod Numbers
+mod Turns
+mod Lines
+pub mod Fronts
+pub mod Entries
