@@ -1,12 +1,12 @@
 -- Behind a head: what the code says of it, and what it reads of the statement besides, make one statement.
 use Prim.Native.Nat.{ℕ, _-_, _<_}
 use native.Mathlib.Omega.{arith}
-use mathlib.Core.Path.{_≡_, refl, sym, ap, _∙_, subst}
+use mathlib.Core.Path.{_≡_, refl, sym, subst}
 use mathlib.Core.Bool.{Bool, true, false}
 use mathlib.Core.List.{List}
 use Rattle.meaning.specs.Signals.{Names}
 use Rattle.meaning.specs.Body.{Assigns, Setting, Args, Kind, looped, shifted, entered, Body, done, vec, set′, inner}
-use Rattle.meaning.specs.Statements.{Env, Head, sets, head, inShift, statements}
+use Rattle.meaning.specs.Statements.{Env, sets, head, inShift, statements}
 use Rattle.words.specs.declared.Cursor.{Cursor}
 use Rattle.words.specs.Cursor.{alive, Goes}
 use Rattle.timing.specs.Makes.{Makes}
@@ -43,7 +43,7 @@ module _ {text book given : List ℕ} {e : Env} {own : Bool} {d : ℕ} {c : Curs
         let g = told-loops t live q in
         record {
           whole = λ z. absurd (omega (arith, g .1));
-          opened = λ z. record { goes = g .0; deep = gave (allowed-head own d e seen) (g .0) live; goes-on = (refl, refl, refl); kept = refl };
+          opened = λ z. record { goes = g .0; deep = gave (allowed-head own d e seen) (g .0) live; kept = refl };
         }
 
     module _ {r : Turn} {y z : Measure} (p : Plus x y z) where

@@ -1,5 +1,5 @@
 -- One body more: its readers one behind the other, and where none of them refused, the book and the rows describe it too.
-use Prim.Native.Nat.{ℕ, suc, _+_, _*_, _-_, _≤_, _<_}
+use Prim.Native.Nat.{ℕ, _+_, _≤_, _<_}
 use native.Mathlib.Omega.{arith}
 use mathlib.Core.Path.{_≡_, refl, sym, ap, _∙_, subst}
 use mathlib.Core.Bool.{Bool, true, false, cond}
@@ -7,27 +7,26 @@ use mathlib.Core.List.{List, [], _∷_, _++_}
 use lib.Dec.{leb}
 use lib.ListN.{length, replicate, length-append}
 use borrow.Author.Tests.{leb-false}
-use Rattle.tokens.specs.Tokens.{Tok, Toks, toks}
+use Rattle.tokens.specs.Tokens.{Tok, toks}
 use Rattle.meaning.specs.Bounds.{bodiesMost, depthMost}
 use Rattle.meaning.specs.Refusals.{tooMany}
-use Rattle.meaning.specs.Reader.{Res, Reader, _>>=_, after, give, due}
+use Rattle.meaning.specs.Reader.{_>>=_, give, due}
 use Rattle.meaning.specs.Names.{newName}
-use Rattle.meaning.specs.Body.{Body, done}
+use Rattle.meaning.specs.Body.{done}
 use Rattle.meaning.specs.Statements.{Decl, Decls, Env, statements, declared}
 use Rattle.meaning.specs.Document.{oneBody, bodiesOf, oneMacro, oneProcedure}
 use Rattle.words.specs.declared.Cursor.{Cursor}
-use Rattle.words.specs.Cursor.{ahead, alive, stream, from, Goes, Checked}
+use Rattle.words.specs.Cursor.{ahead, alive, from, Goes, Checked}
 use Rattle.words.specs.Table.{names}
-use Rattle.words.proofs.Flow.{from-on, from-stop, given, then, checked, passed, alive-before}
+use Rattle.words.proofs.Flow.{given, then, checked, passed, alive-before}
 use Rattle.timing.specs.Makes.{Makes}
 use Rattle.timing.proofs.Making.{made}
 use Rattle.measures.specs.declared.Measure.{Measure}
-use Rattle.measures.specs.Measures.{Measures, joined}
-use Rattle.measures.specs.Uses.{rowLength, Uses}
-use Rattle.measures.specs.Book.{firstProcedure, bodies, Entry, Listed, Used, Kept, KeptRow}
+use Rattle.measures.specs.Measures.{joined}
+use Rattle.measures.specs.Uses.{rowLength}
+use Rattle.measures.specs.Book.{firstProcedure, Listed, Used, Kept, KeptRow}
 use Rattle.measures.proofs.Uses.{uses-none}
 use Rattle.measures.proofs.Book.{listed-append, listed-entries, new-listed, used-new, used-stays}
-use Rattle.arguments.proofs.Read.{due-behind}
 use Rattle.heads.specs.declared.Known.{Known}
 use Rattle.heads.specs.declared.Part.{Part}
 use Rattle.heads.specs.Known.{Describes}
@@ -37,21 +36,7 @@ use Rattle.heads.proofs.Callers.{describes-frame}
 use Rattle.bodies.specs.Bodies.{Summed}
 use Rattle.bodies.specs.Blocks.{oneMore, oneOf}
 use Rattle.bodies.proofs.Stating.{differ}
-
--- ---- a declaration
-
--- with the tokens from its first on
-pub declared-goes : {text : List ℕ} {c r : Cursor} {b : Body} (e : Env) (own : Bool) → Goes text c (statements e depthMost own) r b
-    → Goes text c (declared e own) r (record { body = b; from = stream text c })
-unfolding declared _>>=_
-declared-goes {text} {c} {r} {b} e own g = record { same = then whole g given .same ∙ by (alive c) refl }
-  where
-    whole : Body → Reader Decl
-    whole b = give (record { body = b; from = stream text c })
-
-    by : (z : Bool) → alive c ≡ z → from text c (statements e depthMost own >>= whole) ≡ from text c (declared e own)
-    by true q = from-on text c _ q ∙ sym (from-on text c _ q)
-    by false q = from-stop text c _ q ∙ sym (from-stop text c _ q)
+use Rattle.bodies.proofs.Callers.{declared-made}
 
 -- ---- the tables with one body more
 
@@ -115,15 +100,14 @@ module _ (known : Known) {part : Part} (macros : Bool) (part-is : part ≡ partO
       by false = omega arith
 
   module _ (room : known .macros + known .procs < bodiesMost) where
-    -- is one of a body
-    pub next-below : part .first + part .count < bodies
-    next-below = rw part-is (by macros)
+    pub count-below : part .count < bodiesMost
+    count-below = rw part-is (by macros)
       where
-        by : (z : Bool) → partOf known z .first + partOf known z .count < bodies
+        by : (z : Bool) → partOf known z .count < bodiesMost
         by true = omega arith
         by false = omega arith
 
-    -- and is no other's
+    -- it is no other's
     no-macro : (j : ℕ) → j < known .macros → j ≡ part .first + part .count → ⊥
     no-macro j l = rw part-is (by macros)
       where
@@ -160,17 +144,17 @@ module _ {text places lists tplaces book rows : List ℕ} {known : Known} {e : E
   unfolding bodiesOf
   counted-all = rw (s .macros-counted, s .procs-counted)
 
-  decl : Decl
-  decl = record { body = body .it; from = stream text d }
+  whole : Makes text d (declared e true) r (λ x′. (x′ .from ≡ toks text (b .end)) × Summed true (replicate rowLength 0) row x (x′ .body))
+  whole = declared-made e true opening body
 
-  read-all : Goes text c (oneOf macros e) r (withDecls e macros (declsOf e macros ++ (ahead text c, decl) ∷ []))
-  unfolding oneBody decl
+  read-all : Goes text c (oneOf macros e) r (withDecls e macros (declsOf e macros ++ (ahead text c, whole .it) ∷ []))
+  unfolding oneBody
   read-all =
       rw (one-due macros e)
       (then _
       (then _ new
       (then _ (checked few (ap (leb bodiesMost) (sym counted-all)) refl)
-      (then _ opening (then _ (declared-goes e true (body .goes)) given))))
+      (then _ opening (then _ (whole .goes) given))))
       given)
 
   pub body-refused : {P : Env → Type 0} → alive r ≡ false → Makes text c (oneOf macros e) r P
@@ -187,14 +171,14 @@ module _ {text places lists tplaces book rows : List ℕ} {known : Known} {e : E
           (λ j y l u. used-stays k text kr (omega (arith, s .few-bodies)) (no-macro known macros part-is room-for j l) u)
           (λ j y f l u. used-stays k text kr (omega (arith, s .few-bodies)) (no-procedure known macros part-is room-for j f l) u)
 
-      new-used : Used text book′ rows′ (part .first + part .count) (ahead text c, decl)
-      unfolding decl joined
+      new-used : Used text book′ rows′ (part .first + part .count) (ahead text c, whole .it)
+      unfolding joined
       new-used =
-          let h = body .held live in
-          used-new k text kr decl (due-behind _ opening (alive-before (body .goes) live)) (h .measured) (h .counted .counts refl done uses-none)
+          let h = whole .held live in
+          used-new k text kr (whole .it) (h .0) (h .1 .measured) (h .1 .counted .counts refl done uses-none)
 
       pub body-kept : {known′ : Known} → known′ ≡ oneMore known macros
           → Makes text c (oneOf macros e) r (λ f. Describes text places lists tplaces book′ rows′ known′ f)
       body-kept q =
-          let u = subst (λ (z : Part). Used text book′ rows′ (z .first + z .count) (ahead text c, decl)) part-is new-used in
+          let u = subst (λ (z : Part). Used text book′ rows′ (z .first + z .count) (ahead text c, whole .it)) part-is new-used in
           made read-all (λ l. rw q (describes-one others-stay room-for macros u))

@@ -6,5 +6,6 @@ mod Telling
 mod Stating
 mod Beginning
 mod Reading
+pub mod Callers
 mod Declaring
 mod Ordering

@@ -1,12 +1,11 @@
 -- MacroDefs and Procedures: one body after the other, each block at most once, in either order.
 use Prim.Native.Nat.{ℕ}
-use native.Mathlib.Omega.{arith}
 use mathlib.Core.Path.{_≡_, refl, sym, ap, _∙_}
 use mathlib.Core.Bool.{Bool, true, false, not, _&&_}
 use mathlib.Core.List.{List}
 use Rattle.tokens.specs.Written.{bytes}
 use Rattle.tokens.specs.Tokens.{Toks}
-use Rattle.meaning.specs.Reader.{Res, Reader, after, _>>=_, _>>_, give, ahead, aheadOf, due, ifAhead, option, until}
+use Rattle.meaning.specs.Reader.{Res, Reader, after, _>>=_, give, ahead, aheadOf, due, ifAhead, option}
 use Rattle.meaning.specs.Statements.{Env}
 use Rattle.meaning.specs.Document.{macroDefs, procedures, bodies}
 use Rattle.meaning.proofs.Takes.{Takes}
@@ -17,7 +16,7 @@ use Rattle.words.specs.Cursor.{alive, stream, from, Goes}
 use Rattle.words.proofs.Flow.{from-on, from-stop, stays}
 use Rattle.words.proofs.Choice.{there, missing}
 use Rattle.timing.specs.Makes.{Makes, Brings}
-use Rattle.timing.proofs.Making.{made, makes-bind, makes-onward, first, first-then}
+use Rattle.timing.proofs.Making.{made, makes-bind, first, first-then}
 use Rattle.assigns.proofs.Table.{is-true}
 use Rattle.bodies.specs.Blocks.{wordOf, oneOf, opening, blockOf}
 use Rattle.bodies.proofs.Stating.{differ}

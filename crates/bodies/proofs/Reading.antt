@@ -1,22 +1,22 @@
 -- The loop over statements: reading on behind those so far is reading them all, and the code has the measure and the uses of those.
 use Prim.Native.Nat.{ℕ, _<_}
 use native.Mathlib.Omega.{arith}
-use mathlib.Core.Path.{_≡_, refl, sym, ap, _∙_, subst}
+use mathlib.Core.Path.{_≡_, refl, sym, ap, _∙_}
 use mathlib.Core.Bool.{Bool, true, false, not, _&&_}
 use mathlib.Core.List.{List}
 use Rattle.tokens.specs.Tokens.{Toks}
-use Rattle.meaning.specs.Reader.{Res, Reader, ok, refuse, after, _>>=_, give}
+use Rattle.meaning.specs.Reader.{Res, ok, refuse, after, _>>=_, give}
 use Rattle.meaning.specs.Body.{Body, done}
 use Rattle.meaning.specs.Statements.{Env, statements}
 use Rattle.held.proofs.Turn.{onward, deeper, statements-onward}
 use Rattle.words.specs.declared.Cursor.{Cursor}
-use Rattle.words.specs.Cursor.{alive, from, Goes}
+use Rattle.words.specs.Cursor.{alive, from}
 use Rattle.words.proofs.Flow.{from-stop}
 use Rattle.words.proofs.Loops.{room}
 use Rattle.timing.specs.Makes.{Makes, Brings}
 use Rattle.measures.specs.declared.Measure.{Measure}
 use Rattle.measures.specs.Measures.{Measures, joined}
-use Rattle.bodies.specs.Bodies.{Counted, Summed, rest, Turned}
+use Rattle.bodies.specs.Bodies.{Summed, rest, Turned}
 use Rattle.bodies.specs.declared.Turn.{Turn}
 use Rattle.bodies.proofs.Turning.{from-alike}
 use Rattle.bodies.proofs.Rowing.{counted-none, counted-then}

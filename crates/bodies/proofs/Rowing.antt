@@ -1,9 +1,9 @@
 -- The row of a body, behind statements one after the other.
-use mathlib.Core.Path.{_≡_, refl, sym, ap, _∙_, subst}
+use mathlib.Core.Path.{refl, _∙_, subst}
 use Prim.Native.Nat.{ℕ}
-use mathlib.Core.Bool.{Bool, true, false}
+use mathlib.Core.Bool.{Bool, false}
 use mathlib.Core.List.{List}
-use Rattle.meaning.specs.Body.{Assigns, Setting, Args, Kind, looped, entered, Body, done, vec, set′, inner}
+use Rattle.meaning.specs.Body.{Setting, Args, Kind, looped, entered, Body, done, set′, inner}
 use Rattle.measures.specs.Measures.{joined}
 use Rattle.measures.specs.Uses.{Uses}
 use Rattle.measures.proofs.Joined.{joined-done, joined-assoc}

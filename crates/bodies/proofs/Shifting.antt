@@ -1,13 +1,12 @@
 -- What a Shift holds: its readers one behind the other, and where none of them refused, the row with its uses of `#`.
 use Prim.Native.Nat.{ℕ}
-use native.Mathlib.Omega.{arith}
-use mathlib.Core.Path.{_≡_, refl, sym, ap, _∙_}
+use mathlib.Core.Path.{_≡_, refl, ap}
 use mathlib.Core.Bool.{Bool, true, false, not}
 use mathlib.Core.List.{List}
 use Rattle.meaning.specs.Bounds.{signalsMost}
 use Rattle.meaning.specs.Refusals.{badArgument}
 use Rattle.meaning.specs.Lists.{empty}
-use Rattle.meaning.specs.Reader.{Reader, due, refuseIf}
+use Rattle.meaning.specs.Reader.{due, refuseIf}
 use Rattle.meaning.specs.Signals.{Names}
 use Rattle.meaning.specs.Body.{Assigns, shifted, Body, done, vec, inner, marked}
 use Rattle.meaning.specs.Data.{assigns}

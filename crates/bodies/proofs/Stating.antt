@@ -1,7 +1,7 @@
 -- One statement: what is said of it, whichever head it has.
 use Prim.Native.Nat.{ℕ, _-_, _<_}
 use native.Mathlib.Omega.{arith}
-use mathlib.Core.Path.{_≡_, refl, sym, ap, _∙_, subst}
+use mathlib.Core.Path.{_≡_, sym, _∙_}
 use mathlib.Core.Bool.{Bool, true, false}
 use mathlib.Core.List.{List}
 use Rattle.meaning.specs.Reader.{Reader}
@@ -10,10 +10,10 @@ use Rattle.meaning.specs.Statements.{Decl, Env, Head, ends, vecs, sets, loops, 
 use Rattle.meaning.proofs.Takes.{Keeps}
 use Rattle.held.proofs.Rest.{moves-leaves, leaves-keeps}
 use Rattle.held.proofs.Grammar.{moves-inShift}
-use Rattle.held.proofs.Turn.{takes-head, deeper, keeps-deeper}
+use Rattle.held.proofs.Turn.{takes-head, keeps-deeper}
 use Rattle.words.specs.declared.Cursor.{Cursor}
 use Rattle.words.specs.Cursor.{alive, Goes}
-use Rattle.words.proofs.Flow.{valued, alive-before}
+use Rattle.words.proofs.Flow.{valued}
 use Rattle.words.proofs.Loops.{room, less, no-more}
 use Rattle.timing.specs.Makes.{Makes, Brings}
 use Rattle.signals.proofs.Tidy.{gave}
@@ -22,7 +22,7 @@ use Rattle.measures.specs.Measures.{Measures, joined}
 use Rattle.measures.proofs.Joined.{joined-done}
 use Rattle.bodies.specs.Bodies.{Counted, Summed, Held, rest, went, last, Turned}
 use Rattle.bodies.proofs.Turning.{turn-ends, turn-vecs, turn-sets, turn-uses, turn-loops, turn-shifts, deeper-goes}
-use Rattle.bodies.proofs.Allowed.{Allowed, allowed-head}
+use Rattle.bodies.proofs.Allowed.{allowed-head}
 use Rattle.bodies.proofs.Rowing.{counted-none, counted-setting, counted-entered, counted-looped}
 
 pub differ : {A : Type 0} → true ≡ false → A

@@ -9,6 +9,7 @@ use Rattle.meaning.specs.Body.{Assigns, Setting, assigning, choosing, Args}
 use Rattle.meaning.specs.Statements.{Decl, Head, ends, vecs, sets, loops, shifts, uses}
 use Rattle.words.specs.declared.Cursor.{Cursor}
 use Rattle.words.specs.Cursor.{alive, Goes}
+use Rattle.timing.specs.Makes.{Makes}
 use Rattle.measures.specs.Uses.{Given}
 use Rattle.measures.specs.Book.{bodies, Used}
 use Rattle.heads.specs.Heads.{kindOf, Tells}
@@ -16,6 +17,10 @@ use Rattle.heads.specs.declared.Headed.{Headed}
 use Rattle.heads.specs.declared.What.{What}
 use Rattle.heads.specs.declared.What.the-variants.{Ends, Vector, Assigns as AssignsOnly, Chooses, Loops, Shifts, Uses as UsesBody}
 use Rattle.bodies.specs.Bodies.{HeadIs}
+
+pub head-is : {text book given : List ℕ} {c : Cursor} {m : Reader Head} {h : Headed} (rows args : List ℕ) (tables : ℕ)
+    → Makes text c m (h .cursor) (Tells text book rows given args tables (h .what)) → HeadIs text book given c m h
+head-is rows args tables m = record { rows = rows; args = args; tables = tables; makes = m }
 
 module _ {text book given : List ℕ} {c : Cursor} {m : Reader Head} {h : Headed} (x : HeadIs text book given c m h) (live : alive (h .cursor) ≡ true) where
   told : {w : What} → h .what ≡ w → Tells text book (x .rows) given (x .args) (x .tables) w (x .makes .it)

@@ -1,21 +1,20 @@
 -- One statement: behind its head, and what else is read of it, the statements from there on are those behind one more.
 use Prim.Native.Nat.{ℕ, zero, suc, _-_, _<_}
 use native.Mathlib.Omega.{arith}
-use native.Mathlib.Numerals.{sub-one}
-use mathlib.Core.Path.{_≡_, refl, sym, ap, _∙_, subst}
+use mathlib.Core.Path.{_≡_, refl, sym, ap, _∙_}
 use mathlib.Core.Bool.{Bool, true, false}
 use mathlib.Core.List.{List}
 use Rattle.tokens.specs.Tokens.{Toks}
 use Rattle.meaning.specs.Reader.{Res, Reader, ok, refuse, after, _>>=_, give}
 use Rattle.meaning.specs.Body.{Assigns, Setting, Args, Kind, looped, shifted, entered, Body, done, vec, set′, inner}
 use Rattle.meaning.specs.Statements.{Decl, Env, Head, ends, vecs, sets, loops, shifts, uses, head, inShift, behind, statements}
-use Rattle.held.proofs.Turn.{onward, deeper, statements-turn, statements-onward}
+use Rattle.held.proofs.Turn.{onward, deeper, statements-turn}
 use Rattle.words.specs.declared.Cursor.{Cursor}
 use Rattle.words.specs.Cursor.{alive, stream, from, Goes}
 use Rattle.words.proofs.Flow.{from-on, from-stop, follows, alike}
 use Rattle.timing.specs.Makes.{Brings}
 use Rattle.measures.specs.Measures.{joined}
-use Rattle.measures.proofs.Joined.{joined-done, joined-vec, joined-set, joined-inner}
+use Rattle.measures.proofs.Joined.{joined-vec, joined-set, joined-inner}
 use Rattle.bodies.specs.Bodies.{rest}
 
 -- ---- readers one behind the other

@@ -12,6 +12,7 @@ use Rattle.heads.specs.declared.Known.{Known}
 use Rattle.heads.specs.Known.{Describes}
 use Rattle.bodies.specs.declared.Blocks.{Blocks}
 
+-- its word
 abbrev pub wordOf : Bool → String
 wordOf true = "MacroDefs"
 wordOf false = "Procedures"
@@ -21,7 +22,7 @@ abbrev pub oneMore : Known → Bool → Known
 oneMore known true = record { names = known .names; tables = known .tables; macros = known .macros + 1; procs = known .procs }
 oneMore known false = record { names = known .names; tables = known .tables; macros = known .macros; procs = known .procs + 1 }
 
--- one body of it, and all of it
+-- one body of it; its word and `{`, and then k; all of it
 unfoldable pub oneOf : Bool → Env → Reader Env
 oneOf true = oneMacro
 oneOf false = oneProcedure

@@ -63,12 +63,11 @@ pub record Turned (text : List ℕ) (e : Env) (own : Bool) (d : ℕ) (c : Cursor
   pub less : alive c ≡ true → room text (r .cursor) < room text c
 
 -- or the head of a Loop, so that its body is next
-pub record Opened (text : List ℕ) (e : Env) (own : Bool) (d : ℕ) (c : Cursor) (seen : Bool) (x : Measure) (before : List ℕ) (r : Turn) (behind : List ℕ) : Type 0 where
+pub record Opened (text : List ℕ) (e : Env) (own : Bool) (d : ℕ) (c : Cursor) (seen : Bool) (before : List ℕ) (r : Turn) (behind : List ℕ) : Type 0 where
   pub goes : Goes text c (head e own d seen) (r .cursor) (loops (r .turns))
   pub deep : 0 < d
-  pub goes-on : (r .ends ≡ false) × (r .seen ≡ seen) × (r .measure ≡ x)
   pub kept : behind ≡ before
 
 pub record Begun (text : List ℕ) (e : Env) (own : Bool) (d : ℕ) (c : Cursor) (seen : Bool) (x : Measure) (before : List ℕ) (r : Turn) (behind : List ℕ) : Type 0 where
   pub whole : r .turns ≡ 0 → Turned text e own d c seen x before r behind
-  pub opened : (r .turns ≡ 0 → ⊥) → Opened text e own d c seen x before r behind
+  pub opened : (r .turns ≡ 0 → ⊥) → Opened text e own d c seen before r behind

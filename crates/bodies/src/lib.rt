@@ -1,7 +1,6 @@
 // Bodies: statements up to their `}`, and the macros and procedures of a text, kept in a book.
 ghost use mathlib.Core.Path.{_≡_};
 ghost use mathlib.Core.Bool.{_&&_};
-ghost use mathlib.Core.List.{List};
 ghost use Prim.Native.Nat.{ℕ, _+_, _*_, _<_, _≤_};
 ghost use lib.ListN.{length};
 ghost use Rattle.tokens.specs.Written.{bytes};
@@ -382,16 +381,16 @@ fn one_body<'a>(
         &mut row,
         args,
     );
-    let cursor = x.cursor;
-    if cursor.no != 0 {
-        return Blocks { cursor, known };
+    let end = x.cursor;
+    if end.no != 0 {
+        return Blocks { cursor: end, known };
     }
     let measure = x.measure;
     measures::keep(book, first + count, c, b.end, measure);
     measures::keep_row(rows, first + count, &row);
     let more = one_more(known, macros);
     Blocks {
-        cursor,
+        cursor: end,
         known: more,
     }
 }

@@ -2,7 +2,7 @@
 -- statement: reading on behind those so far is reading them all, and the code has the measure and the uses of those.
 use Prim.Native.Nat.{_+_, _*_}
 use native.Mathlib.Omega.{arith}
-use mathlib.Core.Path.{_≡_, refl, _∙_}
+use mathlib.Core.Path.{_≡_, _∙_}
 use lib.ListN.{length}
 use borrow.Author.Needs.{needs}
 use Rattle.meaning.specs.Bounds.{signalsMost}
@@ -57,7 +57,9 @@ abbrev statements-calls : ℕ → statements-lts.Claims
 statements-calls t = (nothing-reads.Asked, nothing-reads.Learnt, statement-below t, statement′.Post)
 
 statement-begin-requires : (t : ℕ) → statement-lts.Need-begin-requires (statement-calls t) (statement-at t) statement′.Post
-statement-begin-requires t c κs = c .before .before .before .before .before .before .before .before .before .before .pre .1
+statement-begin-requires t c κs =
+    let pre′ = c .before .before .before .before .before .before .before .before .before .before .pre in
+    pre′ .1
 
 statement-same-length : (t : ℕ) → statement-lts.Need-same-length (statement-calls t) (statement-at t) statement′.Post
 statement-same-length t c = search needs
@@ -66,17 +68,24 @@ statement-same-length-2 : (t : ℕ) → statement-lts.Need-same-length-2 (statem
 statement-same-length-2 t c = search needs
 
 statement-returns : (t : ℕ) → statement-lts.Need-returns (statement-calls t) (statement-at t) statement′.Post
-statement-returns t c = λ e s. c .before .before .before .before .before .begin .ensures e s .whole (c .if1 .taken)
+statement-returns t c =
+    let begin′ = c .before .before .before .before .before .begin in
+    λ e s. begin′ .ensures e s .whole (c .if1 .taken)
 
 statement-sub-statements : (t : ℕ) → statement-lts.Need-sub-statements (statement-calls t) (statement-at t) statement′.Post
 statement-sub-statements t c =
-    let deep = looped-deep (c .before .before .before .before .before .before .begin .ensures (c .before .before .before .before .before .before .before .before .before .before .before .before .before .before .before .before .before .pre .1 .0 .env) (c .before .before .before .before .before .before .before .before .before .before .before .before .before .before .before .before .before .pre .1 .0 .describes)) (c .before .if1 .left) in
+    let pre′ = c .before .before .before .before .before .before .before .before .before .before .before .before .before .before .before .before .before .pre in
+    let begin′ = c .before .before .before .before .before .before .begin in
+    let deep = looped-deep (begin′ .ensures (pre′ .1 .0 .env) (pre′ .1 .0 .describes)) (c .before .if1 .left) in
     omega arith
 
 statement-statements-requires : (t : ℕ) → statement-lts.Need-statements-requires (statement-calls t) (statement-at t) statement′.Post
 statement-statements-requires t c κs =
-    let deep = looped-deep (c .before .before .before .before .before .before .before .before .begin .ensures (c .before .before .before .before .before .before .before .before .before .before .before .before .before .before .before .before .before .before .before .pre .1 .0 .env) (c .before .before .before .before .before .before .before .before .before .before .before .before .before .before .before .before .before .before .before .pre .1 .0 .describes)) (c .before .before .before .if1 .left) in
-    (omega (arith, c .before .before .before .before .before .before .before .before .before .before .before .before .before .before .before .before .before .before .before .pre .0), (c .before .before .before .before .before .before .before .before .before .before .before .before .before .before .before .before .before .before .before .pre .1 .0, omega (arith, c .before .before .before .before .before .before .before .before .before .before .before .before .before .before .before .before .before .before .before .pre .1 .1), c .before .before .before .before .before .before .before .before .begin .kept .1 .1 .1 .1 .1 .1 .1 .1 .1 .1 .1 .1 .0 ∙ c .before .before .before .before .before .before .before .before .before .before .before .before .before .before .before .before .before .before .before .pre .1 .2, c .before .before .before .before .before .before .before .before .begin .kept .1 .1 .1 .1 .1 .1 .1 .1 .1 .1 .1 .1 .1 .0 ∙ c .before .before .before .before .before .before .before .before .before .before .before .before .before .before .before .before .before .before .before .pre .1 .3))
+    let pre′ = c .before .before .before .before .before .before .before .before .before .before .before .before .before .before .before .before .before .before .before .pre in
+    let begin′ = c .before .before .before .before .before .before .before .before .begin in
+    let if1′ = c .before .before .before .if1 in
+    let deep = looped-deep (begin′ .ensures (pre′ .1 .0 .env) (pre′ .1 .0 .describes)) (if1′ .left) in
+    (omega (arith, pre′ .0), (pre′ .1 .0, omega (arith, pre′ .1 .1), begin′ .kept .1 .1 .1 .1 .1 .1 .1 .1 .1 .1 .1 .1 .0 ∙ pre′ .1 .2, begin′ .kept .1 .1 .1 .1 .1 .1 .1 .1 .1 .1 .1 .1 .1 .0 ∙ pre′ .1 .3))
 
 statement-looped-requires : (t : ℕ) → statement-lts.Need-looped-requires (statement-calls t) (statement-at t) statement′.Post
 statement-looped-requires t c κs = search needs
@@ -88,13 +97,24 @@ statement-went-requires : (t : ℕ) → statement-lts.Need-went-requires (statem
 statement-went-requires t c κs = search needs
 
 statement-same-length-3 : (t : ℕ) → statement-lts.Need-same-length-3 (statement-calls t) (statement-at t) statement′.Post
-statement-same-length-3 t c = c .before .before .before .before .before .before .before .before .before .statements .kept .1 .1 .1 .1 .1 .1 .1 .1 .1 .1 .0 ∙ c .before .before .before .before .before .before .before .before .before .before .before .before .before .before .before .before .before .before .begin .kept .1 .1 .1 .1 .1 .1 .1 .1 .1 .1 .1 .1 .0
+statement-same-length-3 t c =
+    let begin′ = c .before .before .before .before .before .before .before .before .before .before .before .before .before .before .before .before .before .before .begin in
+    let statements′ = c .before .before .before .before .before .before .before .before .before .statements in
+    statements′ .kept .1 .1 .1 .1 .1 .1 .1 .1 .1 .1 .0 ∙ begin′ .kept .1 .1 .1 .1 .1 .1 .1 .1 .1 .1 .1 .1 .0
 
 statement-same-length-4 : (t : ℕ) → statement-lts.Need-same-length-4 (statement-calls t) (statement-at t) statement′.Post
-statement-same-length-4 t c = c .before .before .before .before .before .before .before .before .before .statements .kept .1 .1 .1 .1 .1 .1 .1 .1 .1 .1 .1 .0 ∙ c .before .before .before .before .before .before .before .before .before .before .before .before .before .before .before .before .before .before .begin .kept .1 .1 .1 .1 .1 .1 .1 .1 .1 .1 .1 .1 .1 .0
+statement-same-length-4 t c =
+    let begin′ = c .before .before .before .before .before .before .before .before .before .before .before .before .before .before .before .before .before .before .begin in
+    let statements′ = c .before .before .before .before .before .before .before .before .before .statements in
+    statements′ .kept .1 .1 .1 .1 .1 .1 .1 .1 .1 .1 .1 .0 ∙ begin′ .kept .1 .1 .1 .1 .1 .1 .1 .1 .1 .1 .1 .1 .1 .0
 
 statement-returns-2 : (t : ℕ) → statement-lts.Need-returns-2 (statement-calls t) (statement-at t) statement′.Post
-statement-returns-2 t c = λ e s. looped-whole (c .before .before .before .before .before .before .before .before .before .before .before .before .before .before .before .before .before .before .begin .ensures e s) (c .before .before .before .before .before .before .before .before .before .before .before .before .before .if1 .left) (c .before .before .before .before .before .before .before .before .before .statements .ensures .2 e s) (c .before .before .looped .ensures) (c .before .plus .ensures) (c .went .ensures)
+statement-returns-2 t c =
+    let begin′ = c .before .before .before .before .before .before .before .before .before .before .before .before .before .before .before .before .before .before .begin in
+    let if1′ = c .before .before .before .before .before .before .before .before .before .before .before .before .before .if1 in
+    let statements′ = c .before .before .before .before .before .before .before .before .before .statements in
+    let looped′ = c .before .before .looped in
+    λ e s. looped-whole (begin′ .ensures e s) (if1′ .left) (statements′ .ensures .2 e s) (looped′ .ensures) (c .before .plus .ensures) (c .went .ensures)
 
 abbrev statements-Inv-loop : statements-lts.InvT-loop
 statements-Inv-loop text places lists tplaces book rows known own d row₀ args₀ cursor₀ measure₀ seen₀ ends₀ row args cursor measure seen ends =
@@ -110,22 +130,34 @@ statements-nothing-requires : (t : ℕ) → statements-lts.Need-nothing-requires
 statements-nothing-requires t c κs = search needs
 
 statements-loop-holds : (t : ℕ) → statements-lts.Need-loop-holds (statements-calls t) (statements-at t) statements.Post statements-Inv-loop statements-μ-loop
-statements-loop-holds t c = (c .before .before .before .before .before .before .before .before .before .pre .1 .2, c .before .before .before .before .before .before .before .before .before .pre .1 .3, λ e s. reading-none (c .nothing .ensures))
+statements-loop-holds t c =
+    let pre′ = c .before .before .before .before .before .before .before .before .before .pre in
+    (pre′ .1 .2, pre′ .1 .3, λ e s. reading-none (c .nothing .ensures))
 
 statements-statement-requires : (t : ℕ) → statements-lts.Need-statement-requires (statements-calls t) (statements-at t) statements.Post statements-Inv-loop statements-μ-loop
-statements-statement-requires t c κs = (omega (arith, c .before .before .before .before .before .before .before .before .before .before .before .before .before .before .pre .0), (c .before .before .before .before .before .before .before .before .before .before .before .before .before .before .pre .1 .0, c .before .before .before .before .before .before .before .before .before .before .before .before .before .before .pre .1 .1, c .before .before .before .before .loop .inv .0, c .before .before .before .before .loop .inv .1))
+statements-statement-requires t c κs =
+    let pre′ = c .before .before .before .before .before .before .before .before .before .before .before .before .before .before .pre in
+    let loop′ = c .before .before .before .before .loop in
+    (omega (arith, pre′ .0), (pre′ .1 .0, pre′ .1 .1, loop′ .inv .0, loop′ .inv .1))
 
 statements-loop-less : (t : ℕ) → statements-lts.Need-loop-less (statements-calls t) (statements-at t) statements.Post statements-Inv-loop statements-μ-loop
 statements-loop-less t c =
-    let s = c .before .before .before .before .before .before .before .before .before .before .before .before .before .before .before .before .before .before .before .before .before .pre .1 .0 in
-    reading-less (c .before .before .before .before .before .before .before .before .before .before .before .loop .inv .2 (s .env) (s .describes)) (c .before .before .before .before .before .before .before .before .before .if1 .taken) (c .before .before .before .before .before .before .statement .ensures (s .env) (s .describes))
+    let pre′ = c .before .before .before .before .before .before .before .before .before .before .before .before .before .before .before .before .before .before .before .before .before .pre in
+    let loop′ = c .before .before .before .before .before .before .before .before .before .before .before .loop in
+    let if1′ = c .before .before .before .before .before .before .before .before .before .if1 in
+    let statement′ = c .before .before .before .before .before .before .statement in
+    let s = pre′ .1 .0 in
+    reading-less (loop′ .inv .2 (s .env) (s .describes)) (if1′ .taken) (statement′ .ensures (s .env) (s .describes))
 
 statements-loop-again : (t : ℕ) → statements-lts.Need-loop-again (statements-calls t) (statements-at t) statements.Post statements-Inv-loop statements-μ-loop
-statements-loop-again t c = (
-  c .before .before .before .before .before .before .statement .kept .1 .1 .1 .1 .1 .1 .1 .1 .1 .1 .1 .1 .0 ∙ c .before .before .before .before .before .before .before .before .before .before .before .loop .inv .0,
-  c .before .before .before .before .before .before .statement .kept .1 .1 .1 .1 .1 .1 .1 .1 .1 .1 .1 .1 .1 .0 ∙ c .before .before .before .before .before .before .before .before .before .before .before .loop .inv .1,
-  λ e s. reading-more (c .before .before .before .before .before .before .before .before .before .before .before .loop .inv .2 e s) (c .before .before .before .before .before .before .before .before .before .if1 .taken) (c .before .before .before .before .before .before .statement .ensures e s),
-)
+statements-loop-again t c =
+    let loop′ = c .before .before .before .before .before .before .before .before .before .before .before .loop in
+    let if1′ = c .before .before .before .before .before .before .before .before .before .if1 in
+    let statement′ = c .before .before .before .before .before .before .statement in (
+      statement′ .kept .1 .1 .1 .1 .1 .1 .1 .1 .1 .1 .1 .1 .0 ∙ loop′ .inv .0,
+      statement′ .kept .1 .1 .1 .1 .1 .1 .1 .1 .1 .1 .1 .1 .1 .0 ∙ loop′ .inv .1,
+      λ e s. reading-more (loop′ .inv .2 e s) (if1′ .taken) (statement′ .ensures e s),
+    )
 
 statements-same-length : (t : ℕ) → statements-lts.Need-same-length (statements-calls t) (statements-at t) statements.Post statements-Inv-loop statements-μ-loop
 statements-same-length t c = search needs
@@ -134,7 +166,9 @@ statements-same-length-2 : (t : ℕ) → statements-lts.Need-same-length-2 (stat
 statements-same-length-2 t c = search needs
 
 statements-returns : (t : ℕ) → statements-lts.Need-returns (statements-calls t) (statements-at t) statements.Post statements-Inv-loop statements-μ-loop
-statements-returns t c = (c .before .before .loop .inv .0, c .before .before .loop .inv .1, λ e s. reading-all (c .before .before .loop .inv .2 e s) (c .if1 .left))
+statements-returns t c =
+    let loop′ = c .before .before .loop in
+    (loop′ .inv .0, loop′ .inv .1, λ e s. reading-all (loop′ .inv .2 e s) (c .if1 .left))
 
 pub +statement+statements-spec : {M : Type 1} → statement M
 +statement+statements-spec = close μ-statement μ-statements (λ t. statement-lts.spec (statement-calls t)

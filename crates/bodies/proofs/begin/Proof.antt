@@ -1,6 +1,6 @@
 -- `begin` meets its contract: the head, and what is behind it.
 use Rattle.assigns.proofs.Table.{gave-zeros}
-use Rattle.meaning.specs.Statements.{head}
+use Rattle.bodies.proofs.Telling.{head-is}
 use borrow.Author.Needs.{needs}
 use Rattle.bodies.proofs.begin.Statement.{statement}
 use Rattle.bodies.proofs.begin.Tie as tie
@@ -9,15 +9,20 @@ slice-aggregate-head : tie.Need-slice-aggregate-head
 slice-aggregate-head c = search needs
 
 head-requires : tie.Need-head-requires
-head-requires c κs = (c .before .before .before .before .before .before .before .before .before .before .pre .0, c .before .before .before .before .before .before .before .before .before .before .pre .1, gave-zeros, c .before .before .before .before .before .before .before .before .before .before .pre .3)
+head-requires c κs =
+    let pre′ = c .before .before .before .before .before .before .before .before .before .before .pre in
+    (pre′ .0, pre′ .1, gave-zeros, pre′ .3)
 
 slice-aggregate-behind : tie.Need-slice-aggregate-behind
 slice-aggregate-behind c = search needs
 
 behind-requires : tie.Need-behind-requires
 behind-requires c κs =
-    let s = c .before .before .before .before .before .before .before .before .before .before .before .before .before .before .before .before .pre .0 .describes in
-    ((s .ready, c .before .before .before .before .before .before .before .before .before .before .before .before .before .before .before .before .pre .2, c .before .before .before .before .before .head .ensures .0, s .book-long), (c .before .before .before .before .before .before .before .before .before .before .before .before .before .before .before .before .args .c, _, record { rows = _; args = _; tables = _; makes = c .before .before .before .before .before .head .ensures .2 (c .before .before .before .before .before .before .before .before .before .before .before .before .before .before .before .before .pre .0 .env) s }))
+    let pre′ = c .before .before .before .before .before .before .before .before .before .before .before .before .before .before .before .before .pre in
+    let args′ = c .before .before .before .before .before .before .before .before .before .before .before .before .before .before .before .before .args in
+    let head′ = c .before .before .before .before .before .head in
+    let s = pre′ .0 .describes in
+    ((s .ready, pre′ .2, head′ .ensures .0, s .book-long), (args′ .c, _, head-is (args′ .rows .now) _ (args′ .known .tables) (head′ .ensures .2 (pre′ .0 .env) s)))
 
 same-length : tie.Need-same-length
 same-length c = search needs
@@ -26,7 +31,11 @@ same-length-2 : tie.Need-same-length-2
 same-length-2 c = search needs
 
 returns : tie.Need-returns
-returns c = λ e s. c .before .before .behind .ensures e (c .before .before .before .before .before .before .before .before .before .before .before .before .before .before .before .before .before .before .before .args .d) (c .before .before .before .before .before .before .before .before .before .before .before .before .before .before .before .before .before .before .before .args .c) (s .names-are) (record { rows = _; args = _; tables = _; makes = c .before .before .before .before .before .before .before .before .head .ensures .2 e s })
+returns c =
+    let args′ = c .before .before .before .before .before .before .before .before .before .before .before .before .before .before .before .before .before .before .before .args in
+    let head′ = c .before .before .before .before .before .before .before .before .head in
+    let behind′ = c .before .before .behind in
+    λ e s. behind′ .ensures e (args′ .d) (args′ .c) (s .names-are) (head-is (args′ .rows .now) _ (args′ .known .tables) (head′ .ensures .2 e s))
 
 pub begin-spec : {M : Type 1} → statement M
 begin-spec =

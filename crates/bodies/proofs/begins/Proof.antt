@@ -1,5 +1,4 @@
 -- `begins` meets its contract.
-use mathlib.Core.Path.{_≡_}
 use Rattle.tokens.specs.Written.{bytes}
 use borrow.Author.Needs.{needs}
 use Rattle.bodies.proofs.begins.Statement.{statement}
@@ -13,7 +12,9 @@ is-requires c κs = search needs
 
 returns : tie.Need-returns
 unfolding bytes
-returns c = rw (c .before .before .if1 .taken) (c .is .ensures)
+returns c =
+    let if1′ = c .before .before .if1 in
+    rw (if1′ .taken) (c .is .ensures)
 
 slice-aggregate-is-2 : tie.Need-slice-aggregate-is-2
 slice-aggregate-is-2 c = search needs
@@ -23,7 +24,9 @@ is-requires-2 c κs = search needs
 
 returns-2 : tie.Need-returns-2
 unfolding bytes
-returns-2 c = rw (c .before .before .if1 .left) (c .is2 .ensures)
+returns-2 c =
+    let if1′ = c .before .before .if1 in
+    rw (if1′ .left) (c .is2 .ensures)
 
 pub begins-spec : {M : Type 1} → statement M
 begins-spec =

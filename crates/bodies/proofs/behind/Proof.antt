@@ -1,5 +1,4 @@
 -- `behind` meets its contract: one law for each head.
-use mathlib.Core.Path.{_≡_, refl, sym, _∙_}
 use native.Mathlib.Omega.{arith}
 use borrow.Author.Tests.{eq-eqb, ne-eqb}
 use Rattle.bodies.proofs.Telling.{told-uses}
@@ -81,7 +80,10 @@ enum-known-what-4 : tie.Need-enum-known-what-4
 enum-known-what-4 c = search needs
 
 measure-at-requires : tie.Need-measure-at-requires
-measure-at-requires c κs = (c .before .before .before .before .before .before .before .before .before .before .before .before .pre .0 .3, (let g = told-uses (c .before .before .before .before .before .before .before .before .before .before .before .before .pre .1 .2) (eq-eqb _ _ (c .before .before .before .if1 .left)) (c .before .what4 .given .1) in omega (arith, g .4)))
+measure-at-requires c κs =
+    let pre′ = c .before .before .before .before .before .before .before .before .before .before .before .before .pre in
+    let if1′ = c .before .before .before .if1 in
+    (pre′ .0 .3, (let g = told-uses (pre′ .1 .2) (eq-eqb _ _ (if1′ .left)) (c .before .what4 .given .1) in omega (arith, g .4)))
 
 used-requires : tie.Need-used-requires
 used-requires c κs = search needs
@@ -93,31 +95,58 @@ went-requires-5 : tie.Need-went-requires-5
 went-requires-5 c κs = search needs
 
 returns-2 : tie.Need-returns-2
-returns-2 c = λ e d k n t. begun-ends t (eq-eqb _ _ (c .before .before .before .if1 .left)) (c .before .enum-told .given .1) (c .last2 .ensures)
+returns-2 c =
+    let if1′ = c .before .before .before .if1 in
+    λ e d k n t. begun-ends t (eq-eqb _ _ (if1′ .left)) (c .before .enum-told .given .1) (c .last2 .ensures)
 
 same-length : tie.Need-same-length
 same-length c = search needs
 
 returns-3 : tie.Need-returns-3
-returns-3 c = λ e d k n t. begun-vector t (eq-eqb _ _ (c .before .before .before .before .before .before .before .before .before .before .if1 .left)) (c .before .plus .ensures) (c .before .before .before .before .before .before .before .before .what .given .1) (c .before .before .vector .ensures) (c .before .before .before .before .before .count .ensures) (c .went .ensures)
+returns-3 c =
+    let if1′ = c .before .before .before .before .before .before .before .before .before .before .if1 in
+    let what′ = c .before .before .before .before .before .before .before .before .what in
+    let count′ = c .before .before .before .before .before .count in
+    let vector′ = c .before .before .vector in
+    λ e d k n t. begun-vector t (eq-eqb _ _ (if1′ .left)) (c .before .plus .ensures) (what′ .given .1) (vector′ .ensures) (count′ .ensures) (c .went .ensures)
 
 returns-4 : tie.Need-returns-4
-returns-4 c = λ e d k n t. begun-assigns t (eq-eqb _ _ (c .before .before .before .before .before .if1 .left)) (c .before .plus2 .ensures) (c .before .before .setting .ensures) (c .went2 .ensures) (c .before .before .before .enum-told2 .given .1)
+returns-4 c =
+    let if1′ = c .before .before .before .before .before .if1 in
+    let enum-told2′ = c .before .before .before .enum-told2 in
+    let setting′ = c .before .before .setting in
+    λ e d k n t. begun-assigns t (eq-eqb _ _ (if1′ .left)) (c .before .plus2 .ensures) (setting′ .ensures) (c .went2 .ensures) (enum-told2′ .given .1)
 
 returns-5 : tie.Need-returns-5
-returns-5 c = λ e d k n t. begun-chooses t (eq-eqb _ _ (c .before .before .before .before .before .before .if1 .left)) (c .before .plus3 .ensures) (c .before .before .setting2 .ensures) (c .went3 .ensures) (c .before .before .before .before .what2 .given .1)
+returns-5 c =
+    let if1′ = c .before .before .before .before .before .before .if1 in
+    let what2′ = c .before .before .before .before .what2 in
+    let setting2′ = c .before .before .setting2 in
+    λ e d k n t. begun-chooses t (eq-eqb _ _ (if1′ .left)) (c .before .plus3 .ensures) (setting2′ .ensures) (c .went3 .ensures) (what2′ .given .1)
 
 returns-6 : tie.Need-returns-6
-returns-6 c = λ e d k n t. begun-loop t (eq-eqb _ _ (c .before .before .before .if1 .left)) (c .before .what3 .given .1)
+returns-6 c =
+    let if1′ = c .before .before .before .if1 in
+    λ e d k n t. begun-loop t (eq-eqb _ _ (if1′ .left)) (c .before .what3 .given .1)
 
 same-length-2 : tie.Need-same-length-2
 same-length-2 c = search needs
 
 returns-7 : tie.Need-returns-7
-returns-7 c = λ e d k n t. begun-shift t (eq-eqb _ _ (c .before .before .before .before .before .before .before .before .before .if1 .left)) (c .before .plus4 .ensures) (c .before .before .before .before .before .before .before .enum-told3 .given .1) n (c .before .before .before .before .before .in-shift .ensures) (c .before .before .shift .ensures) (c .went4 .ensures)
+returns-7 c =
+    let if1′ = c .before .before .before .before .before .before .before .before .before .if1 in
+    let enum-told3′ = c .before .before .before .before .before .before .before .enum-told3 in
+    let in-shift′ = c .before .before .before .before .before .in-shift in
+    let shift′ = c .before .before .shift in
+    λ e d k n t. begun-shift t (eq-eqb _ _ (if1′ .left)) (c .before .plus4 .ensures) (enum-told3′ .given .1) n (in-shift′ .ensures) (shift′ .ensures) (c .went4 .ensures)
 
 returns-8 : tie.Need-returns-8
-returns-8 c = λ e d k n t. begun-used t (eq-eqb _ _ (c .before .before .before .before .before .before .before .if1 .left)) (c .before .plus5 .ensures) (c .before .before .before .before .before .what4 .given .1) (c .before .before .before .measure-at .ensures) (c .before .before .used .ensures) (c .went5 .ensures)
+returns-8 c =
+    let if1′ = c .before .before .before .before .before .before .before .if1 in
+    let what4′ = c .before .before .before .before .before .what4 in
+    let measure-at′ = c .before .before .before .measure-at in
+    let used′ = c .before .before .used in
+    λ e d k n t. begun-used t (eq-eqb _ _ (if1′ .left)) (c .before .plus5 .ensures) (what4′ .given .1) (measure-at′ .ensures) (used′ .ensures) (c .went5 .ensures)
 
 pub behind-spec : {M : Type 1} → statement M
 behind-spec =

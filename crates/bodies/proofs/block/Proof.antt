@@ -32,7 +32,9 @@ begins-requires c κs = search needs
 
 returns : tie.Need-returns Inv-loop μ-loop
 unfolding bytes
-returns c = λ e s. block-missing (c .before .before .before .before .before .before .before .before .before .args .macros) e (c .before .begins .ensures) (c .if1 .taken) s
+returns c =
+    let args′ = c .before .before .before .before .before .before .before .before .before .args in
+    λ e s. block-missing (args′ .macros) e (c .before .begins .ensures) (c .if1 .taken) s
 
 opened-requires : tie.Need-opened-requires Inv-loop μ-loop
 opened-requires c κs = search needs
@@ -48,19 +50,35 @@ until-requires c κs = search needs
 
 one-body-requires : tie.Need-one-body-requires Inv-loop μ-loop
 one-body-requires c κs =
-    let l = c .before .before .before .before .before .before .loop .inv .3 (c .before .before .before .before .before .before .before .before .before .before .before .before .before .before .before .before .before .pre .0 .env) (c .before .before .before .before .before .before .before .before .before .before .before .before .before .before .before .before .before .pre .0 .describes) in
-    (record { env = l .state; describes = l .kept (on _ _ (c .before .before .before .before .until .ensures) (c .before .before .before .if2 .taken)) }, c .before .before .before .before .before .before .loop .inv .2 ∙ c .before .before .before .before .before .before .before .before .before .before .before .before .before .before .before .before .before .pre .1)
+    let pre′ = c .before .before .before .before .before .before .before .before .before .before .before .before .before .before .before .before .before .pre in
+    let loop′ = c .before .before .before .before .before .before .loop in
+    let until′ = c .before .before .before .before .until in
+    let if2′ = c .before .before .before .if2 in
+    let l = loop′ .inv .3 (pre′ .0 .env) (pre′ .0 .describes) in
+    (record { env = l .state; describes = l .kept (on _ _ (until′ .ensures) (if2′ .taken)) }, loop′ .inv .2 ∙ pre′ .1)
 
 loop-less : tie.Need-loop-less Inv-loop μ-loop
-loop-less c = fewer (takes-one (c .before .before .before .before .before .before .before .before .before .before .before .before .before .before .before .before .before .before .before .before .before .before .before .before .before .before .args .macros)) (c .before .before .before .before .before .before .before .before .before .before .before .before .before .before .before .loop .inv .3 (c .before .before .before .before .before .before .before .before .before .before .before .before .before .before .before .before .before .before .before .before .before .before .before .before .before .before .pre .0 .env) (c .before .before .before .before .before .before .before .before .before .before .before .before .before .before .before .before .before .before .before .before .before .before .before .before .before .before .pre .0 .describes)) (c .before .before .before .before .before .before .before .before .before .before .before .before .before .until .ensures) (c .before .before .before .before .before .before .before .before .before .before .before .before .if2 .taken) (c .before .before .before .before .before .before .before .before .one-body .ensures)
+loop-less c =
+    let args′ = c .before .before .before .before .before .before .before .before .before .before .before .before .before .before .before .before .before .before .before .before .before .before .before .before .before .before .args in
+    let pre′ = c .before .before .before .before .before .before .before .before .before .before .before .before .before .before .before .before .before .before .before .before .before .before .before .before .before .before .pre in
+    let loop′ = c .before .before .before .before .before .before .before .before .before .before .before .before .before .before .before .loop in
+    let until′ = c .before .before .before .before .before .before .before .before .before .before .before .before .before .until in
+    let if2′ = c .before .before .before .before .before .before .before .before .before .before .before .before .if2 in
+    let one-body′ = c .before .before .before .before .before .before .before .before .one-body in
+    fewer (takes-one (args′ .macros)) (loop′ .inv .3 (pre′ .0 .env) (pre′ .0 .describes)) (until′ .ensures) (if2′ .taken) (one-body′ .ensures)
 
 loop-again : tie.Need-loop-again Inv-loop μ-loop
-loop-again c = (
-  c .before .before .before .before .before .before .before .before .one-body .kept .1 .1 .1 .1 .1 .0 ∙ c .before .before .before .before .before .before .before .before .before .before .before .before .before .before .before .loop .inv .0,
-  c .before .before .before .before .before .before .before .before .one-body .kept .1 .1 .1 .1 .1 .1 .0 ∙ c .before .before .before .before .before .before .before .before .before .before .before .before .before .before .before .loop .inv .1,
-  c .before .before .before .before .before .before .before .before .one-body .kept .1 .1 .1 .1 .1 .1 .1 .1 .1 .0 ∙ c .before .before .before .before .before .before .before .before .before .before .before .before .before .before .before .loop .inv .2,
-  λ e s. again (takes-one (c .before .before .before .before .before .before .before .before .before .before .before .before .before .before .before .before .before .before .before .before .before .before .before .before .before .before .args .macros)) (c .before .before .before .before .before .before .before .before .before .before .before .before .before .before .before .loop .inv .3 e s) (c .before .before .before .before .before .before .before .before .before .before .before .before .before .until .ensures) (c .before .before .before .before .before .before .before .before .before .before .before .before .if2 .taken) (c .before .before .before .before .before .before .before .before .one-body .ensures),
-)
+loop-again c =
+    let args′ = c .before .before .before .before .before .before .before .before .before .before .before .before .before .before .before .before .before .before .before .before .before .before .before .before .before .before .args in
+    let loop′ = c .before .before .before .before .before .before .before .before .before .before .before .before .before .before .before .loop in
+    let until′ = c .before .before .before .before .before .before .before .before .before .before .before .before .before .until in
+    let if2′ = c .before .before .before .before .before .before .before .before .before .before .before .before .if2 in
+    let one-body′ = c .before .before .before .before .before .before .before .before .one-body in (
+      one-body′ .kept .1 .1 .1 .1 .1 .0 ∙ loop′ .inv .0,
+      one-body′ .kept .1 .1 .1 .1 .1 .1 .0 ∙ loop′ .inv .1,
+      one-body′ .kept .1 .1 .1 .1 .1 .1 .1 .1 .1 .0 ∙ loop′ .inv .2,
+      λ e s. again (takes-one (args′ .macros)) (loop′ .inv .3 e s) (until′ .ensures) (if2′ .taken) (one-body′ .ensures),
+    )
 
 slice-aggregate-due : tie.Need-slice-aggregate-due Inv-loop μ-loop
 slice-aggregate-due c = search needs
@@ -69,20 +87,33 @@ due-requires : tie.Need-due-requires Inv-loop μ-loop
 due-requires c κs = search needs
 
 same-length : tie.Need-same-length Inv-loop μ-loop
-same-length c = c .before .before .before .before .before .loop .inv .0
+same-length c =
+    let loop′ = c .before .before .before .before .before .loop in
+    loop′ .inv .0
 
 same-length-2 : tie.Need-same-length-2 Inv-loop μ-loop
-same-length-2 c = c .before .before .before .before .before .loop .inv .1
+same-length-2 c =
+    let loop′ = c .before .before .before .before .before .loop in
+    loop′ .inv .1
 
 same-length-3 : tie.Need-same-length-3 Inv-loop μ-loop
-same-length-3 c = c .before .before .before .before .before .loop .inv .2
+same-length-3 c =
+    let loop′ = c .before .before .before .before .before .loop in
+    loop′ .inv .2
 
 returns-2 : tie.Need-returns-2 Inv-loop μ-loop
 unfolding bytes
 returns-2 c =
+    let args′ = c .before .before .before .before .before .before .before .before .before .before .before .before .before .before .before .before .args in
+    let begins′ = c .before .before .before .before .before .before .before .before .begins in
+    let if1′ = c .before .before .before .before .before .before .before .if1 in
+    let opened′ = c .before .before .before .before .before .before .opened in
+    let loop′ = c .before .before .before .before .before .loop in
+    let until′ = c .before .before .before .until in
+    let if2′ = c .before .before .if2 in
     λ e s.
-    block-there (c .before .before .before .before .before .before .before .before .before .before .before .before .before .before .before .before .args .macros) e (c .before .before .before .before .before .before .before .before .begins .ensures) (c .before .before .before .before .before .before .before .if1 .left)
-    (makes-onward (c .before .before .before .before .before .before .opened .ensures _) (closes "}" (oneOf (c .before .before .before .before .before .before .before .before .before .before .before .before .before .before .before .before .args .macros)) e (leaves (takes-one (c .before .before .before .before .before .before .before .before .before .before .before .before .before .before .before .before .args .macros)) (c .before .before .before .before .before .loop .inv .3 e s) (c .before .before .before .until .ensures) (c .before .before .if2 .left)) (c .due .ensures)))
+    block-there (args′ .macros) e (begins′ .ensures) (if1′ .left)
+    (makes-onward (opened′ .ensures _) (closes "}" (oneOf (args′ .macros)) e (leaves (takes-one (args′ .macros)) (loop′ .inv .3 e s) (until′ .ensures) (if2′ .left)) (c .due .ensures)))
 
 pub block-spec : {M : Type 1} → statement M
 block-spec =

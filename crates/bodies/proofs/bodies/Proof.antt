@@ -23,16 +23,25 @@ same-length-2 c = search needs
 
 returns : tie.Need-returns
 returns c =
-    let s = c .before .before .before .before .before .before .before .before .before .before .before .before .before .before .before .before .before .before .before .pre .describes in
-    (c .before .before .before .before .before .before .before .before .block .kept .1 .1 .1 .1 .1 .0 ∙ s .book-long, c .before .before .before .before .before .before .before .before .block .kept .1 .1 .1 .1 .1 .1 .0 ∙ s .rows-long, λ e s. block-refused (c .before .before .before .before .before .before .before .before .before .before .before .before .begins .result) e (c .before .before .before .before .before .before .before .before .before .before .before .before .begins .ensures) (c .before .before .before .before .before .before .before .before .block .ensures e s) (ne-eqb _ _ (c .if1 .taken)))
+    let pre′ = c .before .before .before .before .before .before .before .before .before .before .before .before .before .before .before .before .before .before .before .pre in
+    let begins′ = c .before .before .before .before .before .before .before .before .before .before .before .before .begins in
+    let block′ = c .before .before .before .before .before .before .before .before .block in
+    let s = pre′ .describes in (
+      block′ .kept .1 .1 .1 .1 .1 .0 ∙ s .book-long,
+      block′ .kept .1 .1 .1 .1 .1 .1 .0 ∙ s .rows-long,
+      λ e s. block-refused (begins′ .result) e (begins′ .ensures) (block′ .ensures e s) (ne-eqb _ _ (c .if1 .taken)),
+    )
 
 slice-aggregate-block-2 : tie.Need-slice-aggregate-block-2
 slice-aggregate-block-2 c = search needs
 
 block-requires-2 : tie.Need-block-requires-2
 block-requires-2 c κs =
-    let m = c .before .before .before .before .before .before .before .before .before .before .before .before .block .ensures (c .before .before .before .before .before .before .before .before .before .before .before .before .before .before .before .before .before .before .before .before .before .before .before .pre .env) (c .before .before .before .before .before .before .before .before .before .before .before .before .before .before .before .before .before .before .before .before .before .before .before .pre .describes) in
-    (record { env = m .it; describes = m .held (eq-eqb _ _ (c .before .before .before .before .if1 .left)) }, search needs)
+    let pre′ = c .before .before .before .before .before .before .before .before .before .before .before .before .before .before .before .before .before .before .before .before .before .before .before .pre in
+    let block′ = c .before .before .before .before .before .before .before .before .before .before .before .before .block in
+    let if1′ = c .before .before .before .before .if1 in
+    let m = block′ .ensures (pre′ .env) (pre′ .describes) in
+    (record { env = m .it; describes = m .held (eq-eqb _ _ (if1′ .left)) }, search needs)
 
 same-length-3 : tie.Need-same-length-3
 same-length-3 c = search needs
@@ -42,10 +51,15 @@ same-length-4 c = search needs
 
 returns-2 : tie.Need-returns-2
 returns-2 c =
-    let s = c .before .before .before .before .before .before .before .before .before .before .before .before .before .before .before .before .before .before .before .before .before .before .before .before .before .before .before .before .before .pre .describes in (
-      c .before .before .before .before .before .block2 .kept .1 .1 .1 .1 .1 .0 ∙ c .before .before .before .before .before .before .before .before .before .before .before .before .before .before .before .before .before .before .block .kept .1 .1 .1 .1 .1 .0 ∙ s .book-long,
-      c .before .before .before .before .before .block2 .kept .1 .1 .1 .1 .1 .1 .0 ∙ c .before .before .before .before .before .before .before .before .before .before .before .before .before .before .before .before .before .before .block .kept .1 .1 .1 .1 .1 .1 .0 ∙ s .rows-long,
-      λ e s. let m = c .before .before .before .before .before .before .before .before .before .before .before .before .before .before .before .before .before .before .block .ensures e s in both-blocks (c .before .before .before .before .before .before .before .before .before .before .before .before .before .before .before .before .before .before .before .before .before .before .begins .result) e (c .before .before .before .before .before .before .before .before .before .before .before .before .before .before .before .before .before .before .before .before .before .before .begins .ensures) m (c .before .before .before .before .before .block2 .ensures (m .it) (m .held (eq-eqb _ _ (c .before .before .before .before .before .before .before .before .before .before .if1 .left)))),
+    let pre′ = c .before .before .before .before .before .before .before .before .before .before .before .before .before .before .before .before .before .before .before .before .before .before .before .before .before .before .before .before .before .pre in
+    let begins′ = c .before .before .before .before .before .before .before .before .before .before .before .before .before .before .before .before .before .before .before .before .before .before .begins in
+    let block′ = c .before .before .before .before .before .before .before .before .before .before .before .before .before .before .before .before .before .before .block in
+    let if1′ = c .before .before .before .before .before .before .before .before .before .before .if1 in
+    let block2′ = c .before .before .before .before .before .block2 in
+    let s = pre′ .describes in (
+      block2′ .kept .1 .1 .1 .1 .1 .0 ∙ block′ .kept .1 .1 .1 .1 .1 .0 ∙ s .book-long,
+      block2′ .kept .1 .1 .1 .1 .1 .1 .0 ∙ block′ .kept .1 .1 .1 .1 .1 .1 .0 ∙ s .rows-long,
+      λ e s. (let m = block′ .ensures e s in both-blocks (begins′ .result) e (begins′ .ensures) m (block2′ .ensures (m .it) (m .held (eq-eqb _ _ (if1′ .left))))),
     )
 
 pub bodies-spec : {M : Type 1} → statement M

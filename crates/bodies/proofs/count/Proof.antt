@@ -1,5 +1,5 @@
--- `count` meets its contract.
-use mathlib.Core.Path.{_≡_, refl, sym, _∙_}
+-- `count` meets its contract: where the V is the body's own, its uses are counted; else the row stays.
+use mathlib.Core.Path.{refl, sym, _∙_}
 use Rattle.bodies.proofs.Stating.{differ}
 use borrow.Author.Needs.{needs}
 use Rattle.bodies.proofs.count.Statement.{statement}
@@ -12,7 +12,10 @@ same-length : tie.Need-same-length
 same-length c = search needs
 
 returns : tie.Need-returns
-returns c = λ p a g. record { counts = λ o b. c .before .before .count-uses .ensures p a b g; stays = λ o. differ (sym (c .before .before .before .before .if1 .taken) ∙ o) }
+returns c =
+    let if1′ = c .before .before .before .before .if1 in
+    let count-uses′ = c .before .before .count-uses in
+    λ p a g. record { counts = λ o b. count-uses′ .ensures p a b g; stays = λ o. differ (sym (if1′ .taken) ∙ o) }
 
 returns-2 : tie.Need-returns-2
 returns-2 c = λ p a g. record { counts = λ o. differ (sym o ∙ c .if1 .left); stays = λ o. refl }

@@ -1,6 +1,6 @@
 -- `in_shift` meets its contract: where nothing was refused, the signals with `#` are marked in the row.
-use mathlib.Core.Path.{_≡_, sym, _∙_}
-use borrow.Author.Tests.{eq-eqb, ne-eqb}
+use mathlib.Core.Path.{sym, _∙_}
+use borrow.Author.Tests.{ne-eqb}
 use Rattle.tokens.specs.Written.{bytes}
 use Rattle.assigns.proofs.Table.{gave-zeros}
 use Rattle.bodies.proofs.Stating.{differ}
@@ -19,7 +19,9 @@ slice-aggregate-assigns : tie.Need-slice-aggregate-assigns
 slice-aggregate-assigns c = search needs
 
 assigns-requires : tie.Need-assigns-requires
-assigns-requires c κs = (c .before .before .before .before .before .before .before .pre .0, gave-zeros)
+assigns-requires c κs =
+    let pre′ = c .before .before .before .before .before .before .before .pre in
+    (pre′ .0, gave-zeros)
 
 slice-aggregate-due-2 : tie.Need-slice-aggregate-due-2
 slice-aggregate-due-2 c = search needs
@@ -39,14 +41,23 @@ refuse-if-requires c κs = search needs
 returns : tie.Need-returns
 unfolding bytes
 returns c =
-    in-shift (c .before .before .before .before .before .before .before .before .before .before .before .before .before .before .before .before .pre .0 .usable .tidy) (c .before .before .before .before .before .before .before .before .before .before .due .ensures) (c .before .before .before .before .before .before .before .before .assigns .ensures) (c .before .before .before .before .before .due2 .ensures) (c .before .before .before .has-mark .ensures) (c .before .before .refuse-if .ensures)
+    let pre′ = c .before .before .before .before .before .before .before .before .before .before .before .before .before .before .before .before .pre in
+    let due′ = c .before .before .before .before .before .before .before .before .before .before .due in
+    let assigns′ = c .before .before .before .before .before .before .before .before .assigns in
+    let due2′ = c .before .before .before .before .before .due2 in
+    let has-mark′ = c .before .before .before .has-mark in
+    let refuse-if′ = c .before .before .refuse-if in
+    in-shift (pre′ .0 .usable .tidy) (due′ .ensures) (assigns′ .ensures) (due2′ .ensures) (has-mark′ .ensures) (refuse-if′ .ensures)
     (λ live. differ (sym live ∙ ne-eqb _ _ (c .if1 .taken)))
 
 slice-aggregate-mark-uses : tie.Need-slice-aggregate-mark-uses
 slice-aggregate-mark-uses c = search needs
 
 mark-uses-requires : tie.Need-mark-uses-requires
-mark-uses-requires c κs = (c .before .before .before .before .before .before .before .before .before .before .assigns .ensures .long, c .before .before .before .before .before .before .before .before .before .before .before .before .before .before .before .before .before .before .pre .1)
+mark-uses-requires c κs =
+    let pre′ = c .before .before .before .before .before .before .before .before .before .before .before .before .before .before .before .before .before .before .pre in
+    let assigns′ = c .before .before .before .before .before .before .before .before .before .before .assigns in
+    (assigns′ .ensures .long, pre′ .1)
 
 same-length : tie.Need-same-length
 same-length c = search needs
@@ -54,8 +65,16 @@ same-length c = search needs
 returns-2 : tie.Need-returns-2
 unfolding bytes
 returns-2 c =
-    in-shift (c .before .before .before .before .before .before .before .before .before .before .before .before .before .before .before .before .before .before .before .before .before .pre .0 .usable .tidy) (c .before .before .before .before .before .before .before .before .before .before .before .before .before .before .before .due .ensures) (c .before .before .before .before .before .before .before .before .before .before .before .before .before .assigns .ensures) (c .before .before .before .before .before .before .before .before .before .before .due2 .ensures) (c .before .before .before .before .before .before .before .before .has-mark .ensures) (c .before .before .before .before .before .before .before .refuse-if .ensures)
-    (λ live f. c .before .before .mark-uses .ensures (c .before .before .before .before .before .before .before .before .before .before .before .before .before .before .before .before .before .before .before .before .before .args .c .at) (c .before .before .before .before .before .before .before .before .before .before .before .before .before .assigns .ensures .it) f)
+    let pre′ = c .before .before .before .before .before .before .before .before .before .before .before .before .before .before .before .before .before .before .before .before .before .pre in
+    let args′ = c .before .before .before .before .before .before .before .before .before .before .before .before .before .before .before .before .before .before .before .before .before .args in
+    let due′ = c .before .before .before .before .before .before .before .before .before .before .before .before .before .before .before .due in
+    let assigns′ = c .before .before .before .before .before .before .before .before .before .before .before .before .before .assigns in
+    let due2′ = c .before .before .before .before .before .before .before .before .before .before .due2 in
+    let has-mark′ = c .before .before .before .before .before .before .before .before .has-mark in
+    let refuse-if′ = c .before .before .before .before .before .before .before .refuse-if in
+    let mark-uses′ = c .before .before .mark-uses in
+    in-shift (pre′ .0 .usable .tidy) (due′ .ensures) (assigns′ .ensures) (due2′ .ensures) (has-mark′ .ensures) (refuse-if′ .ensures)
+    (λ live f. mark-uses′ .ensures (args′ .c .at) (assigns′ .ensures .it) f)
 
 pub in-shift-spec : {M : Type 1} → statement M
 in-shift-spec =

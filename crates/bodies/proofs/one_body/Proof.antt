@@ -1,11 +1,10 @@
 -- `one_body` meets its contract: where nothing was refused, there was room for one body more, and the book and its row have it.
 use Prim.Native.Nat.{_+_, _<_}
-use mathlib.Core.Path.{_∙_}
 use native.Mathlib.Omega.{arith}
 use borrow.Author.Tests.{eq-eqb, ne-eqb}
 use Rattle.tokens.specs.Written.{bytes}
 use Rattle.meaning.specs.Bounds.{bodiesMost}
-use Rattle.bodies.proofs.Declaring.{first-most, next-below, room-for, body-refused, body-kept}
+use Rattle.bodies.proofs.Declaring.{first-most, count-below, room-for, body-refused, body-kept}
 use borrow.Author.Needs.{needs}
 use Rattle.bodies.proofs.one_body.Statement.{statement}
 use Rattle.bodies.proofs.one_body.Tie as tie
@@ -14,24 +13,36 @@ use Rattle.bodies.proofs.one_body.Tie as tie
 room : (k : tie.Else1) → k .before .before .before .before .before .before .before .before .before .before .before .before .before .before .before .before .before .before .before .before .before .before .before .before .before .before .args .known .macros + k .before .before .before .before .before .before .before .before .before .before .before .before .before .before .before .before .before .before .before .before .before .before .before .before .before .before .args .known .procs < bodiesMost
 unfolding bytes
 room k =
-    let s = k .before .before .before .before .before .before .before .before .before .before .before .before .before .before .before .before .before .before .before .before .before .before .before .before .before .before .pre .0 in
-    room-for (k .before .before .before .before .before .before .before .before .before .before .before .before .before .before .before .before .before .before .before .before .before .before .before .before .before .before .args .macros) (k .before .before .before .before .before .before .before .before .before .before .before .before .before .before .before .before .before .before .part-of .ensures) (s .describes) (k .before .before .before .before .before .before .before .before .before .before .before .before .before .before .before .new-name .ensures) (k .before .before .before .before .before .before .before .before .before .before .before .before .before .refuse-if .ensures) (k .before .before .before .before .before .before .before .before .before .before .before .due .ensures)
-    (k .before .before .before .before .before .before .statements .ensures .2 (s .env) (s .describes)) (eq-eqb _ _ (k .if1 .left))
+    let begin = k .before .before .before .before .before .before .before .before .before .before .before .before .before .before .before .before .before .before .before .before .before .before .before .before .before .before in
+    let s = begin .pre .0 in
+    room-for (begin .args .macros) (k .before .before .before .before .before .before .before .before .before .before .before .before .before .before .before .before .before .before .part-of .ensures) (s .describes) (k .before .before .before .before .before .before .before .before .before .before .before .before .before .before .before .new-name .ensures) (k .before .before .before .before .before .before .before .before .before .before .before .before .before .refuse-if .ensures) (k .before .before .before .before .before .before .before .before .before .before .before .due .ensures)
+    (k .before .before .before .before .before .before .statements .ensures .2 (s .env) (s .describes))
+    (eq-eqb _ _ (k .if1 .left))
 
 part-of-requires : tie.Need-part-of-requires
 part-of-requires c κs = search needs
 
 mul-new-name : tie.Need-mul-new-name
-mul-new-name c = omega (arith, first-most (c .before .before .before .before .before .before .before .before .args .known) (c .before .before .before .before .before .before .before .before .args .macros) (c .part-of .ensures))
+mul-new-name c =
+    let args′ = c .before .before .before .before .before .before .before .before .args in
+    omega (arith, first-most (args′ .known) (args′ .macros) (c .part-of .ensures))
 
 mul-new-name-2 : tie.Need-mul-new-name-2
-mul-new-name-2 c = omega (arith, first-most (c .before .before .before .before .before .before .before .before .args .known) (c .before .before .before .before .before .before .before .before .args .macros) (c .part-of .ensures))
+mul-new-name-2 c =
+    let args′ = c .before .before .before .before .before .before .before .before .args in
+    omega (arith, first-most (args′ .known) (args′ .macros) (c .part-of .ensures))
 
 sub-new-name : tie.Need-sub-new-name
-sub-new-name c = omega (arith, first-most (c .before .before .before .before .before .before .before .before .args .known) (c .before .before .before .before .before .before .before .before .args .macros) (c .part-of .ensures), c .before .before .before .before .before .before .before .before .pre .0 .describes .book-long)
+sub-new-name c =
+    let args′ = c .before .before .before .before .before .before .before .before .args in
+    let pre′ = c .before .before .before .before .before .before .before .before .pre in
+    omega (arith, first-most (args′ .known) (args′ .macros) (c .part-of .ensures), pre′ .0 .describes .book-long)
 
 part-new-name-start : tie.Need-part-new-name-start
-part-new-name-start c = omega (arith, first-most (c .before .before .before .before .before .before .before .before .before .args .known) (c .before .before .before .before .before .before .before .before .before .args .macros) (c .before .part-of .ensures), c .before .before .before .before .before .before .before .before .before .pre .0 .describes .book-long)
+part-new-name-start c =
+    let args′ = c .before .before .before .before .before .before .before .before .before .args in
+    let pre′ = c .before .before .before .before .before .before .before .before .before .pre in
+    omega (arith, first-most (args′ .known) (args′ .macros) (c .before .part-of .ensures), pre′ .0 .describes .book-long)
 
 part-new-name-end : tie.Need-part-new-name-end
 part-new-name-end c = search needs
@@ -55,7 +66,9 @@ slice-aggregate-statements : tie.Need-slice-aggregate-statements
 slice-aggregate-statements c = search needs
 
 statements-requires : tie.Need-statements-requires
-statements-requires c κs = (c .before .before .before .before .before .before .before .before .before .before .before .before .before .before .before .before .before .before .before .pre .0, omega arith, search needs, c .before .before .before .before .before .before .before .before .before .before .before .before .before .before .before .before .before .before .before .pre .1)
+statements-requires c κs =
+    let pre′ = c .before .before .before .before .before .before .before .before .before .before .before .before .before .before .before .before .before .before .before .pre in
+    (pre′ .0, omega arith, search needs, pre′ .1)
 
 same-length : tie.Need-same-length
 same-length c = search needs
@@ -68,22 +81,46 @@ same-length-3 c = search needs
 
 returns : tie.Need-returns
 unfolding bytes
-returns c = λ e s. body-refused (c .before .before .before .before .before .before .before .before .before .before .before .before .before .before .before .before .before .before .before .before .before .before .before .before .before .before .args .macros) (c .before .before .before .before .before .before .before .before .before .before .before .before .before .before .before .before .before .before .part-of .ensures) s (c .before .before .before .before .before .before .before .before .before .before .before .before .before .before .before .new-name .ensures) (c .before .before .before .before .before .before .before .before .before .before .before .before .before .refuse-if .ensures) (c .before .before .before .before .before .before .before .before .before .before .before .due .ensures) (c .before .before .before .before .before .before .statements .ensures .2 e s) (ne-eqb _ _ (c .if1 .taken))
+returns c =
+    let args′ = c .before .before .before .before .before .before .before .before .before .before .before .before .before .before .before .before .before .before .before .before .before .before .before .before .before .before .args in
+    let part-of′ = c .before .before .before .before .before .before .before .before .before .before .before .before .before .before .before .before .before .before .part-of in
+    let new-name′ = c .before .before .before .before .before .before .before .before .before .before .before .before .before .before .before .new-name in
+    let refuse-if′ = c .before .before .before .before .before .before .before .before .before .before .before .before .before .refuse-if in
+    let due′ = c .before .before .before .before .before .before .before .before .before .before .before .due in
+    let statements′ = c .before .before .before .before .before .before .statements in
+    λ e s.
+    body-refused (args′ .macros) (part-of′ .ensures) s (new-name′ .ensures) (refuse-if′ .ensures) (due′ .ensures) (statements′ .ensures .2 e s)
+    (ne-eqb _ _ (c .if1 .taken))
 
 add-keep : tie.Need-add-keep
-add-keep c = omega (arith, next-below (c .before .before .before .before .before .before .before .before .before .before .before .before .before .before .before .before .before .before .before .before .before .before .before .before .before .before .before .before .args .known) (c .before .before .before .before .before .before .before .before .before .before .before .before .before .before .before .before .before .before .before .before .before .before .before .before .before .before .before .before .args .macros) (c .before .before .before .before .before .before .before .before .before .before .before .before .before .before .before .before .before .before .before .before .part-of .ensures) (room (c .before .before)))
+add-keep c =
+    let args′ = c .before .before .before .before .before .before .before .before .before .before .before .before .before .before .before .before .before .before .before .before .before .before .before .before .before .before .before .before .args in
+    let part-of′ = c .before .before .before .before .before .before .before .before .before .before .before .before .before .before .before .before .before .before .before .before .part-of in
+    omega (arith, first-most (args′ .known) (args′ .macros) (part-of′ .ensures), count-below (args′ .known) (args′ .macros) (part-of′ .ensures) (room (c .before .before)))
 
 keep-requires : tie.Need-keep-requires
-keep-requires c κs = (c .before .before .before .before .before .before .before .before .before .before .before .before .before .before .before .before .before .before .before .before .before .before .before .before .before .before .before .before .pre .0 .describes .book-long, omega (arith, next-below (c .before .before .before .before .before .before .before .before .before .before .before .before .before .before .before .before .before .before .before .before .before .before .before .before .before .before .before .before .args .known) (c .before .before .before .before .before .before .before .before .before .before .before .before .before .before .before .before .before .before .before .before .before .before .before .before .before .before .before .before .args .macros) (c .before .before .before .before .before .before .before .before .before .before .before .before .before .before .before .before .before .before .before .before .part-of .ensures) (room (c .before .before))))
+keep-requires c κs =
+    let pre′ = c .before .before .before .before .before .before .before .before .before .before .before .before .before .before .before .before .before .before .before .before .before .before .before .before .before .before .before .before .pre in
+    let args′ = c .before .before .before .before .before .before .before .before .before .before .before .before .before .before .before .before .before .before .before .before .before .before .before .before .before .before .before .before .args in
+    let part-of′ = c .before .before .before .before .before .before .before .before .before .before .before .before .before .before .before .before .before .before .before .before .part-of in
+    (pre′ .0 .describes .book-long, omega (arith, first-most (args′ .known) (args′ .macros) (part-of′ .ensures), count-below (args′ .known) (args′ .macros) (part-of′ .ensures) (room (c .before .before))))
 
 add-keep-row : tie.Need-add-keep-row
-add-keep-row c = omega (arith, next-below (c .before .before .before .before .before .before .before .before .before .before .before .before .before .before .before .before .before .before .before .before .before .before .before .before .before .before .before .before .before .before .before .before .args .known) (c .before .before .before .before .before .before .before .before .before .before .before .before .before .before .before .before .before .before .before .before .before .before .before .before .before .before .before .before .before .before .before .before .args .macros) (c .before .before .before .before .before .before .before .before .before .before .before .before .before .before .before .before .before .before .before .before .before .before .before .before .part-of .ensures) (room (c .before .before .before .before .before .before)))
+add-keep-row c =
+    let args′ = c .before .before .before .before .before .before .before .before .before .before .before .before .before .before .before .before .before .before .before .before .before .before .before .before .before .before .before .before .before .before .before .before .args in
+    let part-of′ = c .before .before .before .before .before .before .before .before .before .before .before .before .before .before .before .before .before .before .before .before .before .before .before .before .part-of in
+    omega (arith, first-most (args′ .known) (args′ .macros) (part-of′ .ensures), count-below (args′ .known) (args′ .macros) (part-of′ .ensures) (room (c .before .before .before .before .before .before)))
 
 slice-aggregate-keep-row : tie.Need-slice-aggregate-keep-row
 slice-aggregate-keep-row c = search needs
 
 keep-row-requires : tie.Need-keep-row-requires
-keep-row-requires c κs = (c .before .before .before .before .before .before .before .before .before .before .before .before .before .before .before .before .before .before .before .before .before .before .before .before .before .before .before .before .before .before .before .before .before .pre .0 .describes .rows-long, c .before .before .before .before .before .before .before .before .before .before .before .before .before .statements .ensures .0, next-below (c .before .before .before .before .before .before .before .before .before .before .before .before .before .before .before .before .before .before .before .before .before .before .before .before .before .before .before .before .before .before .before .before .before .args .known) (c .before .before .before .before .before .before .before .before .before .before .before .before .before .before .before .before .before .before .before .before .before .before .before .before .before .before .before .before .before .before .before .before .before .args .macros) (c .before .before .before .before .before .before .before .before .before .before .before .before .before .before .before .before .before .before .before .before .before .before .before .before .before .part-of .ensures) (room (c .before .before .before .before .before .before .before)))
+keep-row-requires c κs =
+    let pre′ = c .before .before .before .before .before .before .before .before .before .before .before .before .before .before .before .before .before .before .before .before .before .before .before .before .before .before .before .before .before .before .before .before .before .pre in
+    let args′ = c .before .before .before .before .before .before .before .before .before .before .before .before .before .before .before .before .before .before .before .before .before .before .before .before .before .before .before .before .before .before .before .before .before .args in
+    let part-of′ = c .before .before .before .before .before .before .before .before .before .before .before .before .before .before .before .before .before .before .before .before .before .before .before .before .before .part-of in
+    let statements′ = c .before .before .before .before .before .before .before .before .before .before .before .before .before .statements in
+    (pre′ .0 .describes .rows-long, statements′ .ensures .0, omega (arith, first-most (args′ .known) (args′ .macros) (part-of′ .ensures), count-below (args′ .known) (args′ .macros) (part-of′ .ensures) (room (c .before .before .before .before .before .before .before))))
 
 one-more-requires : tie.Need-one-more-requires
 one-more-requires c κs = room (c .before .before .before .before .before .before .before .before .before .before)
@@ -99,7 +136,19 @@ same-length-6 c = search needs
 
 returns-2 : tie.Need-returns-2
 unfolding bytes
-returns-2 c = λ e s. body-kept (c .before .before .before .before .before .before .before .before .before .before .before .before .before .before .before .before .before .before .before .before .before .before .before .before .before .before .before .before .before .before .before .before .before .before .before .before .before .args .macros) (c .before .before .before .before .before .before .before .before .before .before .before .before .before .before .before .before .before .before .before .before .before .before .before .before .before .before .before .before .before .part-of .ensures) s (c .before .before .before .before .before .before .before .before .before .before .before .before .before .before .before .before .before .before .before .before .before .before .before .before .before .before .new-name .ensures) (c .before .before .before .before .before .before .before .before .before .before .before .before .before .before .before .before .before .before .before .before .before .before .before .before .refuse-if .ensures) (c .before .before .before .before .before .before .before .before .before .before .before .before .before .before .before .before .before .before .before .before .before .before .due .ensures) (c .before .before .before .before .before .before .before .before .before .before .before .before .before .before .before .before .before .statements .ensures .2 e s) (eq-eqb _ _ (c .before .before .before .before .before .before .before .before .before .before .before .if1 .left)) (c .before .before .before .before .before .before .before .before .keep .ensures) (c .before .before .before .keep-row .ensures) (c .one-more .ensures)
+returns-2 c =
+    let args′ = c .before .before .before .before .before .before .before .before .before .before .before .before .before .before .before .before .before .before .before .before .before .before .before .before .before .before .before .before .before .before .before .before .before .before .before .before .before .args in
+    let part-of′ = c .before .before .before .before .before .before .before .before .before .before .before .before .before .before .before .before .before .before .before .before .before .before .before .before .before .before .before .before .before .part-of in
+    let new-name′ = c .before .before .before .before .before .before .before .before .before .before .before .before .before .before .before .before .before .before .before .before .before .before .before .before .before .before .new-name in
+    let refuse-if′ = c .before .before .before .before .before .before .before .before .before .before .before .before .before .before .before .before .before .before .before .before .before .before .before .before .refuse-if in
+    let due′ = c .before .before .before .before .before .before .before .before .before .before .before .before .before .before .before .before .before .before .before .before .before .before .due in
+    let statements′ = c .before .before .before .before .before .before .before .before .before .before .before .before .before .before .before .before .before .statements in
+    let if1′ = c .before .before .before .before .before .before .before .before .before .before .before .if1 in
+    let keep′ = c .before .before .before .before .before .before .before .before .keep in
+    let keep-row′ = c .before .before .before .keep-row in
+    λ e s.
+    body-kept (args′ .macros) (part-of′ .ensures) s (new-name′ .ensures) (refuse-if′ .ensures) (due′ .ensures) (statements′ .ensures .2 e s)
+    (eq-eqb _ _ (if1′ .left)) (keep′ .ensures) (keep-row′ .ensures) (c .one-more .ensures)
 
 pub one-body-spec : {M : Type 1} → statement M
 one-body-spec =

@@ -20,7 +20,10 @@ due-requires-2 c κs = search needs
 
 returns : tie.Need-returns
 unfolding bytes
-returns c = λ k. rw (c .before .before .before .before .if1 .taken) (block-opened true k (c .before .before .due .ensures) (c .due2 .ensures))
+returns c =
+    let if1′ = c .before .before .before .before .if1 in
+    let due′ = c .before .before .due in
+    λ k. rw (if1′ .taken) (block-opened true k (due′ .ensures) (c .due2 .ensures))
 
 slice-aggregate-due-3 : tie.Need-slice-aggregate-due-3
 slice-aggregate-due-3 c = search needs
@@ -36,7 +39,10 @@ due-requires-4 c κs = search needs
 
 returns-2 : tie.Need-returns-2
 unfolding bytes
-returns-2 c = λ k. rw (c .before .before .before .before .if1 .left) (block-opened false k (c .before .before .due3 .ensures) (c .due4 .ensures))
+returns-2 c =
+    let if1′ = c .before .before .before .before .if1 in
+    let due3′ = c .before .before .due3 in
+    λ k. rw (if1′ .left) (block-opened false k (due3′ .ensures) (c .due4 .ensures))
 
 pub opened-spec : {M : Type 1} → statement M
 opened-spec =
