@@ -2,29 +2,17 @@
 
 mod proved;
 
-use second::Refusal;
+use second::{Document, Refusal, Summary};
 use std::process::ExitCode;
 
-/// What the two readers say of one text, where they differ.
-fn difference(text: &[u8]) -> Option<String> {
-    let ours = proved::declared(text);
-    let theirs = second::check(text);
-    let agree = match (&ours, &theirs) {
-        (Err(mine), Err(other)) => mine == other,
-        (Ok(read), Ok(summary)) => read.signals == summary.signals && read.tables == summary.tables,
-        (Ok(read), Err(other)) => lies_behind(other, read.next),
-        (Err(_), Ok(_)) => false,
-    };
-    if agree {
+/// What the two readers say of one text, 1 to 16, where they differ.
+fn difference(text: &[u8], ours: &Result<Summary, Refusal>) -> Option<String> {
+    let theirs = Document::read_unplayed(text).map(|document| document.summary());
+    if *ours == theirs {
         None
     } else {
         Some(format!("proved {ours:?}, second {theirs:?}"))
     }
-}
-
-/// A refusal of what stands behind the declarations, which end at `next`: 16 alone is at place 0.
-fn lies_behind(refusal: &Refusal, next: u64) -> bool {
-    refusal.number == 16 || (refusal.number >= 4 && refusal.place >= next)
 }
 
 fn number(word: Option<String>) -> Option<u64> {
@@ -44,14 +32,13 @@ fn main() -> ExitCode {
     let mut different = 0;
     for seed in first..first.saturating_add(count) {
         let text = second::generate::text(seed);
-        if let Err(refusal) = proved::declared(&text) {
-            refused[usize::from(refusal.number).min(19)] += 1;
-        }
-        if let Some(what) = difference(&text) {
+        let ours = proved::sound(&text);
+        refused[ours.as_ref().err().map_or(0, |refusal| usize::from(refusal.number).min(19))] += 1;
+        if let Some(what) = difference(&text, &ours) {
             different += 1;
             println!("seed {seed}: {what}");
         }
     }
-    println!("declarations: {count} texts, {different} different; refused by number {refused:?}");
+    println!("whole texts, 1 to 16: {count} texts, {different} different; by number (0: none) {refused:?}");
     ExitCode::from(u8::from(different > 0))
 }

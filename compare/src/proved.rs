@@ -1,28 +1,20 @@
 //! The proved reader, behind its C interface.
 
-use second::Refusal;
+use second::{Refusal, Summary};
 
 extern "C" {
-    fn lutemeteor_declared(text: *const u8, length: usize, numbers: *mut u64, room: usize);
+    fn lutemeteor_sound(text: *const u8, length: usize, numbers: *mut u64, room: usize) -> u64;
 }
 
-/// Counts of what is declared, and where the token behind stands.
-#[derive(Debug, PartialEq, Eq)]
-pub struct Read {
-    pub signals: u64,
-    pub names: u64,
-    pub tables: u64,
-    pub next: u64,
-}
-
-pub fn declared(text: &[u8]) -> Result<Read, Refusal> {
+/// Refusals 1 to 16, or the five numbers.
+pub fn sound(text: &[u8]) -> Result<Summary, Refusal> {
     let mut numbers = [0u64; 5];
     // SAFETY: both slices live through the call, and the function is proved for any bytes and any lengths.
-    unsafe { lutemeteor_declared(text.as_ptr(), text.len(), numbers.as_mut_ptr(), numbers.len()) };
-    let [number, place, signals, names, tables] = numbers;
-    if number == 0 {
-        Ok(Read { signals, names, tables, next: place })
+    let answer = unsafe { lutemeteor_sound(text.as_ptr(), text.len(), numbers.as_mut_ptr(), numbers.len()) };
+    if answer == 0 {
+        let [signals, tables, patterns, cycles, size] = numbers;
+        Ok(Summary { signals, tables, patterns, cycles, size })
     } else {
-        Err(Refusal::new(number as u8, place as usize))
+        Err(Refusal::new((answer % 32) as u8, (answer / 32) as usize))
     }
 }

@@ -34,7 +34,8 @@ pub data Entry (text : List ℕ) (count : ℕ) (c r : Cursor) : Type 0 where
   entry-read : {a b : Cursor} {p : ℕ} → Goes text c name a (ahead text c) → Checked a (leb listMost count) tooMany (c .at) b → Goes text b (due ";") r p
       → Entry text count c r
 
-listed-length : (text list : List ℕ) (i k : ℕ) → length (firsts (namesFrom text list i k)) ≡ k
+-- so many names are listed
+pub listed-length : (text list : List ℕ) (i k : ℕ) → length (firsts (namesFrom text list i k)) ≡ k
 unfolding firsts namesFrom
 listed-length text list i zero = refl
 listed-length text list i (suc k) = ap suc (listed-length text list (suc i) k)

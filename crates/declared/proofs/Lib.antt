@@ -1,2 +1,2 @@
 mod Below
-mod Numbers
+pub mod Numbers

@@ -17,7 +17,7 @@ length-follow : (x : Played) (f : State → Played) (c d : ℕ) → length (x .1
 unfolding follow
 length-follow x f c d h k = length-append (x .1) (f (x .0) .1) ∙ ap₂ (λ (a b : ℕ). a + b) h (k (x .0))
 
-length-again : (n c : ℕ) (f : State → Played) (s : State) → ((s : State) → length (f s .1) ≡ c) → length (again n f s .1) ≡ n * c
+pub length-again : (n c : ℕ) (f : State → Played) (s : State) → ((s : State) → length (f s .1) ≡ c) → length (again n f s .1) ≡ n * c
 unfolding again
 length-again zero c f s h = sym (zero-mul c)
 length-again (suc n) c f s h = length-follow (f s) (λ s′. again n f s′) c (n * c) (h s) (λ s′. length-again n c f s′ h) ∙ add-comm c (n * c) ∙ sym (suc-mul n c)
@@ -28,7 +28,7 @@ length-entering macro a c f s h = h _
 length-entering procedure a c f s h = h _
 length-entering listed a c f s h = h _
 
-length-playing : (t : ℕ) (w : Way) (c : ℕ) (f : State → Played) (s : State) → ((s : State) → length (f s .1) ≡ c) → length (playing t w f s .1) ≡ turnsOf t w * c
+pub length-playing : (t : ℕ) (w : Way) (c : ℕ) (f : State → Played) (s : State) → ((s : State) → length (f s .1) ≡ c) → length (playing t w f s .1) ≡ turnsOf t w * c
 unfolding playing turnsOf
 length-playing t (looped n) c f s h = length-again n c f s h
 length-playing t shifted c f s h = length-again t c f s h

@@ -15,7 +15,7 @@ use Rattle.meaning.specs.Services.{row, rows, rowWidth, Window, window, 
 use Rattle.meaning.specs.Windows.{Lent, rowsGiven, joined, Roomy, reach}
 use Rattle.meaning.proofs.Rows.{AllWide, rows-are-cycles, every-cycle-wide, rows-width}
 
-rows-++ : (cs ds : List Cycle) → rows (cs ++ ds) ≡ rows cs ++ rows ds
+pub rows-++ : (cs ds : List Cycle) → rows (cs ++ ds) ≡ rows cs ++ rows ds
 unfolding rows
 rows-++ [] ds = refl
 rows-++ (c ∷ cs) ds = ap (λ (l : List ℕ). row c ++ l) (rows-++ cs ds) ∙ sym (append-assoc (row c) (rows cs) (rows ds))
@@ -31,7 +31,7 @@ wide-drop n (suc k) [] h = tt
 wide-drop n (suc k) (c ∷ cs) h = wide-drop n k cs (h .1)
 
 -- as many as there are, where more are asked for
-take-min : {A : Type 0} (k : ℕ) (l : List A) → take (min k (length l)) l ≡ take k l
+pub take-min : {A : Type 0} (k : ℕ) (l : List A) → take (min k (length l)) l ≡ take k l
 take-min zero l = simp unary-clauses
 take-min (suc k) [] = simp unary-clauses
 take-min (suc k) (x ∷ l) = simp unary-clauses (ap (λ r. x ∷ r) (take-min k l))

@@ -1,10 +1,10 @@
--- A byte of a word is allowed, and so is a blank.
-use Prim.Native.Nat.{ℕ, _≤_}
+-- A byte of a word is allowed, and so is a blank, which is none of a word.
+use Prim.Native.Nat.{ℕ, _≤_, _<_}
 use native.Mathlib.Omega.{arith}
 use mathlib.Core.Path.{_≡_, refl, ap, _∙_}
-use mathlib.Core.Bool.{Bool, true, false, _&&_, _||_, false≢true}
+use mathlib.Core.Bool.{Bool, true, false, _&&_, _||_, and-false, or-false, false≢true}
 use lib.Dec.{eqb, leb}
-use borrow.Author.Tests.{leb-true, le-leb, eqb-true}
+use borrow.Author.Tests.{leb-true, le-leb, lt-leb, eqb-true, ne-eqb}
 use Rattle.tokens.specs.Bytes.{between, allowed, blank, letter, digit, wordy}
 
 either : {C : Type 0} (x y : Bool) → (x ≡ true → C) → (y ≡ true → C) → (x || y) ≡ true → C
@@ -42,3 +42,27 @@ wordy-allowed b =
 pub blank-allowed : (b : ℕ) → blank b ≡ true → allowed b ≡ true
 unfolding allowed
 blank-allowed b h = rw h
+
+pub blank-unwordy : (b : ℕ) → blank b ≡ true → wordy b ≡ false
+unfolding wordy letter digit between blank
+blank-unwordy b = either _ _ (either _ _ (either _ _ (plain 32 refl) (plain 9 refl)) (plain 10 refl)) (plain 13 refl)
+  where
+    plain : (a : ℕ) → wordy a ≡ false → eqb b a ≡ true → wordy b ≡ false
+    plain a h e = ap wordy (eqb-true b a e) ∙ h
+
+-- above the capitals there are only the small letters
+pub small : (b : ℕ) → 97 ≤ b → leb b 122 ≡ wordy b
+unfolding wordy letter digit between
+small b h =
+    rw (
+      lt-leb b 90 (omega arith),
+      le-leb 97 b h,
+      lt-leb b 57 (omega arith),
+      ne-eqb b 95 (λ e. omega arith),
+      ne-eqb b 46 (λ e. omega arith),
+    )
+    (simp (and-false, or-false))
+
+pub capital : (b : ℕ) → b < 97 → (((leb 65 b && leb b 90) || (leb 48 b && leb b 57)) || eqb b 95) || eqb b 46 ≡ wordy b
+unfolding wordy letter digit between
+capital b h = rw (lt-leb 97 b h, or-false)

@@ -12,11 +12,12 @@ use borrow.Author.Tests.{eq-eqb, ne-eqb, le-leb, lt-leb}
 use Rattle.tokens.specs.Written.{starts, cases}
 use Rattle.tokens.specs.Bytes.{between, allowed, blank, letter, digit, wordy}
 use Rattle.tokens.specs.Refusals.{textMost, tooLong, badByte, openComment}
-use Rattle.tokens.specs.Tokens.{Toks, Mode, plain, inword, line, closing, opened, block, Act, go, token, bad, run, outside, inMode, act, ended, done, lex, toks, found, nothing, refused, first, nextToken}
-use Rattle.tokens.specs.Answers.{nextOf, Leads}
+use Rattle.tokens.specs.Tokens.{Toks, tok, Mode, plain, inword, line, closing, opened, block, Act, go, token, bad, run, outside, inMode, act, ended, done, lex, toks, found, nothing, refused, first, nextToken}
+use Rattle.tokens.specs.Answers.{nextOf, TokenAt, Leads}
 use Rattle.tokens.specs.declared.Step.{Step}
 use Rattle.tokens.specs.declared.Lead.{Lead}
 use Rattle.tokens.specs.declared.Lead.the-variants.{On, To}
+use Rattle.tokens.proofs.Allowed.{blank-allowed, blank-unwordy}
 
 -- ---- what a byte b does, with s behind it, by what is known of it
 
@@ -33,7 +34,7 @@ module _ (p b : ℕ) (s : List ℕ) where
   unfolding act inMode cases
   block-does q e h = rw (e, h)
 
-  word-does : allowed b ≡ true → wordy b ≡ true → act plain p b s ≡ token (b ∷ run s) inword
+  pub word-does : allowed b ≡ true → wordy b ≡ true → act plain p b s ≡ token (b ∷ run s) inword
   unfolding act inMode outside cases
   word-does e h = rw (e, h)
 
@@ -168,22 +169,29 @@ module _ (text : List ℕ) (i : ℕ) where
 
   -- ---- outside comments
 
-  pub blank-goes : i < length text → allowed (getD text i 0) ≡ true → wordy (getD text i 0) ≡ false → blank (getD text i 0) ≡ true
-      → toks text i ≡ toks text (i + 1)
+  pub blank-goes : i < length text → blank (getD text i 0) ≡ true → toks text i ≡ toks text (i + 1)
   unfolding done toks
-  blank-goes h e k j = turn text i plain _ _ h refl (blank-does i _ _ e k j)
+  blank-goes h j = turn text i plain _ _ h refl (blank-does i _ _ (blank-allowed _ j) (blank-unwordy _ j) j)
 
-  pub word-found : (e : ℕ) → i < length text → allowed (getD text i 0) ≡ true → wordy (getD text i 0) ≡ true
-      → e ≡ i + 1 + length (run (drop (i + 1) text)) → first (toks text i) ≡ found i (e - i)
-  unfolding done toks first
-  word-found e h a w k =
+  pub word : (b : ℕ) → TokenAt text i b → wordy b ≡ true
+      → toks text i ≡ tok (record { at = i; word = b ∷ run (drop (i + 1) text) }) (from text inword (i + 1))
+  unfolding done toks
+  word b t w = turn text i plain b _ (t .inside) (sym (t .byte)) (word-does i b _ (t .good) w)
+
+  pub sign : (b : ℕ) → TokenAt text i b → wordy b ≡ false → toks text i ≡ tok (record { at = i; word = b ∷ [] }) (toks text (i + 1))
+  unfolding done toks
+  sign b t w = turn text i plain b _ (t .inside) (sym (t .byte)) (sign-does i b _ (t .good) w (t .mark) (t .alone))
+
+  pub word-found : (b e : ℕ) → TokenAt text i b → wordy b ≡ true → e ≡ i + 1 + length (run (drop (i + 1) text))
+      → first (toks text i) ≡ found i (e - i)
+  unfolding first
+  word-found b e t w k =
       let n : suc (length (run (drop (i + 1) text))) ≡ e - i = omega arith in
-      ap first (turn text i plain _ _ h refl (word-does i _ _ a w)) ∙ ap (found i) n
+      ap first (word b t w) ∙ ap (found i) n
 
-  pub sign-found : i < length text → allowed (getD text i 0) ≡ true → wordy (getD text i 0) ≡ false → blank (getD text i 0) ≡ false
-      → (getD text i 0 ≡ 47 → ⊥) → first (toks text i) ≡ found i 1
-  unfolding done toks first
-  sign-found h e k j o = ap first (turn text i plain _ _ h refl (sign-does i _ _ e k j o))
+  pub sign-found : (b : ℕ) → TokenAt text i b → wordy b ≡ false → first (toks text i) ≡ found i 1
+  unfolding first
+  sign-found b t w = ap first (sign b t w)
 
   pub over : length text ≤ i → first (toks text i) ≡ nothing
   unfolding toks lex ended first

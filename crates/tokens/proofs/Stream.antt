@@ -36,11 +36,11 @@ run-short (b ∷ s) = by (wordy b) (run-short s)
     by true h = omega arith
     by false h = omega arith
 
-in-word : (p b : ℕ) (s : List ℕ) → wordy b ≡ true → act inword p b s ≡ go inword
+pub in-word : (p b : ℕ) (s : List ℕ) → wordy b ≡ true → act inword p b s ≡ go inword
 unfolding act inMode outside cases
 in-word p b s e = rw (wordy-allowed b e, e)
 
-behind-word : (p b : ℕ) (s : List ℕ) → wordy b ≡ false → act inword p b s ≡ act plain p b s
+pub behind-word : (p b : ℕ) (s : List ℕ) → wordy b ≡ false → act inword p b s ≡ act plain p b s
 unfolding act inMode outside cases
 behind-word p b s e = ap (λ (x : Act). cases ((allowed b, x) ∷ []) bad) (rw e)
 

@@ -2,7 +2,10 @@
 use Prim.Native.Nat.{ℕ, _<_}
 use mathlib.Core.Path.{_≡_}
 use mathlib.Core.List.{List}
+use mathlib.Core.Bool.{true, false}
 use mathlib.Core.Option.{Option, none, some}
+use lib.ListN.{length, getD}
+use Rattle.tokens.specs.Bytes.{allowed, blank}
 use Rattle.tokens.specs.Tokens.{Toks, toks, Next, found, nothing, refused, first}
 use Rattle.tokens.specs.declared.Step.{Step}
 use Rattle.tokens.specs.declared.Step.the-variants.{Token, Nothing, Refused}
@@ -29,6 +32,14 @@ ledTo text (To s) = nextOf s
 abbrev pub Ahead : ℕ → Lead → Type 0
 Ahead at (On i) = at < i
 Ahead at (To s) = Unit {0}
+
+-- at the place `at` stands the byte b, which is allowed and no blank, and no `/`: a token begins there
+pub record TokenAt (text : List ℕ) (at b : ℕ) : Type 0 where
+  pub inside : at < length text
+  pub byte : b ≡ getD text at 0
+  pub good : allowed b ≡ true
+  pub mark : blank b ≡ false
+  pub alone : b ≡ 47 → ⊥
 
 -- from the place `at`, where the tokens ts stand, reading is led to r
 pub record Leads (text : List ℕ) (at : ℕ) (ts : Toks) (r : Lead) : Type 0 where

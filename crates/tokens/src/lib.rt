@@ -2,9 +2,11 @@
 ghost use mathlib.Core.Path.{_≡_};
 ghost use Prim.Native.Nat.{_+_, _<_};
 ghost use lib.ListN.{getD, length, drop};
+ghost use lib.Dec.{ltb};
 ghost use Rattle.tokens.specs.Bytes.{allowed, blank, wordy};
-ghost use Rattle.tokens.specs.Tokens.{run, line, block, lex, toks, first, nextToken, faultOf};
-ghost use Rattle.tokens.specs.Answers.{nextOf, faultTold, Leads};
+ghost use Rattle.tokens.specs.Refusals.{textMost};
+ghost use Rattle.tokens.specs.Tokens.{run, line, block, lex, toks, found, first, nextToken, faultOf};
+ghost use Rattle.tokens.specs.Answers.{nextOf, faultTold, TokenAt, Leads};
 
 pub enum Step {
     // its place in the whole text and its length
@@ -26,11 +28,15 @@ pub enum Lead {
     To(Step),
 }
 
-// Is it a byte of a word?
+// Is it a byte of a word? Small letters are the most frequent, and are told by two comparisons.
 pub fn is_wordy(b: u8) -> bool
     ensures { λ r. ⌜ r ≡ wordy b ⌝ }
 {
-    ((65 <= b) & (b <= 90) | (97 <= b) & (b <= 122)) | (48 <= b) & (b <= 57) | (b == 95) | (b == 46)
+    if 97 <= b {
+        b <= 122
+    } else {
+        (65 <= b) & (b <= 90) | (48 <= b) & (b <= 57) | (b == 95) | (b == 46)
+    }
 }
 
 fn is_blank(b: u8) -> bool
@@ -120,73 +126,115 @@ fn at_slash(text: &[u8], at: usize) -> Lead
     Lead::To(Step::Token(at, 1))
 }
 
-// At a byte outside comments.
-fn at_byte(text: &[u8], at: usize) -> Lead
-    requires { ⌜ at < length (now text) ⌝ }
-    ensures { λ r. ⌜ Leads (now (text .entry)) at (toks (now (text .entry)) at) r ⌝ }
+// The length of the token that begins at a place with the byte b.
+fn token_length(text: &[u8], at: usize, b: u8) -> usize
+    requires { ⌜ TokenAt (now text) at b ⌝ }
+    ensures { λ r. ⌜ first (toks (now (text .entry)) at) ≡ found at r ⌝ }
 {
-    let b = text[at];
     if is_wordy(b) {
         let behind = at + 1;
         let end = word_end(text, behind);
-        return Lead::To(Step::Token(at, end - at));
+        return end - at;
     }
-    if is_blank(b) {
-        return Lead::On(at + 1);
-    }
-    if !is_allowed(b) {
-        return Lead::To(Step::Refused(2, at));
-    }
-    if b == 47 {
-        return at_slash(text, at);
-    }
-    Lead::To(Step::Token(at, 1))
+    1
 }
 
-// The first token from a place on, in a text of any length.
+// The first token from a place on, where comments may stand before it.
+fn past_comments(text: &[u8], at: usize) -> Step
+    ensures { λ r. ⌜ nextOf r ≡ first (toks (now (text .entry)) at) ⌝ }
+{
+    let mut i = at;
+    while i < text.len() {
+        let b = text[i];
+        if b == 47 {
+            match at_slash(text, i) {
+                Lead::On(k) => {
+                    i = k;
+                }
+                Lead::To(s) => {
+                    return s;
+                }
+            }
+        } else {
+            if !is_blank(b) {
+                if !is_allowed(b) {
+                    return Step::Refused(2, i);
+                }
+                return Step::Token(i, token_length(text, i, b));
+            }
+            i += 1;
+        }
+    }
+    Step::Nothing
+}
+
+// The first token from a place on, in a text of any length. Where no comment stands before it this is the whole way, and a short one.
 pub fn first_from(text: &[u8], at: usize) -> Step
     ensures { λ r. ⌜ nextOf r ≡ first (toks (now (text .entry)) at) ⌝ }
 {
     let mut i = at;
     while i < text.len() {
-        match at_byte(text, i) {
-            Lead::On(k) => {
-                i = k;
+        let b = text[i];
+        if !is_blank(b) {
+            if b == 47 {
+                // bound first: where a call is returned outright, the answers of the other ways are copied once more
+                let step = past_comments(text, i);
+                return step;
             }
-            Lead::To(s) => {
-                return s;
+            if !is_allowed(b) {
+                return Step::Refused(2, i);
             }
+            return Step::Token(i, token_length(text, i, b));
         }
+        i += 1;
     }
     Step::Nothing
+}
+
+fn is_too_long(text: &[u8]) -> bool
+    ensures { λ r. ⌜ r ≡ ltb textMost (length (now (text .entry))) ⌝ }
+{
+    65536 < text.len()
 }
 
 // The next token from a place on, as if reading began there.
 pub fn next_token(text: &[u8], at: usize) -> Step
     ensures { λ r. ⌜ nextOf r ≡ nextToken (now (text .entry)) at ⌝ }
 {
-    if 65536 < text.len() {
+    if is_too_long(text) {
         return Step::Refused(1, 0);
     }
     first_from(text, at)
 }
 
-// What is wrong with the whole text as bytes: too long, a byte that is not allowed, a comment that is not closed.
+// What is wrong with the whole text as bytes: too long, a byte that is not allowed, a comment that is not closed. Only a `/` is looked behind.
 pub fn fault_in(text: &[u8]) -> Fault
     ensures { λ r. ⌜ faultTold r ≡ faultOf (now (text .entry)) ⌝ }
 {
-    let mut at = 0;
-    loop {
-        match next_token(text, at) {
-            Step::Token(p, l) => {
-                at = p + l;
+    if is_too_long(text) {
+        return Fault::Faulty(1, 0);
+    }
+    let mut i = 0;
+    while i < text.len() {
+        let b = text[i];
+        if !is_allowed(b) {
+            return Fault::Faulty(2, i);
+        }
+        if b == 47 {
+            match past_comments(text, i) {
+                Step::Token(p, l) => {
+                    i = p + l;
+                }
+                Step::Nothing => {
+                    return Fault::Clean;
+                }
+                Step::Refused(n, p) => {
+                    return Fault::Faulty(n, p);
+                }
             }
-            Step::Nothing => {
-                return Fault::Clean;
-            }
-            Step::Refused(n, p) => {
-                return Fault::Faulty(n, p);
-            }
+        } else {
+            i += 1;
         }
     }
+    Fault::Clean
 }

@@ -22,7 +22,7 @@ use Rattle.words.proofs.Flow.{then, given, alike}
 -- ---- the same names, which stand for something else
 
 module _ {A B : Type 0} (f : A → B) where
-  abbrev over : Option A → Option B
+  abbrev pub over : Option A → Option B
   over none = none
   over (some a) = some (f a)
 
@@ -98,11 +98,15 @@ module _ {A : Type 0} (text places : List ℕ) (z : A) where
       cons-same (cc) (ap f (sym (add-zero i)) ∙ h 0) l
 
   module _ (count : ℕ) (xs : List (Tok × A)) (e : firsts xs ≡ firsts (names text places count)) where
-    abbrev standing : ℕ → A
+    abbrev pub standing : ℕ → A
     standing i = getD (seconds xs) i z
 
     all : named standing (names text places count) ≡ xs
     all = by-number xs 0 count standing e (λ j. ap standing (zero-add j))
+
+    -- what is found in the list is what stands at the number that is found in the table
+    pub found-by-number : (w : List ℕ) → find xs w ≡ over standing (find (names text places count) w)
+    found-by-number w = ap (λ (ys : List (Tok × A)). find ys w) (sym all) ∙ find-named standing (names text places count) w
 
     -- a name of number i in the table stands for what stands at i in the list
     pub old-by-number : {c r : Cursor} {t : Tok} {i : ℕ} → Goes text c (oldName (names text places count)) r (t, i)

@@ -1,11 +1,11 @@
 -- The definitions on words, at a place of a word: one turn of a loop is one step of a definition.
-use Prim.Native.Nat.{ℕ, _+_, _-_, _≤_, _<_}
+use Prim.Native.Nat.{ℕ, zero, suc, _+_, _-_, _≤_, _<_}
 use Prim.Native.String.{String}
 use mathlib.Core.Path.{_≡_, refl, sym, ap, _∙_}
 use native.Mathlib.Omega.{arith}
 use native.Mathlib.Nat.{add-zero}
 use native.Mathlib.Numerals.{add-one}
-use mathlib.Core.Bool.{Bool, true, false, not, _&&_, _||_, and-false, or-false}
+use mathlib.Core.Bool.{Bool, true, false, not, _&&_, _||_, and-true, and-false, and-assoc, or-false}
 use mathlib.Core.List.{List, [], _∷_}
 use borrow.Author.Tests.{eq-eqb, ne-eqb, eqb-true, eqb-false}
 use lib.Dec.{leb, eqb}
@@ -39,18 +39,31 @@ same-long [] (b ∷ v) h = refl
 same-long (a ∷ w) [] h = refl
 same-long (a ∷ w) (b ∷ v) h = ap (λ (x : Bool). eqb a b && x) (same-long w v (λ e. h (omega arith))) ∙ and-false (eqb a b)
 
-module _ (w v : List ℕ) (i : ℕ) where
-  pub same-more : i < length w → i < length v → getD w i 0 ≡ getD v i 0 → same (drop i w) (drop i v) ≡ same (drop (i + 1) w) (drop (i + 1) v)
-  unfolding same
-  same-more h k e = rw (cut w i h, cut v i k) (rw (eq-eqb _ _ e))
+-- equal fronts: those with one byte more are equal if that byte is, too
+same-front : (w v : List ℕ) (i : ℕ) → i < length w → i < length v
+    → same (take (suc i) w) (take (suc i) v) ≡ (same (take i w) (take i v) && eqb (getD w i 0) (getD v i 0))
+unfolding same
+same-front [] v i h k = absurd (omega arith)
+same-front (a ∷ w) [] i h k = absurd (omega arith)
+same-front (a ∷ w) (b ∷ v) zero h k = and-true (eqb a b)
+same-front (a ∷ w) (b ∷ v) (suc i) h k =
+    ap (λ (x : Bool). eqb a b && x) (same-front w v i (omega arith) (omega arith)) ∙ sym (and-assoc (eqb a b) _ _)
 
-  pub same-differ : i < length w → i < length v → (getD w i 0 ≡ getD v i 0 → ⊥) → same (drop i w) (drop i v) ≡ false
-  unfolding same
-  same-differ h k e = rw (cut w i h, cut v i k) (rw (ne-eqb _ _ e))
+module _ (w v : List ℕ) (i j : ℕ) (e : i ≡ j + 1) (h : j < length w) (k : j < length v) where
+  pub same-less : getD w j 0 ≡ getD v j 0 → same (take i w) (take i v) ≡ same (take j w) (take j v)
+  same-less q = rw (e, add-one) (same-front w v j h k ∙ rw (eq-eqb _ _ q) (and-true (same (take j w) (take j v))))
 
-  pub same-end : length w ≤ i → length v ≤ i → same (drop i w) (drop i v) ≡ true
-  unfolding same
-  same-end h k = rw (drop-of-length-le w h, drop-of-length-le v k)
+  pub same-differ-there : (getD w j 0 ≡ getD v j 0 → ⊥) → same (take i w) (take i v) ≡ false
+  same-differ-there q = rw (e, add-one) (same-front w v j h k ∙ rw (ne-eqb _ _ q) (and-false (same (take j w) (take j v))))
+
+pub same-none : (w v : List ℕ) (i : ℕ) → i ≤ 0 → same (take i w) (take i v) ≡ true
+unfolding same
+same-none w v zero h = refl
+same-none w v (suc i) h = absurd (omega arith)
+
+-- all of them
+pub same-all : (w v : List ℕ) (n : ℕ) → length w ≤ n → length v ≤ n → same w v ≡ same (take n w) (take n v)
+same-all w v n h k = rw (take-all n w h, take-all n v k)
 
 pub same-eq : (w v : List ℕ) → same w v ≡ true → w ≡ v
 unfolding same
@@ -115,6 +128,16 @@ reserved-of n w e = sym (among-of-length reserved w ∙ ap (λ (m : ℕ). among 
 abbrev pub NoneOf : List ℕ → ℕ → Type 0
 NoneOf [] n = Unit {0}
 NoneOf (l ∷ ls) n = NoneOf ls n × (n ≡ l → ⊥)
+
+-- nor one of those up to k, which are smaller
+unfoldable pub upTo : ℕ → List ℕ → List ℕ
+upTo zero ls = ls
+upTo (suc k) ls = suc k ∷ upTo k ls
+
+pub none-upTo : (k : ℕ) (ls : List ℕ) (n : ℕ) → k < n → NoneOf ls n → NoneOf (upTo k ls) n
+unfolding upTo
+none-upTo zero ls n h r = r
+none-upTo (suc k) ls n h r = (none-upTo k ls n (omega arith) r, λ e. omega arith)
 
 none-has : (ls : List ℕ) (n : ℕ) → NoneOf ls n → has n ls ≡ false
 unfolding has

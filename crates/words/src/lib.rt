@@ -1,9 +1,9 @@
 // Readers of single tokens: a cursor over the text, names, reserved words, numbers and times.
 ghost use mathlib.Core.Path.{_≡_};
-ghost use Prim.Native.Nat.{ℕ, _+_, min};
+ghost use Prim.Native.Nat.{ℕ, _+_, _≤_, _<_, min};
 ghost use mathlib.Core.List.{List};
 ghost use mathlib.Core.Option.{Option};
-ghost use lib.ListN.{getD};
+ghost use lib.ListN.{getD, length};
 ghost use mathlib.Core.Bool.{false, _&&_, not};
 ghost use lib.Dec.{eqb, ltb};
 ghost use Rattle.tokens.specs.Written.{same};
@@ -135,6 +135,7 @@ pub fn expect(text: &[u8], c: Cursor, right: bool) -> Cursor
 
 // ---- tokens that are due
 
+// Are two words equal? From the end on: names often differ in their last byte only.
 pub fn equal(w: &[u8], v: &[u8]) -> bool
     ensures { λ r. ⌜ r ≡ same (now (w .entry)) (now (v .entry)) ⌝ }
 {
@@ -142,12 +143,12 @@ pub fn equal(w: &[u8], v: &[u8]) -> bool
     if n != v.len() {
         return false;
     }
-    let mut i = 0;
-    while i < n {
+    let mut i = n;
+    while 0 < i {
+        i -= 1;
         if w[i] != v[i] {
             return false;
         }
-        i += 1;
     }
     true
 }
@@ -233,8 +234,9 @@ pub fn all_chars(w: &[u8]) -> bool
 
 // ---- names
 
-// Is w one of the words that are no names? Only words of its length are looked at.
-pub fn reserved(w: &[u8]) -> bool
+// Is w one of the words of at most 4 bytes that are no names?
+fn reserved_short(w: &[u8]) -> bool
+    requires { ⌜ length (now w) ≤ 4 ⌝ }
     ensures { λ r. ⌜ r ≡ among reservedWords (now (w .entry)) ⌝ }
 {
     let n = w.len();
@@ -243,9 +245,31 @@ pub fn reserved(w: &[u8]) -> bool
         2 => equal(w, b"In"),
         3 => equal(w, b"Out"),
         4 => equal(w, b"STIL") | (equal(w, b"Call") | equal(w, b"Loop")),
+        _ => false,
+    }
+}
+
+// Is w one of those of 5 to 7 bytes?
+fn reserved_middle(w: &[u8]) -> bool
+    requires { ⌜ 4 < length (now w) ⌝ }
+    requires { ⌜ length (now w) ≤ 7 ⌝ }
+    ensures { λ r. ⌜ r ≡ among reservedWords (now (w .entry)) ⌝ }
+{
+    let n = w.len();
+    match n {
         5 => equal(w, b"InOut") | (equal(w, b"Macro") | equal(w, b"Shift")),
         6 => equal(w, b"Timing") | equal(w, b"Period"),
-        7 => equal(w, b"Signals") | (equal(w, b"PatList") | equal(w, b"Pattern")),
+        _ => equal(w, b"Signals") | (equal(w, b"PatList") | equal(w, b"Pattern")),
+    }
+}
+
+// Is w one of those of more bytes?
+fn reserved_long(w: &[u8]) -> bool
+    requires { ⌜ 7 < length (now w) ⌝ }
+    ensures { λ r. ⌜ r ≡ among reservedWords (now (w .entry)) ⌝ }
+{
+    let n = w.len();
+    match n {
         9 => equal(w, b"Waveforms") | equal(w, b"MacroDefs"),
         10 => equal(w, b"Procedures"),
         11 => equal(w, b"PatternExec"),
@@ -253,6 +277,20 @@ pub fn reserved(w: &[u8]) -> bool
         13 => equal(w, b"WaveformTable"),
         _ => false,
     }
+}
+
+// Is w one of the words that are no names? Only words of its length are looked at.
+pub fn reserved(w: &[u8]) -> bool
+    ensures { λ r. ⌜ r ≡ among reservedWords (now (w .entry)) ⌝ }
+{
+    let n = w.len();
+    if n <= 4 {
+        return reserved_short(w);
+    }
+    if n <= 7 {
+        return reserved_middle(w);
+    }
+    reserved_long(w)
 }
 
 pub fn is_name(w: &[u8]) -> bool
@@ -286,8 +324,8 @@ pub fn number_at(list: &[usize], i: usize) -> usize
 pub fn name_bytes<'a>(text: &'a [u8], places: &'a [usize], i: usize) -> &'a [u8]
     ensures { λ r. ⌜ now r ≡ nameOf (now (text .entry)) (now (places .entry)) i .word ⌝ }
 {
-    if i < places.len() {
-        return bytes_of(text, number_at(places, i * 2), number_at(places, i * 2 + 1));
+    if i < places.len() / 2 {
+        return bytes_of(text, places[i * 2], places[i * 2 + 1]);
     }
     &text[0..0]
 }

@@ -1,11 +1,12 @@
 -- `first_from` meets its contract. The invariant: the next token from here is the next token from `at`.
 use Prim.Native.Nat.{_-_}
-use mathlib.Core.Path.{_≡_, refl, _∙_, sym}
+use mathlib.Core.Path.{_≡_, refl, ap, _∙_, sym}
 use native.Mathlib.Omega.{arith}
 use borrow.Author.Needs.{needs}
+use borrow.Author.Tests.{not-true, not-false}
 use lib.ListN.{length}
-use Rattle.tokens.specs.Tokens.{toks, first}
-use Rattle.tokens.proofs.Reading.{on-led, to-led, over}
+use Rattle.tokens.specs.Tokens.{plain, toks, first}
+use Rattle.tokens.proofs.Reading.{bad-stops, blank-goes, over}
 use Rattle.tokens.proofs.first_from.Statement.{statement}
 use Rattle.tokens.proofs.first_from.Tie as tie
 
@@ -18,30 +19,55 @@ abbrev μ-loop : tie.MeasureT-loop
 loop-holds : tie.Need-loop-holds Inv-loop μ-loop
 loop-holds c = refl
 
-at-byte-requires : tie.Need-at-byte-requires Inv-loop μ-loop
-at-byte-requires c κs = search needs
+shared-slice-read-b : tie.Need-shared-slice-read-b Inv-loop μ-loop
+shared-slice-read-b c = search needs
 
-enum-known-k : tie.Need-enum-known-k Inv-loop μ-loop
-enum-known-k c = search needs
+is-blank-requires : tie.Need-is-blank-requires Inv-loop μ-loop
+is-blank-requires c κs = search needs
+
+past-comments-requires : tie.Need-past-comments-requires Inv-loop μ-loop
+past-comments-requires c κs = search needs
+
+returns : tie.Need-returns Inv-loop μ-loop
+returns c = c .past-comments .ensures ∙ sym (c .before .before .before .before .before .before .loop .inv)
+
+is-allowed-requires : tie.Need-is-allowed-requires Inv-loop μ-loop
+is-allowed-requires c κs = search needs
+
+returns-2 : tie.Need-returns-2 Inv-loop μ-loop
+unfolding toks
+returns-2 c =
+    let turn = c .before .before .before .before .before .before in
+    let bad = sym (c .before .is-allowed .ensures) ∙ not-true _ (c .if3 .taken) in
+    sym (turn .before .loop .inv ∙ bad-stops _ _ plain (turn .loop-test .taken) bad)
+
+token-length-requires : tie.Need-token-length-requires Inv-loop μ-loop
+token-length-requires c κs =
+    record {
+      inside = c .before .before .before .before .before .before .loop-test .taken;
+      byte = refl;
+      good = sym (c .before .is-allowed .ensures) ∙ not-false _ (c .if3 .left);
+      mark = sym (c .before .before .before .before .is-blank .ensures) ∙ not-true _ (c .before .before .before .if1 .taken);
+      alone = c .before .before .if2 .left;
+    }
+
+returns-3 : tie.Need-returns-3 Inv-loop μ-loop
+returns-3 c = sym (c .before .before .before .before .before .before .before .before .loop .inv ∙ c .token-length .ensures)
+
+add-i : tie.Need-add-i Inv-loop μ-loop
+add-i c = search needs
 
 loop-less : tie.Need-loop-less Inv-loop μ-loop
-loop-less c = omega (arith, on-led (c .before .k .given .1) (c .before .before .before .at-byte .ensures) .ahead)
+loop-less c = search needs
 
 loop-again : tie.Need-loop-again Inv-loop μ-loop
 loop-again c =
-    let byte = c .before .before .before in
-    byte .before .before .loop .inv ∙ on-led (c .before .k .given .1) (byte .at-byte .ensures) .led
+    let turn = c .before .before .before in
+    turn .before .loop .inv
+    ∙ ap first (blank-goes _ _ (turn .loop-test .taken) (sym (c .before .is-blank .ensures) ∙ not-false _ (c .if1 .left)))
 
-enum-known-s : tie.Need-enum-known-s Inv-loop μ-loop
-enum-known-s c = search needs
-
-returns : tie.Need-returns Inv-loop μ-loop
-returns c =
-    let byte = c .before .before .before in
-    sym (byte .before .before .loop .inv ∙ to-led (c .before .s .given .1) (byte .at-byte .ensures))
-
-returns-2 : tie.Need-returns-2 Inv-loop μ-loop
-returns-2 c = sym (c .before .loop .inv ∙ over _ _ (c .loop-test .left))
+returns-4 : tie.Need-returns-4 Inv-loop μ-loop
+returns-4 c = sym (c .before .loop .inv ∙ over _ _ (c .loop-test .left))
 
 pub first-from-spec : {M : Type 1} → statement M
 first-from-spec =
@@ -50,10 +76,15 @@ first-from-spec =
     Inv-loop
     μ-loop
     loop-holds
-    at-byte-requires
-    enum-known-k
+    shared-slice-read-b
+    is-blank-requires
+    past-comments-requires
+    returns
+    is-allowed-requires
+    returns-2
+    token-length-requires
+    returns-3
+    add-i
     loop-less
     loop-again
-    enum-known-s
-    returns
-    returns-2)
+    returns-4)

@@ -1,31 +1,38 @@
--- `name_bytes` meets its contract: past the table's end the places read as 0, and there are no bytes between them.
-use Prim.Native.Nat.{_+_, _*_}
+-- `name_bytes` meets its contract: past the table's end the end of a name reads as 0, and there are no bytes before it.
+use Prim.Native.Nat.{_+_, _*_, _-_}
+use mathlib.Core.Path.{_≡_}
 use native.Mathlib.Omega.{arith}
 use borrow.Author.Needs.{needs}
-use lib.ListN.{List·getD-eq-default}
+use lib.ListN.{getD, List·getD-eq-default}
 use Rattle.words.proofs.name_bytes.Statement.{statement}
 use Rattle.words.proofs.name_bytes.Tie as tie
 
-mul-number-at : tie.Need-mul-number-at
-mul-number-at c = search needs
+mul-bytes-of : tie.Need-mul-bytes-of
+mul-bytes-of c = search needs
 
-number-at-requires : tie.Need-number-at-requires
-number-at-requires c κs = search needs
+mul-bytes-of-2 : tie.Need-mul-bytes-of-2
+mul-bytes-of-2 c = search needs
 
-mul-number-at-2 : tie.Need-mul-number-at-2
-mul-number-at-2 c = search needs
+shared-slice-read-bytes-of : tie.Need-shared-slice-read-bytes-of
+shared-slice-read-bytes-of c = search needs
 
-add-number-at : tie.Need-add-number-at
-add-number-at c = search needs
+mul-bytes-of-3 : tie.Need-mul-bytes-of-3
+mul-bytes-of-3 c = search needs
 
-number-at-requires-2 : tie.Need-number-at-requires-2
-number-at-requires-2 c κs = search needs
+add-bytes-of : tie.Need-add-bytes-of
+add-bytes-of c = search needs
+
+mul-bytes-of-4 : tie.Need-mul-bytes-of-4
+mul-bytes-of-4 c = search needs
+
+shared-slice-read-bytes-of-2 : tie.Need-shared-slice-read-bytes-of-2
+shared-slice-read-bytes-of-2 c = search needs
 
 bytes-of-requires : tie.Need-bytes-of-requires
 bytes-of-requires c κs = search needs
 
 returns : tie.Need-returns
-returns c = cc
+returns c = search needs
 
 sub-result : tie.Need-sub-result
 sub-result c = search needs
@@ -40,20 +47,20 @@ returns-2 : tie.Need-returns-2
 returns-2 c =
     let places = c .before .before .before .before .args .places .now in
     let i = c .before .before .before .before .args .i in
-    rw (
-      List·getD-eq-default places 0 {n = i * 2} (omega arith),
-      List·getD-eq-default places 0 {n = i * 2 + 1} (omega arith),
-    )
+    let none : 0 - getD places (i * 2) 0 ≡ 0 = omega arith in
+    rw (List·getD-eq-default places 0 {n = i * 2 + 1} (omega arith), none)
 
 pub name-bytes-spec : {M : Type 1} → statement M
 name-bytes-spec =
     tie.close
     (tie.spec
-    mul-number-at
-    number-at-requires
-    mul-number-at-2
-    add-number-at
-    number-at-requires-2
+    mul-bytes-of
+    mul-bytes-of-2
+    shared-slice-read-bytes-of
+    mul-bytes-of-3
+    add-bytes-of
+    mul-bytes-of-4
+    shared-slice-read-bytes-of-2
     bytes-of-requires
     returns
     sub-result

@@ -1,0 +1,10 @@
+pub mod Meant
+pub mod Ends
+pub mod Sounds
+mod Runs
+mod Judging
+mod Keeping
+mod Blocks
+mod Tabling
+mod Deciding
+mod Packing

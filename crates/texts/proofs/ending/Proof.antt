@@ -1,0 +1,68 @@
+-- `ending` meets its contract: the burst, its exec and the patterns, one behind the other.
+use mathlib.Core.Path.{refl}
+use Rattle.tokens.specs.Written.{bytes}
+use Rattle.words.proofs.Flow.{given, then, alive-before}
+use Rattle.texts.specs.Patterns.{ending as endingDue}
+use Rattle.texts.proofs.Keeping.{burst-kept}
+use borrow.Author.Needs.{needs}
+use Rattle.texts.proofs.ending.Statement.{statement}
+use Rattle.texts.proofs.ending.Tie as tie
+
+burst-requires : tie.Need-burst-requires
+burst-requires c κs = search needs
+
+nothing-requires : tie.Need-nothing-requires
+nothing-requires c κs = search needs
+
+keep-requires : tie.Need-keep-requires
+keep-requires c κs = search needs
+
+exec-requires : tie.Need-exec-requires
+exec-requires c κs = search needs
+
+patterns-requires : tie.Need-patterns-requires
+unfolding bytes
+patterns-requires c κs =
+    let pre′ = c .before .before .before .before .before .before .before .before .before .before .before .before .before .before .before .before .before .before .before .before .pre in
+    let keep′ = c .before .before .before .before .before .keep in
+    let nothing′ = c .before .before .before .before .before .before .nothing in
+    record { env = pre′ .0 .env; name = _; patterned = burst-kept (keep′ .ensures) refl refl (nothing′ .ensures) (pre′ .0 .describes) }
+
+same-length : tie.Need-same-length
+same-length c = search needs
+
+same-length-2 : tie.Need-same-length-2
+same-length-2 c = search needs
+
+returns : tie.Need-returns
+unfolding endingDue
+returns c =
+    let patterns′ = c .before .before .before .patterns in
+    let keep′ = c .before .before .before .before .before .before .before .before .before .keep in
+    let nothing′ = c .before .before .before .before .before .before .before .before .before .before .nothing in
+    let burst′ = c .before .before .before .before .before .before .before .before .before .before .before .before .before .before .before .burst in
+    let exec′ = c .before .before .before .before .before .before .exec in
+    λ e s.
+    let all = patterns′ .ensures e _ (burst-kept (keep′ .ensures) refl refl (nothing′ .ensures) s) in
+    record {
+      it = (_, _, all .it);
+      goes = then _ (burst′ .ensures .goes) (then _ (exec′ .ensures) (then _ (all .goes) given));
+      held = λ live. record {
+        patterned = all .held live;
+        listed-are = refl;
+        few-listed = burst′ .ensures .few (alive-before (exec′ .ensures) (alive-before (all .goes) live));
+      };
+    }
+
+pub ending-spec : {M : Type 1} → statement M
+ending-spec =
+    tie.close
+    (tie.spec
+    burst-requires
+    nothing-requires
+    keep-requires
+    exec-requires
+    patterns-requires
+    same-length
+    same-length-2
+    returns)
