@@ -25,11 +25,11 @@ use Rattle.arguments.proofs.Lists.{both}
 use Rattle.bursts.proofs.Entries.{listed-length}
 use Rattle.texts.specs.Texts.{Sound, sound, countsOf}
 use Rattle.texts.specs.Tables.{Tabled, Reads, Found, Decides}
-use Rattle.texts.specs.Run.{Tells, soundOf, Recorded, ReadAs}
+use Rattle.texts.specs.Run.{Tells, soundOf, ReadAs}
 use Rattle.texts.specs.declared.Parts.{Parts}
 use Rattle.texts.specs.declared.Total.{Total}
 use Rattle.texts.specs.declared.Verdict.{Verdict}
-use Rattle.texts.proofs.Sounds.{sound-fault, sound-refused, sound-fits}
+use Rattle.texts.proofs.Sounds.{sound-fault, sound-refused, sound-runs}
 
 module _ {text places lists tplaces waves book rows list : List ℕ} {w : Watch} {r : Parts} (h : Reads text w places lists tplaces waves book rows list r) where
   -- what was read, or anything where reading was refused
@@ -100,7 +100,7 @@ module _ {text places lists tplaces waves book rows list : List ℕ} {w : Watch}
   unfolding countsOf
   counted =
       let t = f .tabled in
-      let m = measured-size (f .measured) (sound-fits text (f .is)) in
+      let m = measured-size (f .measured) (sound-runs text (f .is) .fits) in
       let signals = ap length (t .signals-are) ∙ names-length text places lists (v .parts .signals) in
       let listed = ap length (t .listed-are) ∙ listed-length text list 0 (v .parts .listed) in
       rw (signals, held-count (t .held), listed, m .0, m .1)

@@ -1,22 +1,22 @@
 -- A text that was read to its end: what is left is what its tokens stop with, so that the last cursor tells the fault of its bytes.
 use Prim.Native.Nat.{ℕ, zero, suc, _≤_, _<_}
 use native.Mathlib.Omega.{arith}
-use mathlib.Core.Path.{_≡_, refl, sym, ap, _∙_, subst}
-use mathlib.Core.Bool.{Bool, true, false, not}
+use mathlib.Core.Path.{_≡_, refl, sym, ap, _∙_}
+use mathlib.Core.Bool.{Bool, true, false}
 use mathlib.Core.Option.{Option, none, some}
 use mathlib.Core.List.{List, []}
-use lib.ListN.{length}
 use mathlib.Core.Logic.{⊎-elim}
+use lib.ListN.{length}
 use lib.Dec.{eqb, leb, ltb}
 use borrow.Author.Tests.{eq-eqb, ne-eqb, le-leb, lt-leb, not-false}
 use Rattle.tokens.specs.Refusals.{textMost, tooLong, notHere}
 use Rattle.tokens.specs.Tokens.{Tok, Toks, stop, tok, toks, left, faultIn, faultOf}
 use Rattle.tokens.proofs.Laws.{stops, fault-real}
-use Rattle.meaning.specs.Reader.{Res, Reader, ok, refuse, _>>=_, ahead, option, whileF, while}
+use Rattle.meaning.specs.Reader.{Res, Reader, ok, _>>=_, ahead, whileF, while}
 use Rattle.meaning.specs.Groups.{groups}
-use Rattle.meaning.specs.Statements.{Decls, Env}
+use Rattle.meaning.specs.Statements.{Env}
 use Rattle.meaning.specs.Document.{macroDefs, procedures, bodies, pattern, over, patterns, Read, document}
-use Rattle.meaning.proofs.Gives.{bind-ok, give-ok}
+use Rattle.meaning.proofs.Gives.{bind-ok}
 use Rattle.meaning.proofs.Takes.{Takes}
 use Rattle.held.proofs.Parts.{parts}
 use Rattle.held.proofs.Places.{rest-stream}

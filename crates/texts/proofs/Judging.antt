@@ -9,13 +9,12 @@ use lib.ListN.{length}
 use Rattle.tokens.specs.Refusals.{textMost, notHere}
 use Rattle.tokens.specs.Tokens.{Tok, faultOf}
 use Rattle.meaning.specs.Refusals.{tooLarge}
-use Rattle.meaning.specs.Body.{Body}
 use Rattle.meaning.specs.Document.{Read}
 use Rattle.meaning.specs.Meaning.{runOf}
 use Rattle.words.specs.Cursor.{stopNo}
 use Rattle.bursts.specs.Listed.{listedIn}
 use Rattle.texts.specs.Texts.{sound}
-use Rattle.texts.specs.Run.{Refuses, Tells, runIs, soundOf, Recorded}
+use Rattle.texts.specs.Run.{Refuses, Tells, soundOf, Recorded}
 use Rattle.texts.specs.declared.Parts.{Parts}
 use Rattle.texts.specs.declared.Total.{Total}
 use Rattle.texts.proofs.Ends.{fault-none, fault-last}
@@ -27,9 +26,9 @@ module _ {text book list : List ℕ} {r : Parts} {d : Read} (short : length text
   judged-fault {n} {t} e z f =
       told-fault text (subst (λ (k : ℕ). Refuses k (r .cursor .at) t) e f) (fault-last text (r .cursor) d (h .read) short (λ k. z (e ∙ k)))
 
-  module _ {n : ℕ} {t : Total} (e : n ≡ stopNo (r .cursor)) (end : n ≡ notHere) (run : Tells (runOf (d .patterns) (listedIn text list (r .listed))) runIs t) where
-    run-told : Tells (runOf (d .patterns) (d .listed)) runIs t
-    run-told = subst (λ (l : List Tok). Tells (runOf (d .patterns) l) runIs t) (sym (h .listed-are)) run
+  module _ {n : ℕ} {t : Total} (e : n ≡ stopNo (r .cursor)) (end : n ≡ notHere) (run : Tells (runOf (d .patterns) (listedIn text list (r .listed))) (λ b. b) t) where
+    run-told : Tells (runOf (d .patterns) (d .listed)) (λ b. b) t
+    run-told = subst (λ (l : List Tok). Tells (runOf (d .patterns) l) (λ b. b) t) (sym (h .listed-are)) run
 
     clean : faultOf text ≡ none
     clean = fault-none text (r .cursor) d (h .read) short (sym e ∙ end)

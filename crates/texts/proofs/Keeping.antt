@@ -2,16 +2,16 @@
 use Prim.Native.Nat.{ℕ, suc, _+_, _*_, _-_, _≤_, _<_}
 use native.Mathlib.Omega.{arith}
 use native.Mathlib.Numerals.{add-one}
-use mathlib.Core.Path.{_≡_, refl, sym, ap, _∙_, subst}
+use mathlib.Core.Path.{_≡_, refl, sym, ap, _∙_}
 use mathlib.Core.Bool.{Bool, true, false, not, _&&_}
 use mathlib.Core.List.{List, [], _∷_, _++_}
 use lib.Dec.{leb, ltb}
 use lib.ListN.{length, drop, length-append}
 use borrow.Author.Tests.{leb-false}
-use Rattle.tokens.specs.Tokens.{Tok, Toks, stop, tok, toks}
+use Rattle.tokens.specs.Tokens.{Tok, Toks, stop, toks}
 use Rattle.meaning.specs.Bounds.{patternsMost, depthMost}
 use Rattle.meaning.specs.Refusals.{tooMany}
-use Rattle.meaning.specs.Reader.{Reader, _>>=_, due}
+use Rattle.meaning.specs.Reader.{Reader, due}
 use Rattle.meaning.specs.Names.{newName}
 use Rattle.meaning.specs.Body.{done}
 use Rattle.meaning.specs.Statements.{Decl, Decls, Env, statements, declared}
@@ -29,7 +29,7 @@ use Rattle.timing.specs.Makes.{Makes}
 use Rattle.timing.proofs.Making.{made}
 use Rattle.measures.specs.declared.Measure.{Measure}
 use Rattle.measures.specs.Measures.{Measures}
-use Rattle.measures.specs.Book.{firstProcedure, bodies, burst, firstPattern, entries, Entry, Listed, Used, Kept}
+use Rattle.measures.specs.Book.{firstProcedure, bodies, burst, firstPattern, entries, Listed, Used, Kept}
 use Rattle.measures.proofs.Book.{listed-map, entry-new, used-beside, entries-more, part-listed}
 use Rattle.heads.specs.declared.Known.{Known}
 use Rattle.heads.specs.Known.{Describes}

@@ -1,7 +1,7 @@
 pub mod Meant
 pub mod Ends
 pub mod Sounds
-mod Runs
+pub mod Runs
 mod Judging
 mod Keeping
 mod Blocks

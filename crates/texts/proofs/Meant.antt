@@ -9,7 +9,7 @@ use Rattle.meaning.specs.Refusals.{tooLarge}
 use Rattle.meaning.specs.Reader.{Res, ok, refuse}
 use Rattle.meaning.specs.Body.{Body}
 use Rattle.meaning.specs.Document.{Read, document}
-use Rattle.meaning.specs.Meaning.{Answer, given, refused, answering, runOf, fitting, judged, accept, Meaning, meaning}
+use Rattle.meaning.specs.Meaning.{Answer, given, refused, answering, runOf, fitting, judged, accept, meaning}
 use Rattle.texts.specs.Texts.{Sound, sized, runnable, sound, played}
 
 judged-meant : (d : Read) (r : Body) → judged d r ≡ answering (sized d r) played

@@ -1,6 +1,5 @@
 -- An answer as a caller in C has it: one number, and the numbers of its buffer.
 use Prim.Native.Nat.{ℕ, _+_, _*_, _≤_, _<_}
-use native.Mathlib.Omega.{arith}
 use mathlib.Core.Path.{_≡_, refl}
 use mathlib.Core.List.{List}
 use lib.ListN.{length, set}

@@ -4,7 +4,7 @@ use native.Mathlib.Omega.{arith}
 use native.Mathlib.Numerals.{add-one}
 use mathlib.Core.Path.{_≡_, refl, sym, ap, ap₂, _∙_}
 use mathlib.Core.Bool.{Bool, _&&_}
-use mathlib.Core.Option.{Option, none, some}
+use mathlib.Core.Option.{none, some}
 use mathlib.Core.List.{List, [], _∷_}
 use lib.ListN.{length, getD, drop}
 use lib.Dec.{leb, ltb}
@@ -21,7 +21,7 @@ use Rattle.words.specs.Values.{told}
 use Rattle.words.proofs.Names.{over, found-by-number}
 use Rattle.measures.specs.declared.Measure.{Measure}
 use Rattle.measures.specs.Measures.{Measures, joined}
-use Rattle.measures.specs.Book.{firstPattern, measureAt, Entry, Listed}
+use Rattle.measures.specs.Book.{firstPattern, Entry, Listed}
 use Rattle.measures.proofs.Book.{listed-decl, part-listed}
 use Rattle.measures.proofs.Within.{size-test, cycles-test}
 use Rattle.measures.proofs.Joined.{joined-done, joined-inner}
@@ -32,13 +32,13 @@ use Rattle.bursts.specs.Listed.{listedIn}
 abbrev pub listFrom : List ℕ → List ℕ → ℕ → ℕ → List Tok
 listFrom text list count k = firsts (namesFrom text list k (count - k))
 
-list-cut : (text list : List ℕ) (count k : ℕ) → k < count → listFrom text list count k ≡ nameOf text list k ∷ listFrom text list count (k + 1)
+pub list-cut : (text list : List ℕ) (count k : ℕ) → k < count → listFrom text list count k ≡ nameOf text list k ∷ listFrom text list count (k + 1)
 unfolding firsts namesFrom
 list-cut text list count k h =
     let e : count - k ≡ suc (count - (k + 1)) = omega arith in
     ap (λ (n : ℕ). firsts (namesFrom text list k n)) e ∙ (rw (add-one k))
 
-list-end : (text list : List ℕ) (count k : ℕ) → count ≤ k → listFrom text list count k ≡ []
+pub list-end : (text list : List ℕ) (count k : ℕ) → count ≤ k → listFrom text list count k ≡ []
 unfolding firsts namesFrom
 list-end text list count k h = let e : count - k ≡ 0 = omega arith in rw e
 
@@ -112,11 +112,12 @@ module _ (text book : List ℕ) (ps : Decls) (l : Listed (Entry text book) first
   pub found-none : count ≤ i → find ps w ≡ none
   found-none h = by-number ∙ rw (le-ltb i count h)
 
-  pub found-pattern : i < count → (d : Decl) × (find ps w ≡ some d) × Measures (d .body) (measureAt book (firstPattern + i))
+  pub found-pattern : i < count → (d : Decl) × (find ps w ≡ some d) × (t : Tok) × Entry text book (firstPattern + i) (t, d)
   found-pattern h = (
     getD (seconds ps) i nothing,
     by-number ∙ rw (lt-ltb i count h),
-    listed-decl (Entry text book) firstPattern ps l i (omega arith) (record { at = 0; word = [] }) nothing .measured,
+    _,
+    listed-decl (Entry text book) firstPattern ps l i (omega arith) (record { at = 0; word = [] }) nothing,
   )
 
 -- ---- a run fits where its measure does

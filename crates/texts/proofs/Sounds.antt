@@ -1,8 +1,8 @@
 -- What 1 to 16 say of a text, case by case: the fault of its bytes, what reading it refuses, a listed pattern that is not there, a run that is too large.
 use Prim.Native.Nat.{ℕ}
 use native.Mathlib.Omega.{arith}
-use mathlib.Core.Path.{_≡_, refl, sym, ap, _∙_}
-use mathlib.Core.Bool.{Bool, true, false, _&&_}
+use mathlib.Core.Path.{_≡_, refl, sym, ap, _∙_, subst}
+use mathlib.Core.Bool.{Bool, true, false}
 use mathlib.Core.Option.{Option, none, some}
 use mathlib.Core.List.{List}
 use Rattle.tokens.specs.Tokens.{Toks, toks, faultOf}
@@ -52,26 +52,30 @@ module _ (text : List ℕ) where
         unfolding sized
         sound-given e = sound-run ∙ rw (e, sized)
 
--- what is left fits
-pub sound-fits : (text : List ℕ) {x : Sound} → sound text ≡ given x → fitting (x .run) ≡ true
+-- what is left: the listed patterns are the run, and it fits
+pub record Runs (x : Sound) : Type 0 where
+  pub run-is : runOf (x .read .patterns) (x .read .listed) ≡ given (x .run)
+  pub fits : fitting (x .run) ≡ true
+
+pub sound-runs : (text : List ℕ) {x : Sound} → sound text ≡ given x → Runs x
 unfolding sound runnable sized answering
-sound-fits text {x} e = by-fault (faultOf text) e
+sound-runs text {x} e = by-fault (faultOf text) e
   where
-    by-fit : (d : Read) (b : Body) (t : Bool) → fitting b ≡ t
-        → _≡_ {A = Answer Sound} (elim t [ false ↦ refused tooLarge 0 | true ↦ given (soundOf d b) ]) (given x) → fitting (x .run) ≡ true
-    by-fit d b true f e = let q : soundOf d b ≡ x = cc in ap (λ (y : Sound). fitting (y .run)) (sym q) ∙ f
-    by-fit d b false f e = let z : _≡_ {A = ℕ} 0 1 = cc in absurd (omega arith)
+    by-fit : (d : Read) (b : Body) → runOf (d .patterns) (d .listed) ≡ given b → (t : Bool) → fitting b ≡ t
+        → _≡_ {A = Answer Sound} (elim t [ false ↦ refused tooLarge 0 | true ↦ given (soundOf d b) ]) (given x) → Runs x
+    by-fit d b r true f e = let q : soundOf d b ≡ x = cc in subst Runs q (record { run-is = r; fits = f })
+    by-fit d b r false f e = let z : _≡_ {A = ℕ} 0 1 = cc in absurd (omega arith)
 
-    by-run : (d : Read) (a : Answer Body) → answering a (sized d) ≡ given x → fitting (x .run) ≡ true
-    by-run d (given b) e = by-fit d b (fitting b) refl e
-    by-run d (refused n p) e = let z : _≡_ {A = ℕ} 0 1 = cc in absurd (omega arith)
+    by-run : (d : Read) (a : Answer Body) → runOf (d .patterns) (d .listed) ≡ a → answering a (sized d) ≡ given x → Runs x
+    by-run d (given b) r e = by-fit d b r (fitting b) refl e
+    by-run d (refused n p) r e = let z : _≡_ {A = ℕ} 0 1 = cc in absurd (omega arith)
 
-    by-read : (r : Res Read) → runnable r ≡ given x → fitting (x .run) ≡ true
-    by-read (ok d us) e = by-run d (runOf (d .patterns) (d .listed)) e
+    by-read : (r : Res Read) → runnable r ≡ given x → Runs x
+    by-read (ok d us) e = by-run d (runOf (d .patterns) (d .listed)) refl e
     by-read (refuse n p) e = let z : _≡_ {A = ℕ} 0 1 = cc in absurd (omega arith)
 
     by-fault : (o : Option (ℕ × ℕ))
-        → _≡_ {A = Answer Sound} (elim o [ some f ↦ refused (f .0) (f .1) | none ↦ runnable (document (toks text 0)) ]) (given x) → fitting (x .run) ≡ true
+        → _≡_ {A = Answer Sound} (elim o [ some f ↦ refused (f .0) (f .1) | none ↦ runnable (document (toks text 0)) ]) (given x) → Runs x
     by-fault none e = by-read (document (toks text 0)) e
     by-fault (some f) e = let z : _≡_ {A = ℕ} 0 1 = cc in absurd (omega arith)
 

@@ -1,25 +1,23 @@
 -- The tables hold what was read: from the promises of the readers of each block to that of the reader of all of them.
-use Prim.Native.Nat.{ℕ, _*_, _≤_}
+use Prim.Native.Nat.{ℕ, _*_}
 use native.Mathlib.Omega.{arith}
 use mathlib.Core.Path.{_≡_, refl, sym, ap, _∙_, subst}
 use mathlib.Core.Bool.{Bool, true, false}
 use mathlib.Core.List.{List, []}
 use lib.ListN.{length}
-use borrow.Author.Tests.{eq-eqb, ne-eqb, eqb-false}
-use Rattle.tokens.specs.Tokens.{Tok, Toks, toks}
-use Rattle.meaning.specs.Bounds.{signalsMost, tablesMost}
-use Rattle.meaning.specs.Reader.{Reader, ok, refuse, _>>=_, give}
+use borrow.Author.Tests.{eq-eqb, ne-eqb}
+use Rattle.tokens.specs.Tokens.{toks}
+use Rattle.meaning.specs.Bounds.{tablesMost}
+use Rattle.meaning.specs.Reader.{give}
 use Rattle.meaning.specs.Signals.{Names}
-use Rattle.meaning.specs.Timing.{Tables}
-use Rattle.meaning.specs.Statements.{Decls, Env}
 use Rattle.meaning.specs.Document.{bodies, Read, document}
 use Rattle.meaning.specs.Meaning.{firsts, tableAt}
 use Rattle.held.proofs.Parts.{firstEnv}
 use Rattle.held.proofs.Bodies.{bodies-stay}
 use Rattle.words.specs.Cursor.{stream, Stands, alive, from, Goes}
 use Rattle.words.specs.declared.Cursor.{Cursor}
-use Rattle.words.proofs.Flow.{from-on, from-stop, then, given, alike, stays, read, alive-before}
-use Rattle.signals.specs.Names.{namesMost, Sized, namesOf, AllTidy}
+use Rattle.words.proofs.Flow.{from-on, from-stop, then, given, stays, read, alive-before}
+use Rattle.signals.specs.Names.{namesOf, AllTidy}
 use Rattle.signals.proofs.Tidy.{tidy-wider}
 use Rattle.signals.proofs.Tables.{names-length}
 use Rattle.timing.specs.Makes.{Makes}
@@ -27,16 +25,16 @@ use Rattle.timing.specs.Marks.{tableSize}
 use Rattle.timing.specs.Watch.{Watched}
 use Rattle.timing.specs.declared.Watch.{Watch}
 use Rattle.declared.specs.Declarations.{declarations, Declares}
-use Rattle.assigns.specs.Given.{Ready}
+use Rattle.arguments.proofs.Lists.{differ}
 use Rattle.measures.specs.Book.{bookLength, rowsLength, Listed}
 use Rattle.bursts.proofs.Entries.{listed-length}
 use Rattle.heads.specs.declared.Known.{Known}
 use Rattle.heads.specs.Known.{Describes}
 use Rattle.texts.specs.Patterns.{ending, Ends}
-use Rattle.texts.specs.Tables.{Tabled, Reads}
+use Rattle.texts.specs.Tables.{stoppedAt, Tabled, Reads}
 use Rattle.texts.specs.declared.Parts.{Parts}
 use Rattle.texts.specs.declared.Ended.{Ended}
-use Rattle.texts.proofs.Blocks.{readOf, blocks, document-blocks, parts-of, Signals, declared-signals}
+use Rattle.texts.proofs.Blocks.{blocks, document-blocks, parts-of, Signals, declared-signals}
 
 -- a text that was read from its first token on: refused, or held
 pub reads-from : {text places lists tplaces waves book rows list : List ℕ} {w : Watch} {c : Cursor} {r : Parts} {d : Read} → Stands text 0 c
@@ -57,11 +55,9 @@ reads-from {text} {c = c} {r = r} {d = d} s g h =
 nothing : Read
 nothing = record { signals = []; tables = []; listed = []; patterns = [] }
 
-refused-from : {text places lists tplaces waves book rows list : List ℕ} {w : Watch} {c b : Cursor} {r : Parts} → Stands text 0 c
-    → Goes text c blocks b nothing → r .cursor ≡ b → alive b ≡ false → Reads text w places lists tplaces waves book rows list r
-refused-from {text} {c = c} s g e off =
-    reads-from s (subst (λ (x : Cursor). Goes text c blocks x nothing) (sym e) g)
-    (λ live. let o : true ≡ false = sym live ∙ ap (λ (x : Cursor). alive x) e ∙ off in let z : _≡_ {A = ℕ} 0 1 = cc in absurd (omega arith))
+refused-from : {text places lists tplaces waves book rows list : List ℕ} {w : Watch} {c b : Cursor} {r : Parts} {k : Known} → Stands text 0 c
+    → Goes text c blocks b nothing → r ≡ stoppedAt b k → alive b ≡ false → Reads text w places lists tplaces waves book rows list r
+refused-from {b = b} {k = k} s g e off = rw e (reads-from {r = stoppedAt b k} s g (λ live. absurd (differ (sym live ∙ off))))
 
 module _ {text places lists tplaces waves : List ℕ} {c a : Cursor} {signals names tables : ℕ} {w : Watch} {found : Bool} {place : ℕ} (s : Stands text 0 c)
     (d : Declares text c a places lists tplaces waves signals names tables w found place) where
@@ -72,7 +68,7 @@ module _ {text places lists tplaces waves : List ℕ} {c a : Cursor} {signals na
   ns = namesOf text places lists names
 
   -- refused among the declarations
-  pub reads-stopped : {places′ lists′ tplaces′ waves′ book rows list : List ℕ} {r : Parts} → r .cursor ≡ a → alive a ≡ false
+  pub reads-stopped : {places′ lists′ tplaces′ waves′ book rows list : List ℕ} {r : Parts} {k : Known} → r ≡ stoppedAt a k → alive a ≡ false
       → Reads text w places′ lists′ tplaces′ waves′ book rows list r
   unfolding blocks
   reads-stopped e off = refused-from s (then _ (d .goes) (stays off)) e off
@@ -109,7 +105,7 @@ module _ {text places lists tplaces waves : List ℕ} {c a : Cursor} {signals na
     module _ {book rows : List ℕ} {b : Cursor} {known : Known}
         (f : Makes text a (bodies (firstEnv ns (d .it))) b (λ e. Describes text places lists tplaces book rows known e)) where
       -- among the bodies
-      pub bodies-stopped : {places′ lists′ tplaces′ waves′ book′ rows′ list : List ℕ} {r : Parts} → r .cursor ≡ b → alive b ≡ false
+      pub bodies-stopped : {places′ lists′ tplaces′ waves′ book′ rows′ list : List ℕ} {r : Parts} {k : Known} → r ≡ stoppedAt b k → alive b ≡ false
           → Reads text w places′ lists′ tplaces′ waves′ book′ rows′ list r
       unfolding blocks
       bodies-stopped e off = refused-from s (then _ (d .goes) (then _ (f .goes) (stays off))) e off

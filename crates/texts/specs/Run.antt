@@ -5,7 +5,7 @@ use mathlib.Core.List.{List}
 use lib.ListN.{length}
 use Rattle.tokens.specs.Tokens.{toks}
 use Rattle.meaning.specs.Reader.{ok, refuse}
-use Rattle.meaning.specs.Body.{Body}
+use Rattle.meaning.specs.Body.{Body, done}
 use Rattle.meaning.specs.Document.{Read, document}
 use Rattle.meaning.specs.Meaning.{Answer, given, refused}
 use Rattle.words.specs.Cursor.{stream}
@@ -25,9 +25,7 @@ pub record Tells {A : Type 0} (a : Answer A) (f : Body → A) (r : Total) : Type
 pub record Refuses (no place : ℕ) (r : Total) : Type 0 where
   pub no-is : r .no ≡ no
   pub place-is : r .place ≡ place
-
-abbrev pub runIs : Body → Body
-runIs b = b
+  pub measured : Measures done (r .measure)
 
 -- a text that was read, with its run
 abbrev pub soundOf : Read → Body → Sound

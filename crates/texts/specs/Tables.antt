@@ -1,6 +1,7 @@
 -- What the code's tables hold of a text that was read, and what is promised of the readers of whole texts.
 use Prim.Native.Nat.{ℕ, _*_, _≤_}
 use mathlib.Core.Path.{_≡_}
+use mathlib.Core.Bool.{false}
 use mathlib.Core.List.{List}
 use lib.ListN.{length}
 use Rattle.tokens.specs.Tokens.{Toks, toks}
@@ -10,6 +11,7 @@ use Rattle.meaning.specs.Document.{Read, document}
 use Rattle.meaning.specs.Meaning.{given, refused, tableAt}
 use Rattle.held.proofs.Parts.{Parts as PartsOf}
 use Rattle.words.specs.Cursor.{stream}
+use Rattle.words.specs.declared.Cursor.{Cursor}
 use Rattle.signals.specs.Names.{namesOf, AllTidy}
 use Rattle.timing.specs.Marks.{tableSize}
 use Rattle.timing.specs.Held.{Held}
@@ -17,6 +19,7 @@ use Rattle.timing.specs.Watch.{Watched}
 use Rattle.timing.specs.declared.Watch.{Watch}
 use Rattle.measures.specs.Measures.{Measures}
 use Rattle.measures.specs.Book.{firstPattern, Entry, Listed}
+use Rattle.heads.specs.declared.Known.{Known}
 use Rattle.heads.specs.Known.{Describes}
 use Rattle.bursts.specs.Listed.{listedIn}
 use Rattle.texts.specs.Texts.{Sound, sound}
@@ -40,6 +43,10 @@ pub record Tabled (text places lists tplaces waves book rows list : List ℕ) (r
   pub patterns-are : Listed (Entry text book) firstPattern (d .patterns)
   pub patterns-counted : length (d .patterns) ≡ r .patterns
   pub few-patterns : r .patterns ≤ patternsMost
+
+-- nothing of it was read
+abbrev pub stoppedAt : Cursor → Known → Parts
+stoppedAt c known = record { cursor = c; signals = 0; known = known; listed = 0; patterns = 0; found = false; place = 0 }
 
 -- THE PROMISE of the function that reads a whole text: it was refused, or the tables hold it, and the watched waveform is where it is said to be
 pub record Reads (text : List ℕ) (w : Watch) (places lists tplaces waves book rows list : List ℕ) (r : Parts) : Type 0 where

@@ -19,8 +19,8 @@ ghost use Rattle.heads.specs.Known.{Describes, Described};
 ghost use Rattle.bursts.specs.Listed.{listedIn, listLength};
 ghost use Rattle.texts.specs.Texts.{sound, countsOf};
 ghost use Rattle.texts.specs.Patterns.{Patterned, Begun, ending as endingDue, Ends};
-ghost use Rattle.texts.specs.Tables.{Reads, Decides};
-ghost use Rattle.texts.specs.Run.{Refuses, Tells, runIs, soundOf, Recorded, ReadAs};
+ghost use Rattle.texts.specs.Tables.{stoppedAt, Reads, Decides};
+ghost use Rattle.texts.specs.Run.{Refuses, Tells, soundOf, Recorded, ReadAs};
 ghost use Rattle.texts.specs.Told.{decidedOf, Packs};
 use heads::Known;
 use measures::Measure;
@@ -221,8 +221,9 @@ fn ending<'a>(
     }
 }
 
+// Reading was refused.
 fn stopped(cursor: Cursor, known: Known) -> Parts
-    ensures { λ r. ⌜ r .cursor ≡ cursor ⌝ }
+    ensures { λ r. ⌜ r ≡ stoppedAt cursor known ⌝ }
 {
     Parts {
         cursor,
@@ -302,7 +303,7 @@ fn run_of<'a>(
     patterns: usize,
 ) -> Total
     requires { ⌜ (length (now book) ≡ bookLength) × (length (now list) ≡ listLength) × (listed ≤ listMost) × (patterns ≤ patternsMost) ⌝ }
-    ensures { λ r. ⌜ ((ps : Decls) → Listed (Entry (now (text .entry)) (now (book .entry))) firstPattern ps → length ps ≡ patterns → Tells (runOf ps (listedIn (now (text .entry)) (now (list .entry)) listed)) runIs r) ⌝ }
+    ensures { λ r. ⌜ ((ps : Decls) → Listed (Entry (now (text .entry)) (now (book .entry))) firstPattern ps → length ps ≡ patterns → Tells (runOf ps (listedIn (now (text .entry)) (now (list .entry)) listed)) (λ b. b) r) ⌝ }
 {
     let names = &book[measures::PATTERNS * 2..];
     let mut measure = measures::nothing();
@@ -456,7 +457,7 @@ pub fn decided(text: &[u8]) -> Finding
 }
 
 // The same for a caller in C or Rust. 0: five numbers stand at the front of the buffer; else 32 times the refusal's place and its number, and the buffer
-// is as it was. A buffer of less than five numbers is 19.
+// is as it was. A buffer of less than five numbers is 19. (A place past the longest text, which no refusal has, would not be told.)
 #[no_mangle]
 pub extern "C" fn lutemeteor_sound(text: &[u8], numbers: &mut [usize]) -> usize
     ensures { λ r. ⌜ Packs (answering (sound (now (text .entry))) (λ x. given (countsOf x))) (now (numbers .entry)) r (now (numbers .exit)) ⌝ }

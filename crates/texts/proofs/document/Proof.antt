@@ -29,17 +29,17 @@ same-length-4 c = search needs
 
 returns : tie.Need-returns
 returns c =
-    let cursorat′ = c .before .before .before .before .before .before .before .before .before .before .before .before .before .before .before .before .before .cursor-at in
+    let cursor-at′ = c .before .before .before .before .before .before .before .before .before .before .before .before .before .before .before .before .before .cursor-at in
     let declarations′ = c .before .before .before .before .before .before .before .before .before .before .before .before .declarations in
-    reads-stopped (cursorat′ .ensures) (declarations′ .ensures) (c .stopped .ensures) (ne-eqb _ _ (c .before .if1 .taken))
+    reads-stopped (cursor-at′ .ensures) (declarations′ .ensures) (c .stopped .ensures) (ne-eqb _ _ (c .before .if1 .taken))
 
 bodies-requires : tie.Need-bodies-requires
 bodies-requires c κs =
-    let cursorat′ = c .before .before .before .before .before .before .before .before .before .before .before .before .before .before .before .before .before .before .before .before .before .cursor-at in
+    let cursor-at′ = c .before .before .before .before .before .before .before .before .before .before .before .before .before .before .before .before .before .before .before .before .before .cursor-at in
     let declarations′ = c .before .before .before .before .before .before .before .before .before .before .before .before .before .before .before .before .declarations in
     let if1′ = c .before .before .before .before .before .if1 in
     let pre′ = c .before .before .before .before .before .before .before .before .before .before .before .before .before .before .before .before .before .before .before .before .before .before .before .before .before .before .before .before .before .before .pre in
-    record { env = _; describes = describes-first (cursorat′ .ensures) (declarations′ .ensures) (eq-eqb _ _ (if1′ .left)) (pre′ .1) (pre′ .2) }
+    record { env = _; describes = describes-first (cursor-at′ .ensures) (declarations′ .ensures) (eq-eqb _ _ (if1′ .left)) (pre′ .1) (pre′ .2) }
 
 stopped-requires-2 : tie.Need-stopped-requires-2
 stopped-requires-2 c κs = search needs
@@ -73,24 +73,24 @@ same-length-10 c = search needs
 returns-2 : tie.Need-returns-2
 returns-2 c =
     let if1′ = c .before .before .before .before .before .before .before .before .before .before .before .before .before .before .before .if1 in
-    let cursorat′ = c .before .before .before .before .before .before .before .before .before .before .before .before .before .before .before .before .before .before .before .before .before .before .before .before .before .before .before .before .before .before .before .cursor-at in
+    let cursor-at′ = c .before .before .before .before .before .before .before .before .before .before .before .before .before .before .before .before .before .before .before .before .before .before .before .before .before .before .before .before .before .before .before .cursor-at in
     let declarations′ = c .before .before .before .before .before .before .before .before .before .before .before .before .before .before .before .before .before .before .before .before .before .before .before .before .before .before .declarations in
     let bodies′ = c .before .before .before .before .before .before .before .before .before .bodies in
     let pre′ = c .before .before .before .before .before .before .before .before .before .before .before .before .before .before .before .before .before .before .before .before .before .before .before .before .before .before .before .before .before .before .before .before .before .before .before .before .before .before .before .before .pre in
     let on = eq-eqb _ _ (if1′ .left) in
-    bodies-stopped (cursorat′ .ensures) (declarations′ .ensures) on
-    (bodies′ .ensures .2 _ (describes-first (cursorat′ .ensures) (declarations′ .ensures) on (pre′ .1) (pre′ .2)))
+    bodies-stopped (cursor-at′ .ensures) (declarations′ .ensures) on
+    (bodies′ .ensures .2 _ (describes-first (cursor-at′ .ensures) (declarations′ .ensures) on (pre′ .1) (pre′ .2)))
     (c .stopped2 .ensures) (ne-eqb _ _ (c .before .if2 .taken))
 
 ending-requires : tie.Need-ending-requires
 ending-requires c κs =
     let bodies′ = c .before .before .before .before .before .before .before .before .before .before .before .before .before .before .bodies in
-    let cursorat′ = c .before .before .before .before .before .before .before .before .before .before .before .before .before .before .before .before .before .before .before .before .before .before .before .before .before .before .before .before .before .before .before .before .before .before .before .before .cursor-at in
+    let cursor-at′ = c .before .before .before .before .before .before .before .before .before .before .before .before .before .before .before .before .before .before .before .before .before .before .before .before .before .before .before .before .before .before .before .before .before .before .before .before .cursor-at in
     let declarations′ = c .before .before .before .before .before .before .before .before .before .before .before .before .before .before .before .before .before .before .before .before .before .before .before .before .before .before .before .before .before .before .before .declarations in
     let if1′ = c .before .before .before .before .before .before .before .before .before .before .before .before .before .before .before .before .before .before .before .before .if1 in
     let pre′ = c .before .before .before .before .before .before .before .before .before .before .before .before .before .before .before .before .before .before .before .before .before .before .before .before .before .before .before .before .before .before .before .before .before .before .before .before .before .before .before .before .before .before .before .before .before .pre in
     let if2′ = c .before .before .before .before .before .before .if2 in
-    let f = bodies′ .ensures .2 _ (describes-first (cursorat′ .ensures) (declarations′ .ensures) (eq-eqb _ _ (if1′ .left)) (pre′ .1) (pre′ .2)) in
+    let f = bodies′ .ensures .2 _ (describes-first (cursor-at′ .ensures) (declarations′ .ensures) (eq-eqb _ _ (if1′ .left)) (pre′ .1) (pre′ .2)) in
     (record { env = f .it; describes = f .held (eq-eqb _ _ (if2′ .left)) }, pre′ .3)
 
 same-length-11 : tie.Need-same-length-11
@@ -126,14 +126,14 @@ returns-3 : tie.Need-returns-3
 returns-3 c =
     let if1′ = c .before .before .before .before .before .before .before .before .before .before .before .before .before .before .before .before .before .before .before .before .before .before .before .before .before .before .if1 in
     let bodies′ = c .before .before .before .before .before .before .before .before .before .before .before .before .before .before .before .before .before .before .before .before .bodies in
-    let cursorat′ = c .before .before .before .before .before .before .before .before .before .before .before .before .before .before .before .before .before .before .before .before .before .before .before .before .before .before .before .before .before .before .before .before .before .before .before .before .before .before .before .before .before .before .cursor-at in
+    let cursor-at′ = c .before .before .before .before .before .before .before .before .before .before .before .before .before .before .before .before .before .before .before .before .before .before .before .before .before .before .before .before .before .before .before .before .before .before .before .before .before .before .before .before .before .before .cursor-at in
     let declarations′ = c .before .before .before .before .before .before .before .before .before .before .before .before .before .before .before .before .before .before .before .before .before .before .before .before .before .before .before .before .before .before .before .before .before .before .before .before .before .declarations in
     let pre′ = c .before .before .before .before .before .before .before .before .before .before .before .before .before .before .before .before .before .before .before .before .before .before .before .before .before .before .before .before .before .before .before .before .before .before .before .before .before .before .before .before .before .before .before .before .before .before .before .before .before .before .before .pre in
     let ending′ = c .before .before .before .before .before .ending in
     let if2′ = c .before .before .before .before .before .before .before .before .before .before .before .before .if2 in
     let on = eq-eqb _ _ (if1′ .left) in
-    let f = bodies′ .ensures .2 _ (describes-first (cursorat′ .ensures) (declarations′ .ensures) on (pre′ .1) (pre′ .2)) in
-    reads-all (cursorat′ .ensures) (declarations′ .ensures) on f (declarations′ .kept .1 .1 .1 .1 .1 .0 ∙ pre′ .0 .marks) (ending′ .ensures (f .it) (f .held (eq-eqb _ _ (if2′ .left))))
+    let f = bodies′ .ensures .2 _ (describes-first (cursor-at′ .ensures) (declarations′ .ensures) on (pre′ .1) (pre′ .2)) in
+    reads-all (cursor-at′ .ensures) (declarations′ .ensures) on f (declarations′ .kept .1 .1 .1 .1 .1 .0 ∙ pre′ .0 .marks) (ending′ .ensures (f .it) (f .held (eq-eqb _ _ (if2′ .left))))
 
 pub document-spec : {M : Type 1} → statement M
 document-spec =

@@ -18,30 +18,30 @@ run-of-requires c κs = search needs
 
 returns-2 : tie.Need-returns-2
 returns-2 c =
-    let stopno′ = c .before .before .before .before .stop-no in
+    let stop-no′ = c .before .before .before .before .stop-no in
     let if1′ = c .before .before .before .if1 in
-    λ short d h. judged-undefined short h (stopno′ .ensures) (if1′ .left) (c .before .before .run-of .ensures _ (h .patterns-are) (h .patterns-counted)) (c .if2 .taken)
+    λ short d h. judged-undefined short h (stop-no′ .ensures) (if1′ .left) (c .before .before .run-of .ensures _ (h .patterns-are) (h .patterns-counted)) (c .if2 .taken)
 
 returns-3 : tie.Need-returns-3
 returns-3 c =
-    let stopno′ = c .before .before .before .before .before .before .before .before .stop-no in
+    let stop-no′ = c .before .before .before .before .before .before .before .before .stop-no in
     let if1′ = c .before .before .before .before .before .before .before .if1 in
-    let runof′ = c .before .before .before .before .before .before .run-of in
+    let run-of′ = c .before .before .before .before .before .before .run-of in
     let if2′ = c .before .before .before .before .if2 in
     λ short d h.
-    judged-sound short h (stopno′ .ensures) (if1′ .left) (runof′ .ensures _ (h .patterns-are) (h .patterns-counted)) (if2′ .left) (c .if3 .taken)
+    judged-sound short h (stop-no′ .ensures) (if1′ .left) (run-of′ .ensures _ (h .patterns-are) (h .patterns-counted)) (if2′ .left) (c .if3 .taken)
 
 refused-requires-2 : tie.Need-refused-requires-2
 refused-requires-2 c κs = search needs
 
 returns-4 : tie.Need-returns-4
 returns-4 c =
-    let stopno′ = c .before .before .before .before .before .before .before .before .before .stop-no in
+    let stop-no′ = c .before .before .before .before .before .before .before .before .before .stop-no in
     let if1′ = c .before .before .before .before .before .before .before .before .if1 in
-    let runof′ = c .before .before .before .before .before .before .before .run-of in
+    let run-of′ = c .before .before .before .before .before .before .before .run-of in
     let if2′ = c .before .before .before .before .before .if2 in
     λ short d h.
-    judged-large short h (stopno′ .ensures) (if1′ .left) (runof′ .ensures _ (h .patterns-are) (h .patterns-counted)) (if2′ .left) (c .before .if3 .left) (c .refused2 .ensures)
+    judged-large short h (stop-no′ .ensures) (if1′ .left) (run-of′ .ensures _ (h .patterns-are) (h .patterns-counted)) (if2′ .left) (c .before .if3 .left) (c .refused2 .ensures)
 
 pub judged-spec : {M : Type 1} → statement M
 judged-spec =

@@ -1,9 +1,8 @@
 -- `pattern` meets its contract: where nothing was refused, there was room for one pattern more, and the book has it.
-use Prim.Native.Nat.{_*_, _<_}
+use Prim.Native.Nat.{_*_}
 use native.Mathlib.Omega.{arith}
 use borrow.Author.Tests.{eq-eqb, eqb-true}
 use Rattle.tokens.specs.Written.{bytes}
-use Rattle.meaning.specs.Bounds.{patternsMost}
 use Rattle.measures.specs.Book.{burst}
 use Rattle.words.proofs.Words.{rest}
 use Rattle.texts.proofs.Keeping.{pattern-room, pattern-refused, pattern-kept}
@@ -71,13 +70,13 @@ returns c =
     let statements′ = c .before .before .before .before .before .before .before .statements in
     let args′ = c .before .before .before .before .before .before .before .before .before .before .before .before .before .before .before .before .before .before .before .before .before .before .before .before .before .before .before .args in
     let due′ = c .before .before .before .before .before .before .before .before .before .before .before .before .before .before .before .before .before .due in
-    let refuseif′ = c .before .before .before .before .before .before .before .before .before .before .before .before .before .before .before .before .refuse-if in
-    let newname′ = c .before .before .before .before .before .before .before .before .before .before .before .before .before .new-name in
+    let refuse-if′ = c .before .before .before .before .before .before .before .before .before .before .before .before .before .before .before .before .refuse-if in
+    let new-name′ = c .before .before .before .before .before .before .before .before .before .before .before .before .before .new-name in
     let due2′ = c .before .before .before .before .before .before .before .before .before .before .before .due2 in (
       statements′ .ensures .0,
       statements′ .ensures .1,
       λ e b ps s.
-          pattern-refused s (rest (args′ .book .now) (burst * 2)) (due′ .ensures) (refuseif′ .ensures) (newname′ .ensures) (due2′ .ensures)
+          pattern-refused s (rest (args′ .book .now) (burst * 2)) (due′ .ensures) (refuse-if′ .ensures) (new-name′ .ensures) (due2′ .ensures)
           (statements′ .ensures .2 e (s .describes)) (λ live. c .if1 .taken (eqb-true _ _ live)),
     )
 
@@ -90,14 +89,14 @@ keep-requires : tie.Need-keep-requires
 keep-requires c κs =
     let pre′ = c .before .before .before .before .before .before .before .before .before .before .before .before .before .before .before .before .before .before .before .before .before .before .before .before .before .before .before .before .before .pre in
     let args′ = c .before .before .before .before .before .before .before .before .before .before .before .before .before .before .before .before .before .before .before .before .before .before .before .before .before .before .before .before .before .args in
-    let refuseif′ = c .before .before .before .before .before .before .before .before .before .before .before .before .before .before .before .before .before .before .refuse-if in
-    let newname′ = c .before .before .before .before .before .before .before .before .before .before .before .before .before .before .before .new-name in
+    let refuse-if′ = c .before .before .before .before .before .before .before .before .before .before .before .before .before .before .before .before .before .before .refuse-if in
+    let new-name′ = c .before .before .before .before .before .before .before .before .before .before .before .before .before .before .before .new-name in
     let due2′ = c .before .before .before .before .before .before .before .before .before .before .before .before .before .due2 in
     let statements′ = c .before .before .before .before .before .before .before .before .before .statements in (
       pre′ .0 .describes .book-long,
       omega (
         arith,
-        pattern-room (args′ .count) (refuseif′ .ensures) (newname′ .ensures) (due2′ .ensures)
+        pattern-room (args′ .count) (refuse-if′ .ensures) (new-name′ .ensures) (due2′ .ensures)
             (statements′ .ensures .2 (pre′ .0 .env) (pre′ .0 .describes) .goes) (eq-eqb _ _ (c .before .before .if1 .left)),
       ),
     )
@@ -117,14 +116,14 @@ returns-2 c =
     let statements′ = c .before .before .before .before .before .before .before .before .before .before .before .before .statements in
     let args′ = c .before .before .before .before .before .before .before .before .before .before .before .before .before .before .before .before .before .before .before .before .before .before .before .before .before .before .before .before .before .before .before .before .args in
     let due′ = c .before .before .before .before .before .before .before .before .before .before .before .before .before .before .before .before .before .before .before .before .before .before .due in
-    let refuseif′ = c .before .before .before .before .before .before .before .before .before .before .before .before .before .before .before .before .before .before .before .before .before .refuse-if in
-    let newname′ = c .before .before .before .before .before .before .before .before .before .before .before .before .before .before .before .before .before .before .new-name in
+    let refuse-if′ = c .before .before .before .before .before .before .before .before .before .before .before .before .before .before .before .before .before .before .before .before .before .refuse-if in
+    let new-name′ = c .before .before .before .before .before .before .before .before .before .before .before .before .before .before .before .before .before .before .new-name in
     let due2′ = c .before .before .before .before .before .before .before .before .before .before .before .before .before .before .before .before .due2 in
     let if1′ = c .before .before .before .before .before .if1 in (
       statements′ .ensures .0,
       statements′ .ensures .1,
       λ e b ps s.
-          pattern-kept s (rest (args′ .book .now) (burst * 2)) (due′ .ensures) (refuseif′ .ensures) (newname′ .ensures) (due2′ .ensures)
+          pattern-kept s (rest (args′ .book .now) (burst * 2)) (due′ .ensures) (refuse-if′ .ensures) (new-name′ .ensures) (due2′ .ensures)
           (statements′ .ensures .2 e (s .describes)) (eq-eqb _ _ (if1′ .left)) (c .before .before .keep .ensures),
     )
 

@@ -1,7 +1,7 @@
 -- `patterns` meets its contract: reading on behind the patterns so far is reading all of them, for every text of which the book has these.
 use Prim.Native.Nat.{_*_}
 use native.Mathlib.Omega.{arith}
-use mathlib.Core.Path.{_≡_, refl, sym, _∙_}
+use mathlib.Core.Path.{_≡_, refl, _∙_}
 use mathlib.Core.Bool.{true, not}
 use mathlib.Core.List.{[]}
 use lib.ListN.{length}

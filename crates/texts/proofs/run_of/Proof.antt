@@ -41,7 +41,9 @@ nothing-requires : tie.Need-nothing-requires Inv-loop μ-loop
 nothing-requires c κs = search needs
 
 loop-holds : tie.Need-loop-holds Inv-loop μ-loop
-loop-holds c = (rest (c .before .before .before .before .before .args .book .now) (firstPattern * 2), λ ps l n. running ps _ _ _ (c .nothing .ensures))
+loop-holds c =
+    let args′ = c .before .before .before .before .before .args in
+    (rest (args′ .book .now) (firstPattern * 2), λ ps l n. running ps _ _ _ (c .nothing .ensures))
 
 name-bytes-requires : tie.Need-name-bytes-requires Inv-loop μ-loop
 name-bytes-requires c κs = search needs
@@ -63,10 +65,14 @@ refused-requires c κs = search needs
 
 returns : tie.Need-returns Inv-loop μ-loop
 returns c =
+    let loop′ = c .before .before .before .before .before .before .loop in
+    let loop-test′ = c .before .before .before .before .before .loop-test in
+    let name-bytes′ = c .before .before .before .before .name-bytes in
+    let find′ = c .before .before .before .find in
     λ ps l n.
     told-refused (c .refused .ensures)
-    (run-undefined _ _ _ _ (c .before .before .before .before .before .before .loop .inv .1 ps l n) (c .before .before .before .before .before .loop-test .taken)
-    (found-none _ _ ps l _ (c .before .before .before .before .before .before .loop .inv .0) (c .before .before .before .before .name-bytes .ensures) (c .before .before .before .find .ensures) n (c .before .before .if1 .taken)))
+    (run-undefined _ _ _ _ (loop′ .inv .1 ps l n) (loop-test′ .taken)
+    (found-none _ _ ps l _ (loop′ .inv .0) (name-bytes′ .ensures) (find′ .ensures) n (c .before .before .if1 .taken)))
     (λ z. omega arith)
 
 add-measure-at : tie.Need-add-measure-at Inv-loop μ-loop
@@ -88,13 +94,18 @@ loop-less : tie.Need-loop-less Inv-loop μ-loop
 loop-less c = search needs
 
 loop-again : tie.Need-loop-again Inv-loop μ-loop
-loop-again c = (
-  c .before .before .before .before .before .before .before .loop .inv .0,
-  λ ps l n.
-      let x = found-pattern _ _ ps l _ (c .before .before .before .before .before .before .before .loop .inv .0) (c .before .before .before .before .before .name-bytes .ensures) (c .before .before .before .before .find .ensures) n (c .before .before .before .if1 .left) in
-      run-next _ _ _ _ (c .before .before .before .before .before .before .before .loop .inv .1 ps l n) (c .before .before .before .before .before .before .loop-test .taken) (x .1)
-      (λ a m. c .plus .ensures a _ m (c .before .used .ensures _ _ _ (rw (c .before .before .measure-at .ensures) (x .2)))),
-)
+loop-again c =
+    let loop′ = c .before .before .before .before .before .before .before .loop in
+    let name-bytes′ = c .before .before .before .before .before .name-bytes in
+    let find′ = c .before .before .before .before .find in
+    let if1′ = c .before .before .before .if1 in
+    let loop-test′ = c .before .before .before .before .before .before .loop-test in (
+      loop′ .inv .0,
+      λ ps l n.
+          let x = found-pattern _ _ ps l _ (loop′ .inv .0) (name-bytes′ .ensures) (find′ .ensures) n (if1′ .left) in
+          run-next _ _ _ _ (loop′ .inv .1 ps l n) (loop-test′ .taken) (x .1)
+          (λ a m. c .plus .ensures a _ m (c .before .used .ensures _ _ _ (rw (c .before .before .measure-at .ensures) (x .3 .measured)))),
+    )
 
 returns-2 : tie.Need-returns-2 Inv-loop μ-loop
 returns-2 c =

@@ -1,0 +1,774 @@
+-- Statements and the bodies in them, one proof for all: a body in a body has one level less to go, so that the number of levels falls at each call that
+-- enters one; at each turn of a body's statements fewer tokens are left.
+use Prim.Native.Nat.{_+_, _*_}
+use native.Mathlib.Omega.{arith}
+use mathlib.Core.Path.{sym, _∙_}
+use borrow.Author.Needs.{needs}
+use borrow.Author.Tests.{eq-eqb}
+use Rattle.tokens.specs.Tokens.{left}
+use Rattle.meaning.specs.Run.{bare}
+use Rattle.turns.specs.Few.{playFew}
+use Rattle.words.specs.Cursor.{stream}
+use Rattle.assigns.proofs.Table.{gave-zeros}
+use Rattle.plays.specs.Plays.{ground, arrays}
+use Rattle.plays.proofs.Fitting.{fits-some}
+use Rattle.plays.proofs.Heading.{begins-within}
+use Rattle.plays.proofs.Keeping.{kept-none, kept-then, kept-others, kept-args, kept-supplied, sized-kept, sized-at, shows-supplied}
+use Rattle.plays.proofs.Stepping.{ends-step, vector-step, assigns-step, chooses-step, in-loop, in-shift, called, loop-standing, loop-step, shift-standing, shift-step, called-using, called-step}
+use Rattle.plays.proofs.Turning.{turned-once, turned-twice, turned-standing, second-open, first-sound}
+use Rattle.plays.proofs.Going.{going, going-on, fewer, gone, Going}
+use Rattle.plays.proofs.Entering.{kind-macro, kind-procedure, kept-below, kept-returned, sized-left, macro-standing, procedure-standing, macro-told, procedure-told, part-within, part-begins}
+use Prim.Native.Nat.{ℕ, _<_}
+use borrow.Fn.Kinds.{In}
+use borrow.Fn.PlainCycle.{Measures, is, falls, and}
+use Rattle.plays.proofs.body_of.Reads as body-of
+use Rattle.plays.proofs.body_of.Kinds as body-of-kinds
+use Rattle.plays.proofs.+body_of+enter+statement+statements+turns.Lts-body_of as body-of-lts
+use Rattle.plays.proofs.enter.Reads as enter
+use Rattle.plays.proofs.enter.Kinds as enter-kinds
+use Rattle.plays.proofs.+body_of+enter+statement+statements+turns.Lts-enter as enter-lts
+use Rattle.plays.proofs.statement.Reads as statement′
+use Rattle.plays.proofs.statement.Kinds as statement-kinds
+use Rattle.plays.proofs.+body_of+enter+statement+statements+turns.Lts-statement as statement-lts
+use Rattle.plays.proofs.statements.Reads as statements
+use Rattle.plays.proofs.statements.Kinds as statements-kinds
+use Rattle.plays.proofs.+body_of+enter+statement+statements+turns.Lts-statements as statements-lts
+use Rattle.plays.proofs.turns.Reads as turns
+use Rattle.plays.proofs.turns.Kinds as turns-kinds
+use Rattle.plays.proofs.+body_of+enter+statement+statements+turns.Lts-turns as turns-lts
+use Rattle.heads.proofs.head.Reads as head-reads
+use Rattle.measures.proofs.start_at.Reads as start-at-reads
+use Rattle.pins.proofs.come_back.Reads as come-back-reads
+use Rattle.pins.proofs.leave.Reads as leave-reads
+use Rattle.pins.proofs.put.Reads as put-reads
+use Rattle.pins.proofs.supply.Reads as supply-reads
+use Rattle.pins.proofs.vectors.Reads as vectors-reads
+use Rattle.plays.proofs.shift.Reads as shift-reads
+use Rattle.words.proofs.cursor_at.Reads as cursor-at-reads
+use Rattle.plays.proofs.+body_of+enter+statement+statements+turns.{statement}
+use Rattle.plays.proofs.+body_of+enter+statement+statements+turns.Tie.{close}
+
+abbrev μ-body-of : Measures 4 body-of-kinds.ps ℕ
+μ-body-of κs a = 5 * a .1 .1 .1 .1 .1 .1 .1 .1 .1 .1 .0 .depth + 3
+
+abbrev μ-enter : Measures 4 enter-kinds.ps ℕ
+μ-enter κs a = 5 * a .1 .1 .1 .1 .1 .1 .1 .1 .1 .0 .depth
+
+abbrev μ-statement : Measures 4 statement-kinds.ps ℕ
+μ-statement κs a = 5 * a .1 .1 .1 .1 .1 .1 .1 .1 .1 .1 .0 .depth + 1
+
+abbrev μ-statements : Measures 4 statements-kinds.ps ℕ
+μ-statements κs a = 5 * a .1 .1 .1 .1 .1 .1 .1 .1 .1 .1 .0 .depth + 2
+
+abbrev μ-turns : Measures 4 turns-kinds.ps ℕ
+μ-turns κs a = 5 * a .1 .1 .1 .1 .1 .1 .1 .1 .1 .1 .0 .depth
+
+abbrev body-of-at : ℕ → In 4 body-of-kinds.ps
+body-of-at t = and 4 body-of-kinds.ps (is 4 body-of-kinds.ps μ-body-of t) body-of.Pre
+
+abbrev body-of-below : ℕ → In 4 body-of-kinds.ps
+body-of-below t = and 4 body-of-kinds.ps (falls 4 body-of-kinds.ps _<_ μ-body-of t) body-of.Pre
+
+abbrev enter-at : ℕ → In 4 enter-kinds.ps
+enter-at t = and 4 enter-kinds.ps (is 4 enter-kinds.ps μ-enter t) enter.Pre
+
+abbrev enter-below : ℕ → In 4 enter-kinds.ps
+enter-below t = and 4 enter-kinds.ps (falls 4 enter-kinds.ps _<_ μ-enter t) enter.Pre
+
+abbrev statement-at : ℕ → In 4 statement-kinds.ps
+statement-at t = and 4 statement-kinds.ps (is 4 statement-kinds.ps μ-statement t) statement′.Pre
+
+abbrev statement-below : ℕ → In 4 statement-kinds.ps
+statement-below t =
+    and 4 statement-kinds.ps (falls 4 statement-kinds.ps _<_ μ-statement t) statement′.Pre
+
+abbrev statements-at : ℕ → In 4 statements-kinds.ps
+statements-at t =
+    and 4 statements-kinds.ps (is 4 statements-kinds.ps μ-statements t) statements.Pre
+
+abbrev statements-below : ℕ → In 4 statements-kinds.ps
+statements-below t =
+    and 4 statements-kinds.ps (falls 4 statements-kinds.ps _<_ μ-statements t) statements.Pre
+
+abbrev turns-at : ℕ → In 4 turns-kinds.ps
+turns-at t = and 4 turns-kinds.ps (is 4 turns-kinds.ps μ-turns t) turns.Pre
+
+abbrev turns-below : ℕ → In 4 turns-kinds.ps
+turns-below t = and 4 turns-kinds.ps (falls 4 turns-kinds.ps _<_ μ-turns t) turns.Pre
+
+abbrev body-of-calls : ℕ → body-of-lts.Claims
+body-of-calls t = (cursor-at-reads.Asked, cursor-at-reads.Learnt, statements-below t, statements.Post)
+
+abbrev enter-calls : ℕ → enter-lts.Claims
+enter-calls t = (start-at-reads.Asked, start-at-reads.Learnt, body-of-below t, body-of.Post, leave-reads.Asked, leave-reads.Learnt, come-back-reads.Asked, come-back-reads.Learnt)
+
+abbrev statement-calls : ℕ → statement-lts.Claims
+statement-calls t = (head-reads.Asked, head-reads.Learnt, vectors-reads.Asked, vectors-reads.Learnt, put-reads.Asked, put-reads.Learnt, turns-below t, turns.Post, shift-reads.Asked, shift-reads.Learnt, supply-reads.Asked, supply-reads.Learnt, enter-below t, enter.Post)
+
+abbrev turns-calls : ℕ → turns-lts.Claims
+turns-calls t = (statements-below t, statements.Post)
+
+body-of-sub-cursor-at : (t : ℕ) → body-of-lts.Need-sub-cursor-at (body-of-calls t) (body-of-at t) body-of.Post
+body-of-sub-cursor-at t c = omega (arith, c .before .before .before .before .before .before .before .before .before .before .before .pre .1 .0)
+
+body-of-cursor-at-requires : (t : ℕ) → body-of-lts.Need-cursor-at-requires (body-of-calls t) (body-of-at t) body-of.Post
+body-of-cursor-at-requires t c κs = search needs
+
+body-of-statements-requires : (t : ℕ) → body-of-lts.Need-statements-requires (body-of-calls t) (body-of-at t) body-of.Post
+body-of-statements-requires t c κs =
+    let pre′ = c .before .before .before .before .before .before .before .before .before .before .before .before .before .before .before .pre in
+    let at = c .before .before .before .cursor-at .ensures in
+    (omega (arith, pre′ .0), (eq-eqb _ 0 (at .on), rw (at .there) (pre′ .1 .1)))
+
+body-of-same-length : (t : ℕ) → body-of-lts.Need-same-length (body-of-calls t) (body-of-at t) body-of.Post
+body-of-same-length t c = search needs
+
+body-of-same-length-2 : (t : ℕ) → body-of-lts.Need-same-length-2 (body-of-calls t) (body-of-at t) body-of.Post
+body-of-same-length-2 t c = search needs
+
+body-of-same-length-3 : (t : ℕ) → body-of-lts.Need-same-length-3 (body-of-calls t) (body-of-at t) body-of.Post
+body-of-same-length-3 t c = search needs
+
+body-of-returns : (t : ℕ) → body-of-lts.Need-returns (body-of-calls t) (body-of-at t) body-of.Post
+body-of-returns t c = rw (c .before .before .before .before .before .before .before .before .before .before .cursor-at .ensures .there) at (c .before .before .before .before .before .before .statements .ensures)
+
+enter-sub-body : (t : ℕ) → enter-lts.Need-sub-body (enter-calls t) (enter-at t) enter.Post
+enter-sub-body t c = omega (arith, c .before .before .before .before .before .before .before .before .before .before .before .pre .1 .use′ .some-more)
+
+enter-add-t23 : (t : ℕ) → enter-lts.Need-add-t23 (enter-calls t) (enter-at t) enter.Post
+enter-add-t23 t c = omega (arith, c .before .before .before .before .before .before .before .before .before .before .before .before .pre .1 .use′ .fits .levels)
+
+enter-start-at-requires : (t : ℕ) → enter-lts.Need-start-at-requires (enter-calls t) (enter-at t) enter.Post
+enter-start-at-requires t c κs = search needs
+
+enter-sub-body-2 : (t : ℕ) → enter-lts.Need-sub-body-2 (enter-calls t) (enter-at t) enter.Post
+enter-sub-body-2 t c =
+    let u = c .before .before .before .before .before .before .before .before .before .before .before .before .before .pre .1 .use′ in
+    omega (arith, c .start-at .ensures (omega (arith, u .declared)), begins-within _ _ _ _ _ (u .holds))
+
+enter-part-body-start : (t : ℕ) → enter-lts.Need-part-body-start (enter-calls t) (enter-at t) enter.Post
+enter-part-body-start t c =
+    let u = c .before .before .before .before .before .before .before .before .before .before .before .before .before .pre .1 .use′ in
+    omega (arith, c .start-at .ensures (omega (arith, u .declared)), begins-within _ _ _ _ _ (u .holds))
+
+enter-part-body-end : (t : ℕ) → enter-lts.Need-part-body-end (enter-calls t) (enter-at t) enter.Post
+enter-part-body-end t c = search needs
+
+enter-body-of-requires : (t : ℕ) → enter-lts.Need-body-of-requires (enter-calls t) (enter-at t) enter.Post
+enter-body-of-requires t c κs =
+    let pre′ = c .before .before .before .before .before .before .before .before .before .before .before .before .before .before .before .before .before .before .pre in
+    let used = pre′ .1 in
+    let u = used .use′ in
+    let at = c .before .before .before .before .before .start-at .ensures (omega (arith, u .declared)) in
+    let within = begins-within _ _ _ _ _ (u .holds) in (
+      omega (arith, pre′ .0, u .some-more),
+      (
+        part-within (c .before .before .before .before .before .before .before .before .before .before .before .before .before .before .before .before .before .before .args .text .now) (c .before .before .before .before .before .start-at .result) _ at within,
+        rw (part-begins (c .before .before .before .before .before .before .before .before .before .before .before .before .before .before .before .before .before .before .args .text .now) (c .before .before .before .before .before .start-at .result) _ at within) (record {
+          env = used .env;
+          body = used .body;
+          rest = used .rest;
+          state = record { pins = used .state .pins; table = used .state .table; args = used .arguments };
+          standing = macro-standing u;
+          sized = sized-at (used .sized) _ (omega (arith, u .fits .levels));
+        }),
+      ),
+    )
+
+enter-same-length : (t : ℕ) → enter-lts.Need-same-length (enter-calls t) (enter-at t) enter.Post
+enter-same-length t c = search needs
+
+enter-same-length-2 : (t : ℕ) → enter-lts.Need-same-length-2 (enter-calls t) (enter-at t) enter.Post
+enter-same-length-2 t c = search needs
+
+enter-same-length-3 : (t : ℕ) → enter-lts.Need-same-length-3 (enter-calls t) (enter-at t) enter.Post
+enter-same-length-3 t c = search needs
+
+enter-returns : (t : ℕ) → enter-lts.Need-returns (enter-calls t) (enter-at t) enter.Post
+enter-returns t c =
+    let u = c .before .before .before .before .before .before .before .before .before .before .before .before .before .before .before .before .before .before .before .before .before .before .before .before .before .pre .1 .use′ in
+    let at = c .before .before .before .before .before .before .before .before .before .before .before .before .start-at .ensures (omega (arith, u .declared)) in
+    let p = rw (part-begins (c .before .before .before .before .before .before .before .before .before .before .before .before .before .before .before .before .before .before .before .before .before .before .before .before .before .args .text .now) (c .before .before .before .before .before .before .before .before .before .before .before .before .start-at .result) _ at (begins-within _ _ _ _ _ (u .holds))) at (c .before .before .before .before .before .before .body-of .ensures) in
+    record {
+      kept = kept-below (p .kept);
+      told = λ E b us a s v. macro-told v _ _ (kind-macro _ (c .before .before .before .before .before .before .before .before .before .before .if1 .taken)) (p .kept) (p .plays E b us _ (macro-standing v));
+    }
+
+enter-leave-requires : (t : ℕ) → enter-lts.Need-leave-requires (enter-calls t) (enter-at t) enter.Post
+enter-leave-requires t c κs =
+    let used = c .before .before .before .before .before .before .before .before .before .before .before .before .before .before .before .before .pre .1 in
+    (used .sized .roomy .values-long, omega (arith, used .use′ .fits .levels))
+
+enter-body-of-requires-2 : (t : ℕ) → enter-lts.Need-body-of-requires-2 (enter-calls t) (enter-at t) enter.Post
+enter-body-of-requires-2 t c κs =
+    let pre′ = c .before .before .before .before .before .before .before .before .before .before .before .before .before .before .before .before .before .before .before .before .before .before .pre in
+    let used = pre′ .1 in
+    let u = used .use′ in
+    let at = c .before .before .before .before .before .before .before .before .before .start-at .ensures (omega (arith, u .declared)) in
+    let within = begins-within _ _ _ _ _ (u .holds) in (
+      omega (arith, pre′ .0, u .some-more),
+      (
+        part-within (c .before .before .before .before .before .before .before .before .before .before .before .before .before .before .before .before .before .before .before .before .before .before .args .text .now) (c .before .before .before .before .before .before .before .before .before .start-at .result) _ at within,
+        rw (part-begins (c .before .before .before .before .before .before .before .before .before .before .before .before .before .before .before .before .before .before .before .before .before .before .args .text .now) (c .before .before .before .before .before .before .before .before .before .start-at .result) _ at within) (record {
+          env = used .env;
+          body = used .body;
+          rest = used .rest;
+          state = record { pins = bare (used .state .pins); table = used .state .table; args = used .arguments };
+          standing = procedure-standing u (used .sized) (c .before .before .before .before .before .leave .ensures);
+          sized = sized-at (sized-left (used .sized) (c .before .before .before .before .before .leave .ensures)) _ (omega (arith, u .fits .levels));
+        }),
+      ),
+    )
+
+enter-come-back-requires : (t : ℕ) → enter-lts.Need-come-back-requires (enter-calls t) (enter-at t) enter.Post
+enter-come-back-requires t c κs =
+    let used = c .before .before .before .before .before .before .before .before .before .before .before .before .before .before .before .before .before .before .before .before .before .before .before .before .before .before .before .before .before .before .pre .1 in
+    (c .before .before .before .before .before .before .before .body-of2 .ensures .kept .values-long ∙ c .before .before .before .before .before .before .before .before .before .before .before .before .before .leave .ensures .long ∙ used .sized .roomy .values-long, omega (arith, used .use′ .fits .levels))
+
+enter-same-length-4 : (t : ℕ) → enter-lts.Need-same-length-4 (enter-calls t) (enter-at t) enter.Post
+enter-same-length-4 t c = search needs
+
+enter-same-length-5 : (t : ℕ) → enter-lts.Need-same-length-5 (enter-calls t) (enter-at t) enter.Post
+enter-same-length-5 t c = search needs
+
+enter-same-length-6 : (t : ℕ) → enter-lts.Need-same-length-6 (enter-calls t) (enter-at t) enter.Post
+enter-same-length-6 t c = search needs
+
+enter-returns-2 : (t : ℕ) → enter-lts.Need-returns-2 (enter-calls t) (enter-at t) enter.Post
+enter-returns-2 t c =
+    let used = c .before .before .before .before .before .before .before .before .before .before .before .before .before .before .before .before .before .before .before .before .before .before .before .before .before .before .before .before .before .before .before .before .before .before .pre .1 in
+    let u = used .use′ in
+    let at = c .before .before .before .before .before .before .before .before .before .before .before .before .before .before .before .before .before .before .before .before .before .start-at .ensures (omega (arith, u .declared)) in
+    let l = c .before .before .before .before .before .before .before .before .before .before .before .before .before .before .before .before .before .leave .ensures in
+    let b′ = c .before .before .before .come-back .ensures in
+    let p = rw (part-begins (c .before .before .before .before .before .before .before .before .before .before .before .before .before .before .before .before .before .before .before .before .before .before .before .before .before .before .before .before .before .before .before .before .before .before .args .text .now) (c .before .before .before .before .before .before .before .before .before .before .before .before .before .before .before .before .before .before .before .before .before .start-at .result) _ at (begins-within _ _ _ _ _ (u .holds))) at (c .before .before .before .before .before .before .before .before .before .before .before .body-of2 .ensures) in
+    record {
+      kept = kept-returned _ l (p .kept) b′;
+      told = λ E b us a s v. procedure-told v _ _ (kind-procedure _ (c .before .before .before .before .before .before .before .before .before .before .before .before .before .before .before .before .before .before .before .if1 .left)) (used .sized) l (p .kept) b′ (p .plays E b us _ (procedure-standing v (used .sized) l));
+    }
+
+statement-slice-aggregate-head : (t : ℕ) → statement-lts.Need-slice-aggregate-head (statement-calls t) (statement-at t) statement′.Post
+statement-slice-aggregate-head t c = search needs
+
+statement-head-requires : (t : ℕ) → statement-lts.Need-head-requires (statement-calls t) (statement-at t) statement′.Post
+statement-head-requires t c κs =
+    let stood = c .before .before .before .before .before .before .before .before .before .before .before .before .pre .1 .1 in
+    (record { env = stood .env; describes = stood .standing .holding .describes }, (omega arith), gave-zeros, stood .sized .args-long)
+
+statement-enum-told : (t : ℕ) → statement-lts.Need-enum-told (statement-calls t) (statement-at t) statement′.Post
+statement-enum-told t c = c .match .keys1
+
+statement-enum-known-what : (t : ℕ) → statement-lts.Need-enum-known-what (statement-calls t) (statement-at t) statement′.Post
+statement-enum-known-what t c = c .match .keys2
+
+statement-slice-aggregate-vectors : (t : ℕ) → statement-lts.Need-slice-aggregate-vectors (statement-calls t) (statement-at t) statement′.Post
+statement-slice-aggregate-vectors t c = search needs
+
+statement-vectors-requires : (t : ℕ) → statement-lts.Need-vectors-requires (statement-calls t) (statement-at t) statement′.Post
+statement-vectors-requires t c κs =
+    let stood = c .before .before .before .before .before .before .before .before .before .before .before .before .before .before .before .before .before .before .before .before .before .before .before .pre .1 .1 in
+    (stood .sized .roomy, c .before .before .before .before .before .before .before .before .before .before .head .ensures .0, stood .sized .waves-long)
+
+statement-enum-told-2 : (t : ℕ) → statement-lts.Need-enum-told-2 (statement-calls t) (statement-at t) statement′.Post
+statement-enum-told-2 t c = c .match .keys3
+
+statement-slice-aggregate-put : (t : ℕ) → statement-lts.Need-slice-aggregate-put (statement-calls t) (statement-at t) statement′.Post
+statement-slice-aggregate-put t c = search needs
+
+statement-put-requires : (t : ℕ) → statement-lts.Need-put-requires (statement-calls t) (statement-at t) statement′.Post
+statement-put-requires t c κs = (c .before .before .before .before .before .before .before .before .before .before .before .before .before .before .before .before .before .before .before .before .before .before .pre .1 .1 .sized .roomy, c .before .before .before .before .before .before .before .before .before .head .ensures .0)
+
+statement-enum-known-what-2 : (t : ℕ) → statement-lts.Need-enum-known-what-2 (statement-calls t) (statement-at t) statement′.Post
+statement-enum-known-what-2 t c = c .match .keys4
+
+statement-enum-known-what-3 : (t : ℕ) → statement-lts.Need-enum-known-what-3 (statement-calls t) (statement-at t) statement′.Post
+statement-enum-known-what-3 t c = c .match .keys5
+
+statement-turns-requires : (t : ℕ) → statement-lts.Need-turns-requires (statement-calls t) (statement-at t) statement′.Post
+statement-turns-requires t c κs =
+    let pre′ = c .before .before .before .before .before .before .before .before .before .before .before .before .before .before .before .before .before .before .before .before .before .before .before .pre in
+    let stood = pre′ .1 .1 in
+    let st = stood .standing in
+    let i = in-loop st (pre′ .1 .0) _ _ _ (c .before .before .before .before .before .before .before .before .before .before .head .ensures .2 (stood .env) (st .holding .describes)) _ (c .before .before .before .before .what3 .given .1) in (
+      omega (arith, pre′ .0),
+      (
+        i .1 .on,
+        i .0,
+        fits-some (i .1 .fits),
+        record {
+          env = stood .env;
+          body = i .1 .body;
+          rest = i .1 .between;
+          state = stood .state;
+          standing = loop-standing st (i .1) (st .shows);
+          sized = sized-kept (stood .sized) (kept-args (c .before .before .before .before .before .before .before .before .before .before .head .ensures .1 ∙ sym (stood .sized .args-long)));
+        },
+      ),
+    )
+
+statement-enum-told-3 : (t : ℕ) → statement-lts.Need-enum-told-3 (statement-calls t) (statement-at t) statement′.Post
+statement-enum-told-3 t c = c .match .keys6
+
+statement-shift-requires : (t : ℕ) → statement-lts.Need-shift-requires (statement-calls t) (statement-at t) statement′.Post
+statement-shift-requires t c κs =
+    let pre′ = c .before .before .before .before .before .before .before .before .before .before .before .before .before .before .before .before .before .before .before .before .before .before .pre in
+    let stood = pre′ .1 .1 in
+    let st = stood .standing in
+    let i = in-shift st (pre′ .1 .0) _ _ _ (c .before .before .before .before .before .before .before .before .before .head .ensures .2 (stood .env) (st .holding .describes)) (c .before .before .before .enum-told3 .given .1) in (
+      i .on,
+      record {
+        env = stood .env;
+        body = _;
+        rest = i .between;
+        state = stood .state;
+        standing = shift-standing st i (st .shows);
+        sized = sized-kept (stood .sized) (kept-args (c .before .before .before .before .before .before .before .before .before .head .ensures .1 ∙ sym (stood .sized .args-long)));
+      },
+    )
+
+statement-enum-known-what-4 : (t : ℕ) → statement-lts.Need-enum-known-what-4 (statement-calls t) (statement-at t) statement′.Post
+statement-enum-known-what-4 t c = c .match .keys7
+
+statement-slice-aggregate-supply : (t : ℕ) → statement-lts.Need-slice-aggregate-supply (statement-calls t) (statement-at t) statement′.Post
+statement-slice-aggregate-supply t c = search needs
+
+statement-add-supply : (t : ℕ) → statement-lts.Need-add-supply (statement-calls t) (statement-at t) statement′.Post
+statement-add-supply t c = omega (arith, c .before .before .before .before .before .before .before .before .before .before .before .before .before .before .before .before .before .before .before .before .before .before .before .before .pre .1 .1 .sized .roomy .inside-levels)
+
+statement-supply-requires : (t : ℕ) → statement-lts.Need-supply-requires (statement-calls t) (statement-at t) statement′.Post
+statement-supply-requires t c κs =
+    let pre′ = c .before .before .before .before .before .before .before .before .before .before .before .before .before .before .before .before .before .before .before .before .before .before .before .before .pre in
+    let stood = pre′ .1 .1 in
+    let st = stood .standing in
+    let d = called st (pre′ .1 .0) _ _ _ (c .before .before .before .before .before .before .before .before .before .before .before .head .ensures .2 (stood .env) (st .holding .describes)) _ _ (c .before .before .before .before .before .what4 .given .1) in
+    (c .before .before .before .before .before .before .before .before .before .before .before .head .ensures .0, c .before .before .before .before .before .before .before .before .before .before .before .head .ensures .1, stood .sized .roomy .feeds-long, omega (arith, d .body-fits .levels))
+
+statement-enter-requires : (t : ℕ) → statement-lts.Need-enter-requires (statement-calls t) (statement-at t) statement′.Post
+statement-enter-requires t c κs =
+    let pre′ = c .before .before .before .before .before .before .before .before .before .before .before .before .before .before .before .before .before .before .before .before .before .before .before .before .before .before .before .before .before .before .pre in
+    let stood = pre′ .1 .1 in
+    let st = stood .standing in
+    let d = called st (pre′ .1 .0) _ _ _ (c .before .before .before .before .before .before .before .before .before .before .before .before .before .before .before .before .before .head .ensures .2 (stood .env) (st .holding .describes)) _ _ (c .before .before .before .before .before .before .before .before .before .before .before .what4 .given .1) in
+    let s = c .before .before .before .before .before .supply .ensures in (
+      omega (arith, pre′ .0),
+      record {
+        env = stood .env;
+        body = d .body;
+        rest = d .after;
+        arguments = d .arguments;
+        state = stood .state;
+        use′ = called-using st d (shows-supplied (st .shows) (s .1)) (s .2 _ _ (d .supplied));
+        sized = sized-kept (stood .sized)
+            (kept-then (kept-args (c .before .before .before .before .before .before .before .before .before .before .before .before .before .before .before .before .before .head .ensures .1 ∙ sym (stood .sized .args-long))) (kept-supplied (s .0 ∙ sym (stood .sized .roomy .feeds-long)) (s .1)));
+      },
+    )
+
+statement-same-length : (t : ℕ) → statement-lts.Need-same-length (statement-calls t) (statement-at t) statement′.Post
+statement-same-length t c = search needs
+
+statement-returns : (t : ℕ) → statement-lts.Need-returns (statement-calls t) (statement-at t) statement′.Post
+statement-returns t c =
+    let pre′ = c .before .before .before .before .before .before .before .before .before .before .before .before .before .before .before .before .before .before .before .pre .1 in
+    let h = c .before .before .before .before .before .before .head .ensures in
+    record {
+      kept = kept-args (h .1 ∙ sym (pre′ .1 .sized .args-long));
+      steps = λ E b us s st. ends-step st (pre′ .0) _ _ _ (h .2 E (st .holding .describes)) (c .enum-told .given .1) (st .shows);
+    }
+
+statement-same-length-2 : (t : ℕ) → statement-lts.Need-same-length-2 (statement-calls t) (statement-at t) statement′.Post
+statement-same-length-2 t c = search needs
+
+statement-same-length-3 : (t : ℕ) → statement-lts.Need-same-length-3 (statement-calls t) (statement-at t) statement′.Post
+statement-same-length-3 t c = search needs
+
+statement-same-length-4 : (t : ℕ) → statement-lts.Need-same-length-4 (statement-calls t) (statement-at t) statement′.Post
+statement-same-length-4 t c = search needs
+
+statement-returns-2 : (t : ℕ) → statement-lts.Need-returns-2 (statement-calls t) (statement-at t) statement′.Post
+statement-returns-2 t c =
+    let pre′ = c .before .before .before .before .before .before .before .before .before .before .before .before .before .before .before .before .before .before .before .before .before .before .before .before .before .before .before .before .pre .1 in
+    let h = c .before .before .before .before .before .before .before .before .before .before .before .before .before .before .before .head .ensures in
+    let v = c .before .before .before .before .vectors .ensures in
+    record {
+      kept = kept-others (v .0) (h .1 ∙ sym (pre′ .1 .sized .args-long));
+      steps = λ E b us s st. vector-step st (pre′ .0) _ _ _ (h .2 E (st .holding .describes)) _ (c .before .before .before .before .before .before .before .before .before .what .given .1) (v .1);
+    }
+
+statement-same-length-5 : (t : ℕ) → statement-lts.Need-same-length-5 (statement-calls t) (statement-at t) statement′.Post
+statement-same-length-5 t c = search needs
+
+statement-same-length-6 : (t : ℕ) → statement-lts.Need-same-length-6 (statement-calls t) (statement-at t) statement′.Post
+statement-same-length-6 t c = search needs
+
+statement-same-length-7 : (t : ℕ) → statement-lts.Need-same-length-7 (statement-calls t) (statement-at t) statement′.Post
+statement-same-length-7 t c = search needs
+
+statement-returns-3 : (t : ℕ) → statement-lts.Need-returns-3 (statement-calls t) (statement-at t) statement′.Post
+statement-returns-3 t c =
+    let pre′ = c .before .before .before .before .before .before .before .before .before .before .before .before .before .before .before .before .before .before .before .before .before .before .before .before .before .before .before .pre .1 in
+    let h = c .before .before .before .before .before .before .before .before .before .before .before .before .before .before .head .ensures in
+    let v = c .before .before .before .before .put .ensures in
+    record {
+      kept = kept-others (v .0) (h .1 ∙ sym (pre′ .1 .sized .args-long));
+      steps = λ E b us s st. assigns-step st (pre′ .0) _ _ _ (h .2 E (st .holding .describes)) (c .before .before .before .before .before .before .before .before .enum-told2 .given .1) (v .1);
+    }
+
+statement-same-length-8 : (t : ℕ) → statement-lts.Need-same-length-8 (statement-calls t) (statement-at t) statement′.Post
+statement-same-length-8 t c = search needs
+
+statement-returns-4 : (t : ℕ) → statement-lts.Need-returns-4 (statement-calls t) (statement-at t) statement′.Post
+statement-returns-4 t c =
+    let pre′ = c .before .before .before .before .before .before .before .before .before .before .before .before .before .before .before .before .before .before .before .before .pre .1 in
+    let h = c .before .before .before .before .before .before .before .head .ensures in
+    record {
+      kept = kept-args (h .1 ∙ sym (pre′ .1 .sized .args-long));
+      steps = λ E b us s st. chooses-step st (pre′ .0) _ _ _ (h .2 E (st .holding .describes)) _ (c .before .what2 .given .1) (st .shows);
+    }
+
+statement-same-length-9 : (t : ℕ) → statement-lts.Need-same-length-9 (statement-calls t) (statement-at t) statement′.Post
+statement-same-length-9 t c = search needs
+
+statement-same-length-10 : (t : ℕ) → statement-lts.Need-same-length-10 (statement-calls t) (statement-at t) statement′.Post
+statement-same-length-10 t c = search needs
+
+statement-same-length-11 : (t : ℕ) → statement-lts.Need-same-length-11 (statement-calls t) (statement-at t) statement′.Post
+statement-same-length-11 t c = search needs
+
+statement-returns-5 : (t : ℕ) → statement-lts.Need-returns-5 (statement-calls t) (statement-at t) statement′.Post
+statement-returns-5 t c =
+    let pre′ = c .before .before .before .before .before .before .before .before .before .before .before .before .before .before .before .before .before .before .before .before .before .before .before .before .before .before .before .before .before .before .before .pre .1 in
+    let h = c .before .before .before .before .before .before .before .before .before .before .before .before .before .before .before .before .before .before .head .ensures in
+    let v = c .before .before .before .before .before .before .before .turns .ensures in
+    record {
+      kept = kept-then (kept-args (h .1 ∙ sym (pre′ .1 .sized .args-long))) (v .kept);
+      steps = λ E b us s st. (
+          let i = in-loop st (pre′ .0) _ _ _ (h .2 E (st .holding .describes)) _ (c .before .before .before .before .before .before .before .before .before .before .before .before .what3 .given .1) in
+          loop-step st (i .1) _ _ (v .plays E (i .1 .body) (i .1 .between) s (loop-standing st (i .1) (st .shows))));
+    }
+
+statement-same-length-12 : (t : ℕ) → statement-lts.Need-same-length-12 (statement-calls t) (statement-at t) statement′.Post
+statement-same-length-12 t c = search needs
+
+statement-same-length-13 : (t : ℕ) → statement-lts.Need-same-length-13 (statement-calls t) (statement-at t) statement′.Post
+statement-same-length-13 t c = search needs
+
+statement-same-length-14 : (t : ℕ) → statement-lts.Need-same-length-14 (statement-calls t) (statement-at t) statement′.Post
+statement-same-length-14 t c = search needs
+
+statement-returns-6 : (t : ℕ) → statement-lts.Need-returns-6 (statement-calls t) (statement-at t) statement′.Post
+statement-returns-6 t c =
+    let pre′ = c .before .before .before .before .before .before .before .before .before .before .before .before .before .before .before .before .before .before .before .before .before .before .before .before .before .before .before .before .before .pre .1 in
+    let h = c .before .before .before .before .before .before .before .before .before .before .before .before .before .before .before .before .head .ensures in
+    let v = c .before .before .before .before .before .before .shift .ensures in
+    record {
+      kept = kept-then (kept-args (h .1 ∙ sym (pre′ .1 .sized .args-long))) (v .kept);
+      steps = λ E b us s st. (
+          let i = in-shift st (pre′ .0) _ _ _ (h .2 E (st .holding .describes)) (c .before .before .before .before .before .before .before .before .before .before .enum-told3 .given .1) in
+          shift-step st i _ _ (v .goes-on) (v .plays E _ _ (i .between) s (shift-standing st i (st .shows))));
+    }
+
+statement-same-length-15 : (t : ℕ) → statement-lts.Need-same-length-15 (statement-calls t) (statement-at t) statement′.Post
+statement-same-length-15 t c = search needs
+
+statement-same-length-16 : (t : ℕ) → statement-lts.Need-same-length-16 (statement-calls t) (statement-at t) statement′.Post
+statement-same-length-16 t c = search needs
+
+statement-same-length-17 : (t : ℕ) → statement-lts.Need-same-length-17 (statement-calls t) (statement-at t) statement′.Post
+statement-same-length-17 t c = c .before .before .before .before .before .before .enter .ensures .kept .args-long ∙ c .before .before .before .before .before .before .before .before .before .before .before .before .before .before .before .before .before .before .before .before .before .before .before .before .head .ensures .1 ∙ sym (c .before .before .before .before .before .before .before .before .before .before .before .before .before .before .before .before .before .before .before .before .before .before .before .before .before .before .before .before .before .before .before .before .before .before .before .before .before .pre .1 .1 .sized .args-long)
+
+statement-returns-7 : (t : ℕ) → statement-lts.Need-returns-7 (statement-calls t) (statement-at t) statement′.Post
+statement-returns-7 t c =
+    let pre′ = c .before .before .before .before .before .before .before .before .before .before .before .before .before .before .before .before .before .before .before .before .before .before .before .before .before .before .before .before .before .before .before .before .before .before .before .before .before .pre .1 in
+    let h = c .before .before .before .before .before .before .before .before .before .before .before .before .before .before .before .before .before .before .before .before .before .before .before .before .head .ensures in
+    let v = c .before .before .before .before .before .before .enter .ensures in
+    let w = c .before .before .before .before .before .before .before .before .before .before .before .before .supply .ensures in
+    record {
+      kept =
+          kept-then (kept-args (h .1 ∙ sym (pre′ .1 .sized .args-long)))
+          (kept-then (kept-supplied (w .0 ∙ sym (pre′ .1 .sized .roomy .feeds-long)) (w .1)) (v .kept));
+      steps = λ E b us s st. (
+          let d = called st (pre′ .0) _ _ _ (h .2 E (st .holding .describes)) _ _ (c .before .before .before .before .before .before .before .before .before .before .before .before .before .before .before .before .before .before .what4 .given .1) in
+          called-step st d (c .before .before .before .before .before .before .enter .result) _ _ (v .told E (d .body) (d .after) (d .arguments) s (called-using st d (shows-supplied (st .shows) (w .1)) (w .2 _ _ (d .supplied)))));
+    }
+
+abbrev statements-Inv-loop : statements-lts.InvT-loop
+statements-Inv-loop text places lists tplaces book rows waves known signals frame table values₀ feeds₀ args₀ cursor₀ chosen₀ values feeds args cursor chosen =
+    Going (ground text places lists tplaces book rows waves known signals) (frame .depth) (frame .level) (frame .seconds) (frame .turns) cursor₀ chosen₀
+    (arrays values₀ feeds₀ args₀) cursor chosen (arrays values feeds args)
+
+abbrev statements-μ-loop : statements-lts.MeasureT-loop
+statements-μ-loop text places lists tplaces book rows waves known signals frame table values₀ feeds₀ args₀ cursor₀ chosen₀ values feeds args cursor chosen = left (stream text cursor)
+
+statements-loop-holds : (t : ℕ) → statements-lts.Need-loop-holds (
+  statement-below t,
+  statement′.Post,
+) (statements-at t) statements.Post statements-Inv-loop statements-μ-loop
+statements-loop-holds t c = record { kept = kept-none; onward = λ E b us s st. going (c .before .before .before .before .before .before .before .before .before .before .pre .1 .0) st }
+
+statements-statement-requires : (t : ℕ) → statements-lts.Need-statement-requires (
+  statement-below t,
+  statement′.Post,
+) (statements-at t) statements.Post statements-Inv-loop statements-μ-loop
+statements-statement-requires t c κs =
+    let pre′ = c .before .before .before .before .before .before .before .before .before .before .before .before .before .before .pre in
+    let stood = pre′ .1 .1 in
+    let inv = c .before .before .before .loop .inv in
+    let o = inv .onward (stood .env) (stood .body) (stood .rest) (stood .state) (stood .standing) in (
+      omega (arith, pre′ .0),
+      (o .on, record { env = stood .env; body = o .rest; rest = stood .rest; state = o .state; standing = o .standing; sized = sized-kept (stood .sized) (inv .kept) }),
+    )
+
+statements-same-length : (t : ℕ) → statements-lts.Need-same-length (
+  statement-below t,
+  statement′.Post,
+) (statements-at t) statements.Post statements-Inv-loop statements-μ-loop
+statements-same-length t c = search needs
+
+statements-same-length-2 : (t : ℕ) → statements-lts.Need-same-length-2 (
+  statement-below t,
+  statement′.Post,
+) (statements-at t) statements.Post statements-Inv-loop statements-μ-loop
+statements-same-length-2 t c = search needs
+
+statements-same-length-3 : (t : ℕ) → statements-lts.Need-same-length-3 (
+  statement-below t,
+  statement′.Post,
+) (statements-at t) statements.Post statements-Inv-loop statements-μ-loop
+statements-same-length-3 t c = search needs
+
+statements-returns :
+    (t : ℕ) →
+    statements-lts.Need-returns
+    (statement-below t, statement′.Post)
+    (statements-at t)
+    statements.Post
+    statements-Inv-loop
+    statements-μ-loop
+statements-returns t c =
+    let inv = c .before .before .before .before .before .before .before .before .before .before .before .before .loop .inv in
+    let step = c .before .before .before .before .before .before .before .before .statement .ensures in
+    record {
+      kept = kept-then (inv .kept) (step .kept);
+      plays = λ E b us s st. (let o = inv .onward E b us s st in gone o (step .steps E (o .rest) us (o .state) (o .standing)) (c .if1 .taken));
+    }
+
+statements-loop-less : (t : ℕ) → statements-lts.Need-loop-less (
+  statement-below t,
+  statement′.Post,
+) (statements-at t) statements.Post statements-Inv-loop statements-μ-loop
+statements-loop-less t c =
+    let stood = c .before .before .before .before .before .before .before .before .before .before .before .before .before .before .before .before .before .before .before .before .before .before .before .before .pre .1 .1 in
+    let o = c .before .before .before .before .before .before .before .before .before .before .before .before .before .loop .inv .onward (stood .env) (stood .body) (stood .rest) (stood .state) (stood .standing) in
+    fewer o (c .before .before .before .before .before .before .before .before .before .statement .ensures .steps (stood .env) (o .rest) (stood .rest) (o .state) (o .standing)) (c .before .if1 .left)
+
+statements-loop-again : (t : ℕ) → statements-lts.Need-loop-again (
+  statement-below t,
+  statement′.Post,
+) (statements-at t) statements.Post statements-Inv-loop statements-μ-loop
+statements-loop-again t c =
+    let inv = c .before .before .before .before .before .before .before .before .before .before .before .before .before .loop .inv in
+    let step = c .before .before .before .before .before .before .before .before .before .statement .ensures in
+    record {
+      kept = kept-then (inv .kept) (step .kept);
+      onward = λ E b us s st. (let o = inv .onward E b us s st in going-on o (step .steps E (o .rest) us (o .state) (o .standing)) (c .before .if1 .left));
+    }
+
+turns-sub-t20 :
+    (t : ℕ) → turns-lts.Need-sub-t20 (statements-below t, statements.Post) (turns-at t) turns.Post
+turns-sub-t20 t c = omega (arith, c .before .before .before .before .before .before .before .before .before .before .before .pre .1 .2)
+
+turns-statements-requires : (t : ℕ) → turns-lts.Need-statements-requires (turns-calls t) (turns-at t) turns.Post
+turns-statements-requires t c κs =
+    let pre′ = c .before .before .before .before .before .before .before .before .before .before .before .before .before .before .pre in
+    (omega (arith, pre′ .0, pre′ .1 .2), (pre′ .1 .0, pre′ .1 .3))
+
+turns-same-length :
+    (t : ℕ) →
+    turns-lts.Need-same-length (statements-below t, statements.Post) (turns-at t) turns.Post
+turns-same-length t c = search needs
+
+turns-same-length-2 :
+    (t : ℕ) →
+    turns-lts.Need-same-length-2 (statements-below t, statements.Post) (turns-at t) turns.Post
+turns-same-length-2 t c = search needs
+
+turns-same-length-3 :
+    (t : ℕ) →
+    turns-lts.Need-same-length-3 (statements-below t, statements.Post) (turns-at t) turns.Post
+turns-same-length-3 t c = search needs
+
+turns-returns :
+    (t : ℕ) → turns-lts.Need-returns (statements-below t, statements.Post) (turns-at t) turns.Post
+turns-returns t c =
+    let pre′ = c .before .before .before .before .before .before .before .before .before .before .before .before .before .before .before .before .before .before .before .before .before .before .before .before .pre .1 in
+    let a = c .before .before .before .before .before .before .before .before .before .statements .ensures in
+    record { kept = a .kept; plays = λ E b us s st. turned-once _ _ (λ j. playFew j _ b) (pre′ .1) (a .plays E b us s st) (c .if1 .taken) }
+
+turns-sub-t20-2 :
+    (t : ℕ) →
+    turns-lts.Need-sub-t20-2 (statements-below t, statements.Post) (turns-at t) turns.Post
+turns-sub-t20-2 t c = omega (arith, second-open (c .before .before .before .before .before .before .before .before .before .before .before .before .before .before .before .before .before .before .before .before .before .before .before .before .before .args .n) (c .before .before .before .before .before .before .before .before .before .before .before .before .before .before .before .before .before .before .before .before .before .before .before .before .before .args .frame .seconds) (c .before .before .before .before .before .before .before .before .before .before .statements .result .failed) (c .before .if1 .left))
+
+turns-sub-t31 :
+    (t : ℕ) → turns-lts.Need-sub-t31 (statements-below t, statements.Post) (turns-at t) turns.Post
+turns-sub-t31 t c = omega (arith, c .before .before .before .before .before .before .before .before .before .before .before .before .before .before .before .before .before .before .before .before .before .before .before .before .before .before .pre .1 .2)
+
+turns-statements-requires-2 : (t : ℕ) → turns-lts.Need-statements-requires-2 (turns-calls t) (turns-at t) turns.Post
+turns-statements-requires-2 t c κs =
+    let pre′ = c .before .before .before .before .before .before .before .before .before .before .before .before .before .before .before .before .before .before .before .before .before .before .before .before .before .before .before .before .before .pre in
+    let a = c .before .before .before .before .before .before .before .before .before .before .before .before .before .before .statements .ensures in
+    let stood = pre′ .1 .3 in
+    let sound = first-sound (c .before .before .before .before .before .before .before .before .before .before .before .before .before .before .before .before .before .before .before .before .before .before .before .before .before .before .before .before .before .args .n) (c .before .before .before .before .before .before .before .before .before .before .before .before .before .before .before .before .before .before .before .before .before .before .before .before .before .before .before .before .before .args .frame .seconds) (c .before .before .before .before .before .before .before .before .before .before .before .before .before .before .statements .result .failed) (c .before .before .before .before .before .if1 .left) in (
+      omega (arith, pre′ .0, pre′ .1 .2),
+      (
+        pre′ .1 .0,
+        record {
+          env = stood .env;
+          body = stood .body;
+          rest = stood .rest;
+          state = playFew _ _ (stood .body) (stood .state) .0;
+          standing = turned-standing _ _ (stood .standing) (a .plays (stood .env) (stood .body) (stood .rest) (stood .state) (stood .standing)) sound;
+          sized = sized-kept (stood .sized) (a .kept);
+        },
+      ),
+    )
+
+turns-same-length-4 :
+    (t : ℕ) →
+    turns-lts.Need-same-length-4 (statements-below t, statements.Post) (turns-at t) turns.Post
+turns-same-length-4 t c = c .before .before .before .before .before .before .statements2 .ensures .kept .values-long ∙ c .before .before .before .before .before .before .before .before .before .before .before .before .before .before .before .before .before .before .before .before .before .statements .ensures .kept .values-long
+
+turns-same-length-5 :
+    (t : ℕ) →
+    turns-lts.Need-same-length-5 (statements-below t, statements.Post) (turns-at t) turns.Post
+turns-same-length-5 t c = c .before .before .before .before .before .before .statements2 .ensures .kept .feeds-long ∙ c .before .before .before .before .before .before .before .before .before .before .before .before .before .before .before .before .before .before .before .before .before .statements .ensures .kept .feeds-long
+
+turns-same-length-6 :
+    (t : ℕ) →
+    turns-lts.Need-same-length-6 (statements-below t, statements.Post) (turns-at t) turns.Post
+turns-same-length-6 t c = c .before .before .before .before .before .before .statements2 .ensures .kept .args-long ∙ c .before .before .before .before .before .before .before .before .before .before .before .before .before .before .before .before .before .before .before .before .before .statements .ensures .kept .args-long
+
+turns-returns-2 :
+    (t : ℕ) →
+    turns-lts.Need-returns-2 (statements-below t, statements.Post) (turns-at t) turns.Post
+turns-returns-2 t c =
+    let a = c .before .before .before .before .before .before .before .before .before .before .before .before .before .before .before .before .before .before .before .before .before .statements .ensures in
+    let z = c .before .before .before .before .before .before .statements2 .ensures in
+    let sound = first-sound (c .before .before .before .before .before .before .before .before .before .before .before .before .before .before .before .before .before .before .before .before .before .before .before .before .before .before .before .before .before .before .before .before .before .before .before .before .args .n) (c .before .before .before .before .before .before .before .before .before .before .before .before .before .before .before .before .before .before .before .before .before .before .before .before .before .before .before .before .before .before .before .before .before .before .before .before .args .frame .seconds) (c .before .before .before .before .before .before .before .before .before .before .before .before .before .before .before .before .before .before .before .before .before .statements .result .failed) (c .before .before .before .before .before .before .before .before .before .before .before .before .if1 .left) in
+    record {
+      kept = kept-then (a .kept) (z .kept);
+      plays = λ E b us s st. (
+          let p = a .plays E b us s st in
+          turned-twice _ _ (λ j. playFew j _ b) p (c .before .before .before .before .before .before .before .before .before .before .before .before .if1 .left) (z .plays E b us _ (turned-standing _ _ st p sound)));
+    }
+
+pub +body-of+enter+statement+statements+turns-spec : {M : Type 1} → statement M
++body-of+enter+statement+statements+turns-spec =
+    close μ-body-of μ-enter μ-statement μ-statements μ-turns (λ t. body-of-lts.spec (body-of-calls t)
+    (body-of-at t)
+    body-of.Post
+    (body-of-sub-cursor-at t)
+    (body-of-cursor-at-requires t)
+    (body-of-statements-requires t)
+    (body-of-same-length t)
+    (body-of-same-length-2 t)
+    (body-of-same-length-3 t)
+    (body-of-returns t))
+    (λ t. enter-lts.spec (enter-calls t)
+    (enter-at t)
+    enter.Post
+    (enter-sub-body t)
+    (enter-add-t23 t)
+    (enter-start-at-requires t)
+    (enter-sub-body-2 t)
+    (enter-part-body-start t)
+    (enter-part-body-end t)
+    (enter-body-of-requires t)
+    (enter-same-length t)
+    (enter-same-length-2 t)
+    (enter-same-length-3 t)
+    (enter-returns t)
+    (enter-leave-requires t)
+    (enter-body-of-requires-2 t)
+    (enter-come-back-requires t)
+    (enter-same-length-4 t)
+    (enter-same-length-5 t)
+    (enter-same-length-6 t)
+    (enter-returns-2 t))
+    (λ t. statement-lts.spec (statement-calls t)
+    (statement-at t)
+    statement′.Post
+    (statement-slice-aggregate-head t)
+    (statement-head-requires t)
+    (statement-enum-told t)
+    (statement-enum-known-what t)
+    (statement-slice-aggregate-vectors t)
+    (statement-vectors-requires t)
+    (statement-enum-told-2 t)
+    (statement-slice-aggregate-put t)
+    (statement-put-requires t)
+    (statement-enum-known-what-2 t)
+    (statement-enum-known-what-3 t)
+    (statement-turns-requires t)
+    (statement-enum-told-3 t)
+    (statement-shift-requires t)
+    (statement-enum-known-what-4 t)
+    (statement-slice-aggregate-supply t)
+    (statement-add-supply t)
+    (statement-supply-requires t)
+    (statement-enter-requires t)
+    (statement-same-length t)
+    (statement-returns t)
+    (statement-same-length-2 t)
+    (statement-same-length-3 t)
+    (statement-same-length-4 t)
+    (statement-returns-2 t)
+    (statement-same-length-5 t)
+    (statement-same-length-6 t)
+    (statement-same-length-7 t)
+    (statement-returns-3 t)
+    (statement-same-length-8 t)
+    (statement-returns-4 t)
+    (statement-same-length-9 t)
+    (statement-same-length-10 t)
+    (statement-same-length-11 t)
+    (statement-returns-5 t)
+    (statement-same-length-12 t)
+    (statement-same-length-13 t)
+    (statement-same-length-14 t)
+    (statement-returns-6 t)
+    (statement-same-length-15 t)
+    (statement-same-length-16 t)
+    (statement-same-length-17 t)
+    (statement-returns-7 t))
+    (λ t. statements-lts.spec
+    (statement-below t, statement′.Post)
+    (statements-at t)
+    statements.Post
+    statements-Inv-loop
+    statements-μ-loop
+    (statements-loop-holds t)
+    (statements-statement-requires t)
+    (statements-same-length t)
+    (statements-same-length-2 t)
+    (statements-same-length-3 t)
+    (statements-returns t)
+    (statements-loop-less t)
+    (statements-loop-again t))
+    λ t. turns-lts.spec
+    (statements-below t, statements.Post)
+    (turns-at t)
+    turns.Post
+    (turns-sub-t20 t)
+    (turns-statements-requires t)
+    (turns-same-length t)
+    (turns-same-length-2 t)
+    (turns-same-length-3 t)
+    (turns-returns t)
+    (turns-sub-t20-2 t)
+    (turns-sub-t31 t)
+    (turns-statements-requires-2 t)
+    (turns-same-length-4 t)
+    (turns-same-length-5 t)
+    (turns-same-length-6 t)
+    (turns-returns-2 t)

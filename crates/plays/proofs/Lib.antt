@@ -1,0 +1,14 @@
+pub mod Supply
+pub mod Fitting
+pub mod Following
+pub mod Heading
+pub mod Keeping
+pub mod Stepping
+pub mod Shifting
+pub mod Turning
+pub mod Going
+pub mod Entering
+pub mod Single
+pub mod Patterns
+pub mod Running
+pub mod Texts

@@ -1,0 +1,303 @@
+-- One statement of a body that is held: what it plays, and the rest of the body behind it.
+use Prim.Native.Nat.{ℕ, _+_, _-_, _<_}
+use native.Mathlib.Omega.{arith}
+use mathlib.Core.Path.{_≡_, refl, sym, ap, _∙_, subst}
+use mathlib.Core.Bool.{Bool, true, false, _||_}
+use mathlib.Core.List.{List, []}
+use lib.Dec.{eqb, ltb}
+use borrow.Author.Tests.{lt-ltb, eqb-true}
+use Rattle.tokens.specs.Tokens.{Toks, toks, left}
+use Rattle.meaning.specs.Lists.{has, inside}
+use Rattle.meaning.specs.Timing.{Tables}
+use Rattle.meaning.specs.Body.{Assigns, Args, assigning, choosing, Way, looped, shifted, entered, Body, done, vec, inner, marked, outside, supplied}
+use Rattle.meaning.specs.Data.{assigned}
+use Rattle.meaning.specs.Run.{shiftOf, State, Played as Play, puts, changed, follow, again, entering}
+use Rattle.meaning.specs.Meaning.{firstFailing}
+use Rattle.meaning.specs.Statements.{Env, ends, vecs, sets, loops, shifts, uses}
+use Rattle.held.specs.Held.{freeHead, Holds}
+use Rattle.turns.specs.Few.{loopFew, playingFew, playFew}
+use Rattle.words.specs.Cursor.{alive, stream}
+use Rattle.words.specs.declared.Cursor.{Cursor}
+use Rattle.sets.proofs.Tidy.{TidyBelow, bare, next}
+use Rattle.timing.specs.Makes.{Makes}
+use Rattle.timing.specs.Held.{Held}
+use Rattle.measures.specs.Uses.{Given}
+use Rattle.measures.specs.Book.{bodies, startAt}
+use Rattle.arguments.specs.Supplied.{Supplied}
+use Rattle.heads.specs.declared.What.{What}
+use Rattle.heads.specs.declared.What.the-variants.{Ends, Vector, Assigns as AssignsOnly, Chooses, Loops, Shifts, Uses as UsesBody}
+use Rattle.heads.specs.Heads.{kindOf, Tells}
+use Rattle.pins.specs.Shown.{tableOf, Feeding, Shows, Playable, Told, vector}
+use Rattle.plays.specs.declared.Played.{Played}
+use Rattle.plays.specs.Plays.{Ground, Holding, Single, Fits, Arrays, Showing, Standing, Telling, Plays, Steps, Using}
+use Rattle.plays.proofs.Supply.{same-puts, same-changed, same-playing, same-play}
+use Rattle.plays.proofs.Fitting.{inside-parts, fits-behind-vec, fits-behind-set, fits-behind-inner, fits-some, fits-looped, fits-shifted, fits-entered}
+use Rattle.plays.proofs.Following.{first-fails, second-alike, alike-same, alike-then}
+use Rattle.plays.proofs.Heading.{holds-less, Met, met, met-split, met-fine, met-less}
+
+-- ---- from the first statement to the rest
+
+module _ {g : Ground} {ts : Toks} {more level : ℕ} {y : Arrays} {E : Env} {us : Toks} {k t : ℕ} {b : Body} {s : State} {r : Played} where
+  -- behind the first statement, whose play is p, `rest` is held
+  pub steps-on : (p : Play) (rest : Body) → playFew k t b s ≡ follow p (playFew k t rest) → Holding g E → Fits more level (p .0 .args) rest → r .ends ≡ false
+      → Telling g (E .tables) level y r p
+      → (r .failed ≡ false → (alive (r .cursor) ≡ true) × Holds E (stream (g .text) (r .cursor)) rest us × (left (stream (g .text) (r .cursor)) < left ts))
+      → Steps g ts more level y E us k t b s r
+  steps-on p rest is holding fits more-comes told on = record {
+    fails = λ h. ap (λ (q : Play). firstFailing (E .tables) (q .1)) is ∙ first-fails (E .tables) p (playFew k t rest) (told .fails h);
+    ended = λ h q. (let z : true ≡ false = sym q ∙ more-comes in let w : _≡_ {A = ℕ} 0 1 = cc in absurd (omega arith));
+    goes = λ h q. (
+      record {
+        rest = rest;
+        state = p .0;
+        on = on h .0;
+        standing = record { holding = holding; holds = on h .1; fits = fits; shows = told .shows h };
+        same = alike-then (alike-same is) (second-alike (E .tables) p (playFew k t rest) (told .sound h));
+      },
+      on h .2,
+    );
+  }
+
+-- no cycle was played
+pub told-none : {tabs : Tables} {text : List ℕ} {n : ℕ} {values : List ℕ} {table : ℕ} {feeds : List ℕ} {level place : ℕ} {s : State}
+    → Shows text n values table feeds level s → Told tabs text n values table feeds level false place (s, [])
+unfolding firstFailing
+told-none h = record { fails = λ q. (let z : _≡_ {A = ℕ} 0 1 = cc in absurd (omega arith)); sound = λ q. refl; shows = λ q. h }
+
+-- ---- assignments that can be made
+
+below-first : (n x i : ℕ) → x < n → (b : Bool) → eqb x i ≡ b → (o : Bool) → (b || o) ≡ true → (o ≡ true → i < n) → i < n
+below-first n x i h true e o k ih = omega (arith, eqb-true x i e)
+below-first n x i h false e o k ih = ih k
+
+tidy-below : {n : ℕ} {l : List ℕ} → TidyBelow n l → (i : ℕ) → has i l ≡ true → i < n
+unfolding has
+tidy-below bare i h = let z : _≡_ {A = ℕ} 0 1 = cc in absurd (omega arith)
+tidy-below {n} (next {x} {l} b e t) i h = below-first n x i b (eqb x i) refl (has i l) h (tidy-below t i)
+
+pub vec-playable : {n more level p : ℕ} {args : Args} {a : Assigns} {r : Body} → TidyBelow n (assigned a) → Fits more level args (vec p a r) → Playable n a args
+unfolding outside
+vec-playable {n} {more} {level} {p} {args} {a} {r} h f = record { below = tidy-below h; fed = inside-parts (marked a) (outside r) (supplied args) (f .fed) .0 }
+
+set-playable : {n : ℕ} {args : Args} {a : Assigns} → TidyBelow n (assigned a) → marked a ≡ [] → Playable n a args
+unfolding inside
+set-playable h e = record { below = tidy-below h; fed = rw e }
+
+-- a V that is played once
+once : (p : ℕ) (a : Assigns) (s : State) → again 1 (vector p a) s ≡ vector p a s
+unfolding again follow
+once p a s = refl
+
+-- ---- each head
+
+module _ {g : Ground} {c r : Cursor} {more level table : ℕ} {x : Arrays} {E : Env} {b : Body} {us : Toks} {s : State} (st : Standing g (stream (g .text) c) more level table x E b us s)
+    (on : alive c ≡ true) (given args : List ℕ) (what : What) (m : Makes (g .text) c (freeHead E) r (Tells (g .text) (g .book) (g .rows) given args (g .known .tables) what)) where
+  abbrev Meets : What → Type 0
+  Meets w = Met (g .text) E (g .signals) b us c r (Tells (g .text) (g .book) (g .rows) given args (g .known .tables) w)
+
+  meets : (w : What) → what ≡ w → Meets w
+  meets w q = subst Meets q (met (st .holding .tidy) (st .holds) on m)
+
+  module _ {y : Arrays} {k t : ℕ} where
+    pub ends-step : what ≡ Ends → Showing g level table y s → Steps g (stream (g .text) c) more level y E us k t b s (record { cursor = r; failed = false; place = 0; table = table; ends = true })
+    unfolding Tells playFew
+    ends-step q h =
+        let i = meets Ends q in
+        let d = met-split i ends (i .told) in
+        record {
+          fails = λ e. (let z : _≡_ {A = ℕ} 0 1 = cc in absurd (omega arith));
+          ended = λ e f. record { told = rw (d .0) (told-none h); behind = λ e. (i .on, d .1) };
+          goes = λ e f. (let z : _≡_ {A = ℕ} 0 1 = cc in absurd (omega arith));
+        }
+
+    pub vector-step : {f : Bool} (p : ℕ) → what ≡ Vector p
+        → ((a : Assigns) (s : State) (tplaces : List ℕ) (tables p : ℕ) (tabs : Tables) → Held (g .text) tplaces (g .waves) tables tabs → Given a given
+        → Playable (g .signals) a (s .args) → Showing g level table x s → Told tabs (g .text) (g .signals) (y .values) table (y .feeds) level f p (again 1 (vector p a) s))
+        → Steps g (stream (g .text) c) more level y E us k t b s (record { cursor = r; failed = f; place = p; table = table; ends = false })
+    unfolding Tells playFew
+    vector-step p q told =
+        let i = meets (Vector p) q in
+        let a = i .told .0 in
+        let d = met-split i (vecs p a) (i .told .1) in
+        let fits : Fits more level (s .args) (vec p a (d .0)) = rw (d .1) at (st .fits) in
+        steps-on (vector p a s) (d .0) (ap (λ (z : Body). playFew k t z s) (d .1)) (st .holding) (fits-behind-vec (same-puts a s) fits) refl
+        (rw (once p a s) at (told a s (g .tplaces) (g .known .tables) p (E .tables) (st .holding .held) (i .told .2) (vec-playable (met-fine i (vecs p a) (i .told .1)) fits) (st .shows)))
+        λ h. (i .on, d .2, met-less i)
+
+    pub assigns-step : what ≡ AssignsOnly
+        → ((a : Assigns) (s : State) (table : ℕ) → Given a given → Playable (g .signals) a (s .args) → Showing g level table x s → Showing g level table y (puts a s))
+        → Steps g (stream (g .text) c) more level y E us k t b s (record { cursor = r; failed = false; place = 0; table = table; ends = false })
+    unfolding Tells playFew changed follow
+    assigns-step q shown =
+        let i = meets AssignsOnly q in
+        let a = i .told .0 in
+        let e = i .told .1 in
+        let d = met-split i (sets (assigning a)) e in
+        let f = met-fine i (sets (assigning a)) e in
+        steps-on (puts a s, []) (d .0) (ap (λ (z : Body). playFew k t z s) (d .1)) (st .holding) (fits-behind-set (same-puts a s) (rw (d .1) at (st .fits))) refl
+        (told-none (shown a s table (i .told .2) (set-playable (f .0) (f .1)) (st .shows)))
+        λ h. (i .on, d .2, met-less i)
+
+    pub chooses-step : (n : ℕ) → what ≡ Chooses n → Showing g level table y s → Steps g (stream (g .text) c) more level y E us k t b s (record { cursor = r; failed = false; place = 0; table = n; ends = false })
+    unfolding Tells playFew changed follow tableOf
+    chooses-step n q shown =
+        let i = meets (Chooses n) q in
+        let d = met-split i (sets (choosing n)) (i .told .0) in
+        let l : ltb n 8 ≡ true = lt-ltb n 8 (omega (arith, i .told .1, st .holding .describes .few-tables)) in
+        steps-on (changed (choosing n) s, []) (d .0) (ap (λ (z : Body). playFew k t z s) (d .1)) (st .holding) (fits-behind-set (same-changed (choosing n) s) (rw (d .1) at (st .fits))) refl
+        (told-none (record { pins-are = shown .pins-are; table-is = rw (l, tableOf); args-are = shown .args-are }))
+        λ h. (i .on, d .2, met-less i)
+
+-- ---- heads with a body in them
+
+-- behind the head of a Loop or a Shift, r, its body is held
+pub record Inside (g : Ground) (c r : Cursor) (more level : ℕ) (E : Env) (b : Body) (us : Toks) (s : State) (w : Way) : Type 0 where
+  pub body : Body
+  pub rest : Body
+  pub between : Toks
+  pub is : b ≡ inner w body rest
+  pub fits : Fits more level (s .args) (inner w body rest)
+  pub on : alive r ≡ true
+  pub holds : Holds E (stream (g .text) r) body between
+  pub behind : Holds E between rest us
+  pub less : left between < left (stream (g .text) c)
+
+-- behind the head that uses the body of number i, r, statements go on; that body is held where it was declared
+pub record Called (g : Ground) (c r : Cursor) (more level : ℕ) (E : Env) (b : Body) (us : Toks) (s : State) (i t : ℕ) (given args : List ℕ) : Type 0 where
+  pub body : Body
+  pub arguments : Args
+  pub rest : Body
+  pub after : Toks
+  pub is : b ≡ inner (entered (kindOf i) t arguments) body rest
+  pub fits : Fits more level (s .args) (inner (entered (kindOf i) t arguments) body rest)
+  pub body-fits : Fits (more - 1) (level + 1) arguments body
+  pub on : alive r ≡ true
+  pub declared : i < bodies
+  pub holds : Holds E (toks (g .text) (startAt (g .book) i)) body after
+  pub behind : Holds E (stream (g .text) r) rest us
+  pub less : left (stream (g .text) r) < left (stream (g .text) c)
+  pub supplied : Supplied (g .text) arguments given args
+
+module _ {g : Ground} {c r : Cursor} {more level table : ℕ} {x : Arrays} {E : Env} {b : Body} {us : Toks} {s : State} (st : Standing g (stream (g .text) c) more level table x E b us s)
+    (on : alive c ≡ true) (given args : List ℕ) (what : What) (m : Makes (g .text) c (freeHead E) r (Tells (g .text) (g .book) (g .rows) given args (g .known .tables) what)) where
+  pub in-loop : (n : ℕ) → what ≡ Loops n → (0 < n) × Inside g c r more level E b us s (looped n)
+  unfolding Tells
+  in-loop n q =
+      let i = meets st on given args what m (Loops n) q in
+      let d = met-split i (loops n) (i .told .0) in (
+        omega (arith, i .told .1),
+        record {
+          body = d .0;
+          rest = d .1;
+          between = d .2;
+          is = d .3;
+          fits = rw (d .3) at (st .fits);
+          on = i .on;
+          holds = d .4;
+          behind = d .5;
+          less = omega (arith, met-less i, holds-less E _ (d .0) (d .2) (d .4));
+        },
+      )
+
+  pub in-shift : what ≡ Shifts → Inside g c r more level E b us s shifted
+  unfolding Tells
+  in-shift q =
+      let i = meets st on given args what m Shifts q in
+      let d = met-split i shifts (i .told) in
+      record {
+        body = d .0;
+        rest = d .1;
+        between = d .2;
+        is = d .3;
+        fits = rw (d .3) at (st .fits);
+        on = i .on;
+        holds = d .4;
+        behind = d .5;
+        less = omega (arith, met-less i, holds-less E _ (d .0) (d .2) (d .4));
+      }
+
+  pub called : (i t : ℕ) → what ≡ UsesBody i t → Called g c r more level E b us s i t given args
+  unfolding Tells
+  called i t q =
+      let w = meets st on given args what m (UsesBody i t) q in
+      let z = w .told .1 in
+      let a = w .told .2 in
+      let e = w .told .3 in
+      let d = met-split w (uses (kindOf i) z t a) e in
+      let fits : Fits more level (s .args) (inner (entered (kindOf i) t a) (z .body) (d .0)) = rw (d .1) at (st .fits) in
+      record {
+        body = z .body;
+        arguments = a;
+        rest = d .0;
+        after = d .2 .0;
+        is = d .1;
+        fits = fits;
+        body-fits = fits-entered fits (met-fine w (uses (kindOf i) z t a) e);
+        on = w .on;
+        declared = w .told .4;
+        holds = rw (← w .told .5 .entry .from) (d .2 .1);
+        behind = d .3;
+        less = met-less w;
+        supplied = w .told .6;
+      }
+
+-- a Shift holds one V
+pub one-vector : {g : Ground} {c r : Cursor} {more level : ℕ} {E : Env} {b : Body} {us : Toks} {s : State} (i : Inside g c r more level E b us s shifted)
+    → (p : ℕ) × (a : Assigns) × (i .body ≡ vec p a done)
+unfolding Single
+one-vector i = i .fits .single .0
+
+-- what the body of a Loop or a Shift played, and then the rest
+inside-step : {g : Ground} {c r : Cursor} {more level : ℕ} {y : Arrays} {E : Env} {b : Body} {us : Toks} {s : State} {w : Way} {k t : ℕ} {z : Played} → Holding g E
+    → (i : Inside g c r more level E b us s w) → z .ends ≡ false
+    → Plays g (E .tables) level y (i .between) z (playingFew k t w (λ j. playFew j (shiftOf t w) (i .body)) s)
+    → Steps g (stream (g .text) c) more level y E us k t b s z
+unfolding playFew
+inside-step {s = s} {w = w} {k = k} {t = t} holding i more-comes p =
+    steps-on _ (i .rest) (ap (λ (q : Body). playFew k t q s) (i .is)) holding
+    (fits-behind-inner (same-playing k t w (λ j. playFew j (shiftOf t w) (i .body)) (λ j. same-play j (shiftOf t w) (i .body)) s) (i .fits)) more-comes (p .told)
+    λ h. let q = p .behind h in (q .0, rw (q .1) (i .behind), rw (q .1) (i .less))
+
+module _ {g : Ground} {c r : Cursor} {more level table : ℕ} {x y : Arrays} {E : Env} {b : Body} {us : Toks} {s : State} (st : Standing g (stream (g .text) c) more level table x E b us s)
+  where
+    module _ {n : ℕ} (i : Inside g c r more level E b us s (looped n)) where
+      pub loop-standing : Showing g level table y s → Standing g (stream (g .text) r) (more - 1) level table y E (i .body) (i .between) s
+      loop-standing shown = record { holding = st .holding; holds = i .holds; fits = fits-looped (i .fits); shows = shown }
+
+      pub loop-step : {z : Played} (k t : ℕ) → Plays g (E .tables) level y (i .between) z (loopFew n k (λ j. playFew j t (i .body)) s)
+          → Steps g (stream (g .text) c) more level y E us k t b s (record { cursor = z .cursor; failed = z .failed; place = z .place; table = z .table; ends = false })
+      unfolding playingFew shiftOf
+      loop-step k t p = inside-step (st .holding) i refl (record { told = p .told; behind = p .behind })
+
+    module _ (i : Inside g c r more level E b us s shifted) where
+      pub shift-standing : Showing g level table y s → Standing g (stream (g .text) r) more level table y E (vec (one-vector i .0) (one-vector i .1) done) (i .between) s
+      shift-standing shown =
+          record { holding = st .holding; holds = rw (one-vector i .2) at (i .holds); fits = fits-shifted (i .fits) _ _ (one-vector i .2); shows = shown }
+
+      pub shift-step : {z : Played} (k t : ℕ) → z .ends ≡ false → Plays g (E .tables) level y (i .between) z (again t (playFew k t (vec (one-vector i .0) (one-vector i .1) done)) s)
+          → Steps g (stream (g .text) c) more level y E us k t b s z
+      unfolding playingFew shiftOf
+      shift-step k t more-comes p = inside-step (st .holding) i more-comes (rw (one-vector i .2) p)
+
+    module _ {i u : ℕ} {given args : List ℕ} (d : Called g c r more level E b us s i u given args) where
+      pub called-using : Showing g level table y s → Feeding (g .text) (y .feeds) (level + 1) (d .arguments)
+          → Using g i more level table y E (d .body) (d .after) (d .arguments) s
+      called-using shown fed = record {
+        holding = st .holding;
+        declared = d .declared;
+        holds = d .holds;
+        some-more = fits-some (d .fits);
+        fits = d .body-fits;
+        shows = shown;
+        fed = fed;
+      }
+
+      -- what a used body played, and then the rest
+      pub called-step : (z : Played) (k t : ℕ) → Telling g (E .tables) level y z (entering (kindOf i) (d .arguments) (playFew k u (d .body)) s)
+          → Steps g (stream (g .text) c) more level y E us k t b s (record { cursor = r; failed = z .failed; place = z .place; table = z .table; ends = false })
+      unfolding playFew playingFew shiftOf
+      called-step z k t p =
+          let w = entered (kindOf i) u (d .arguments) in
+          steps-on _ (d .rest) (ap (λ (q : Body). playFew k t q s) (d .is)) (st .holding)
+          (fits-behind-inner (same-playing k t w (λ j. playFew j u (d .body)) (λ j. same-play j u (d .body)) s) (d .fits)) refl p
+          λ h. (d .on, d .behind, d .less)

@@ -1,0 +1,204 @@
+-- What is promised of playing bodies where the text holds them.
+use Prim.Native.Nat.{ℕ, _+_, _*_, _-_, _<_, _≤_}
+use mathlib.Core.Path.{_≡_}
+use mathlib.Core.Bool.{true, false}
+use mathlib.Core.Option.{some}
+use mathlib.Core.List.{List}
+use lib.ListN.{length, getD}
+use Rattle.tokens.specs.Tokens.{Toks, toks, left}
+use Rattle.meaning.specs.Bounds.{signalsMost, tablesMost, depthMost}
+use Rattle.meaning.specs.Lists.{inside}
+use Rattle.meaning.specs.Timing.{Tables}
+use Rattle.meaning.specs.Body.{Assigns, Args, Way, looped, shifted, entered, Body, done, vec, set′, inner, depth, outside, shifting, supplied}
+use Rattle.meaning.specs.Run.{State, Played as Play, again, entering}
+use Rattle.meaning.specs.Meaning.{firstFailing}
+use Rattle.meaning.specs.Statements.{Env}
+use Rattle.meaning.proofs.Turns.{Good}
+use Rattle.held.specs.Held.{Holds}
+use Rattle.turns.specs.Few.{playFew}
+use Rattle.words.specs.Cursor.{alive, stream}
+use Rattle.words.specs.declared.Cursor.{Cursor}
+use Rattle.signals.specs.Names.{AllTidy}
+use Rattle.timing.specs.Marks.{tableSize}
+use Rattle.timing.specs.Held.{Held}
+use Rattle.measures.specs.Book.{bodies, startAt}
+use Rattle.heads.specs.declared.Known.{Known}
+use Rattle.heads.specs.Known.{Describes}
+use Rattle.heads.specs.Heads.{kindOf}
+use Rattle.pins.specs.Shown.{Shows, Told, Roomy, Feeding, feedAt}
+use Rattle.plays.specs.declared.Played.{Played}
+
+-- ---- what is played
+
+-- a text and the tables that the code has of it
+pub record Ground : Type 0 where
+  pub text : List ℕ
+  pub places : List ℕ
+  pub lists : List ℕ
+  pub tplaces : List ℕ
+  pub book : List ℕ
+  pub rows : List ℕ
+  pub waves : List ℕ
+  pub known : Known
+  pub signals : ℕ
+
+abbrev pub ground : (text places lists tplaces book rows waves : List ℕ) → Known → ℕ → Ground
+ground text places lists tplaces book rows waves known signals = record {
+  text = text;
+  places = places;
+  lists = lists;
+  tplaces = tplaces;
+  book = book;
+  rows = rows;
+  waves = waves;
+  known = known;
+  signals = signals;
+}
+
+-- they hold what is declared in it
+pub record Holding (g : Ground) (E : Env) : Type 0 where
+  pub describes : Describes (g .text) (g .places) (g .lists) (g .tplaces) (g .book) (g .rows) (g .known) E
+  pub held : Held (g .text) (g .tplaces) (g .waves) (g .known .tables) (E .tables)
+  pub tidy : AllTidy (g .signals) (E .names)
+
+-- every Shift in it, at any depth, holds one V
+abbrev pub OneVector : Way → Body → Type 0
+OneVector (looped n) b = Unit {0}
+OneVector shifted b = (p : ℕ) × (a : Assigns) × (b ≡ vec p a done)
+OneVector (entered k t a) b = Unit {0}
+
+unfoldable pub Single : Body → Type 0
+Single done = Unit {0}
+Single (vec p a r) = Single r
+Single (set′ x r) = Single r
+Single (inner w b r) = OneVector w b × Single b × Single r
+
+-- a body that can be played at a level, in which bodies may stand `more` deep, with these arguments: its own `#` are fed, its Loops have none, its Shifts
+-- hold one V
+pub record Fits (more level : ℕ) (args : Args) (b : Body) : Type 0 where
+  pub deep : depth b ≤ more
+  pub levels : level + more ≤ depthMost
+  pub fed : inside (outside b) (supplied args) ≡ true
+  pub shift-fed : inside (shifting b) (supplied args) ≡ true
+  pub single : Single b
+  pub good : Good b
+
+-- what the player writes: the pins in force and those of callers, what is left of arguments, and room for the arguments of a head
+pub record Arrays : Type 0 where
+  pub values : List ℕ
+  pub feeds : List ℕ
+  pub args : List ℕ
+
+abbrev pub arrays : List ℕ → List ℕ → List ℕ → Arrays
+arrays values feeds args = record { values = values; feeds = feeds; args = args }
+
+-- they are of the right length, and so are the waveforms' marks
+pub record Sized (g : Ground) (level : ℕ) (x : Arrays) : Type 0 where
+  pub roomy : Roomy (g .signals) (x .values) (x .feeds) level
+  pub args-long : length (x .args) ≡ signalsMost * 2
+  pub waves-long : length (g .waves) ≡ tablesMost * tableSize
+
+-- the state s, at a level
+abbrev pub Showing : Ground → (level table : ℕ) → Arrays → State → Type 0
+Showing g level table x s = Shows (g .text) (g .signals) (x .values) table (x .feeds) level s
+
+-- from ts the tokens hold the body b, behind which us stand, and the state is s
+pub record Standing (g : Ground) (ts : Toks) (more level table : ℕ) (x : Arrays) (E : Env) (b : Body) (us : Toks) (s : State) : Type 0 where
+  pub holding : Holding g E
+  pub holds : Holds E ts b us
+  pub fits : Fits more level (s .args) b
+  pub shows : Showing g level table x s
+
+-- some body is held there
+pub record Stood (g : Ground) (ts : Toks) (more level table : ℕ) (x : Arrays) : Type 0 where
+  pub env : Env
+  pub body : Body
+  pub rest : Toks
+  pub state : State
+  pub standing : Standing g ts more level table x env body rest state
+  pub sized : Sized g level x
+
+-- ---- what is promised
+
+-- what a body at a level keeps: the rows of its own level and of those below it, in which callers' pins stand, and the arguments of its callers
+pub record Kept (level : ℕ) (x y : Arrays) : Type 0 where
+  pub rows : (i : ℕ) → signalsMost ≤ i → i < (level + 2) * signalsMost → getD (y .values) i 0 ≡ getD (x .values) i 0
+  pub arguments : (l s : ℕ) → s < signalsMost → l < level → feedAt (y .feeds) l s ≡ feedAt (x .feeds) l s
+  pub values-long : length (y .values) ≡ length (x .values)
+  pub feeds-long : length (y .feeds) ≡ length (x .feeds)
+  pub args-long : length (y .args) ≡ length (x .args)
+
+-- what is told of a play p: that a cycle of it fails, first at this place; or that none does, and the state at its end
+abbrev pub Telling : Ground → Tables → (level : ℕ) → Arrays → Played → Play → Type 0
+Telling g tabs level y r p = Told tabs (g .text) (g .signals) (y .values) (r .table) (y .feeds) level (r .failed) (r .place) p
+
+-- THE PROMISE: p was played, to its end, behind which us stand, or to the first cycle that fails
+pub record Plays (g : Ground) (tabs : Tables) (level : ℕ) (y : Arrays) (us : Toks) (r : Played) (p : Play) : Type 0 where
+  pub told : Telling g tabs level y r p
+  pub behind : r .failed ≡ false → (alive (r .cursor) ≡ true) × (stream (g .text) (r .cursor) ≡ us)
+
+-- whatever body is held from ts on, f of it was played
+pub record Promised (g : Ground) (ts : Toks) (more level table : ℕ) (x y : Arrays) (f : Body → State → Play) (r : Played) : Type 0 where
+  pub kept : Kept level x y
+  pub plays : (E : Env) (b : Body) (us : Toks) (s : State) → Standing g ts more level table x E b us s → Plays g (E .tables) level y us r (f b s)
+
+-- ---- one statement
+
+-- the same state at the end, and the same first cycle that fails
+pub record Alike (tabs : Tables) (p q : Play) : Type 0 where
+  pub left-same : p .0 ≡ q .0
+  pub fails-same : firstFailing tabs (p .1) ≡ firstFailing tabs (q .1)
+
+-- at the cursor a rest of the body b is held, and playing b from s is playing that rest from the state there
+pub record Onward (g : Ground) (more level table : ℕ) (y : Arrays) (E : Env) (us : Toks) (k t : ℕ) (b : Body) (s : State) (c : Cursor) : Type 0 where
+  pub rest : Body
+  pub state : State
+  pub on : alive c ≡ true
+  pub standing : Standing g (stream (g .text) c) more level table y E rest us state
+  pub same : Alike (E .tables) (playFew k t b s) (playFew k t rest state)
+
+-- one statement of the body b was played: a cycle of it fails; or it was the `}`; or a rest of b is left, of fewer tokens
+pub record Steps (g : Ground) (ts : Toks) (more level : ℕ) (y : Arrays) (E : Env) (us : Toks) (k t : ℕ) (b : Body) (s : State) (r : Played) : Type 0 where
+  pub fails : r .failed ≡ true → firstFailing (E .tables) (playFew k t b s .1) ≡ some (r .place)
+  pub ended : r .failed ≡ false → r .ends ≡ true → Plays g (E .tables) level y us r (playFew k t b s)
+  pub goes : r .failed ≡ false → r .ends ≡ false
+      → Onward g more level (r .table) y E us k t b s (r .cursor) × (left (stream (g .text) (r .cursor)) < left ts)
+
+pub record Stepped (g : Ground) (ts : Toks) (more level table : ℕ) (x y : Arrays) (k t : ℕ) (r : Played) : Type 0 where
+  pub kept : Kept level x y
+  pub steps : (E : Env) (b : Body) (us : Toks) (s : State) → Standing g ts more level table x E b us s → Steps g ts more level y E us k t b s r
+
+-- whatever V a Shift holds from ts on, it was played t times
+pub record Shifted (g : Ground) (ts : Toks) (more level table : ℕ) (x y : Arrays) (k t : ℕ) (r : Played) : Type 0 where
+  pub kept : Kept level x y
+  pub goes-on : r .ends ≡ false
+  pub plays : (E : Env) (p : ℕ) (a : Assigns) (us : Toks) (s : State) → Standing g ts more level table x E (vec p a done) us s
+      → Plays g (E .tables) level y us r (again t (playFew k t (vec p a done)) s)
+
+-- ---- a body that a statement uses
+
+-- the declared body b of number i, used with the arguments a where the caller's state is s
+pub record Using (g : Ground) (i more level table : ℕ) (x : Arrays) (E : Env) (b : Body) (us : Toks) (a : Args) (s : State) : Type 0 where
+  pub holding : Holding g E
+  pub declared : i < bodies
+  pub holds : Holds E (toks (g .text) (startAt (g .book) i)) b us
+  pub some-more : 0 < more
+  pub fits : Fits (more - 1) (level + 1) a b
+  pub shows : Showing g level table x s
+  pub fed : Feeding (g .text) (x .feeds) (level + 1) a
+
+pub record Used (g : Ground) (i more level table : ℕ) (x : Arrays) : Type 0 where
+  pub env : Env
+  pub body : Body
+  pub rest : Toks
+  pub arguments : Args
+  pub state : State
+  pub use′ : Using g i more level table x env body rest arguments state
+  pub sized : Sized g level x
+
+-- it was played with its Shift t times, to its end or to the first cycle that fails, and the caller's arguments are there again, and where it is a
+-- procedure the caller's pins and table
+pub record Entered (g : Ground) (i more level table : ℕ) (x y : Arrays) (k t : ℕ) (r : Played) : Type 0 where
+  pub kept : Kept level x y
+  pub told : (E : Env) (b : Body) (us : Toks) (a : Args) (s : State) → Using g i more level table x E b us a s
+      → Telling g (E .tables) level y r (entering (kindOf i) a (playFew k t b) s)

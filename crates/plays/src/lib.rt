@@ -1,0 +1,614 @@
+// Playing bodies where the text holds them, to find the first cycle that fails: one without a table, or with an assigned character that has no waveform
+// in it. Every Loop plays its first turn, and its second where fewer than two second turns are open.
+ghost use mathlib.Core.Path.{_≡_};
+ghost use mathlib.Core.Bool.{true};
+ghost use Prim.Native.Nat.{_-_, _<_, _≤_};
+ghost use lib.ListN.{length};
+ghost use Rattle.tokens.specs.Tokens.{toks};
+ghost use Rattle.words.specs.Cursor.{alive, stream};
+ghost use Rattle.turns.specs.Few.{loopFew, playFew};
+ghost use Rattle.meaning.specs.Body.{Body};
+ghost use Rattle.meaning.specs.Document.{Read};
+ghost use Rattle.texts.specs.declared.Parts.{Parts};
+ghost use Rattle.plays.specs.Run.{SomeListed, PlaysListed, SomeRun, Runs, Decides};
+ghost use Rattle.plays.specs.Plays.{ground, arrays, Stood, Used, Promised, Stepped, Shifted, Entered};
+use heads::Known;
+use words::Cursor;
+
+const DEPTH: usize = 8;
+// Second turns that may be open at once: a failing cycle is decided by one pin and the table.
+const SECONDS: usize = 2;
+
+// How a body is played: with so many second turns open in it at most, its Shift so often, in so many levels of bodies at most, at a level of its own.
+pub struct Frame {
+    pub seconds: usize,
+    pub turns: usize,
+    pub depth: usize,
+    pub level: usize,
+}
+
+// The cursor behind what was played, whether a cycle of it failed and where its V stands, the table in force; and was it the `}`?
+pub struct Played {
+    pub cursor: Cursor,
+    pub failed: bool,
+    pub place: usize,
+    pub table: usize,
+    pub ends: bool,
+}
+
+// Does a cycle of the run fail, and where does the first one's V stand?
+pub struct Failing {
+    pub failed: bool,
+    pub place: usize,
+}
+
+// ---- one statement
+
+// Shift { V { .. } }: the V as often as the frame says, and the `}` behind it.
+fn shift<'a>(
+    text: &'a [u8],
+    c: Cursor,
+    places: &'a [usize],
+    lists: &'a [u16],
+    tplaces: &'a [usize],
+    book: &'a [usize],
+    rows: &'a [u16],
+    waves: &'a [u8],
+    known: Known,
+    signals: usize,
+    frame: Frame,
+    table: usize,
+    values: &mut [u8],
+    feeds: &mut [usize],
+    args: &mut [usize],
+) -> Played
+    requires { ⌜ (alive c ≡ true) × Stood (ground (now text) (now places) (now lists) (now tplaces) (now book) (now rows) (now waves) known signals) (stream (now text) c) (frame .depth) (frame .level) table (arrays (now values) (now feeds) (now args)) ⌝ }
+    ensures { λ r. ⌜ Shifted (ground (now (text .entry)) (now (places .entry)) (now (lists .entry)) (now (tplaces .entry)) (now (book .entry)) (now (rows .entry)) (now (waves .entry)) known signals) (stream (now (text .entry)) c) (frame .depth) (frame .level) table (arrays (now (values .entry)) (now (feeds .entry)) (now (args .entry))) (arrays (now (values .exit)) (now (feeds .exit)) (now (args .exit))) (frame .seconds) (frame .turns) r ⌝ }
+{
+    let mut given = [0; sets::MOST];
+    let h = heads::head(
+        text,
+        c,
+        places,
+        lists,
+        tplaces,
+        book,
+        rows,
+        known,
+        true,
+        DEPTH,
+        false,
+        &mut given,
+        args,
+    );
+    let failed = pins::vectors(
+        text,
+        &given,
+        values,
+        feeds,
+        frame.level,
+        signals,
+        waves,
+        table,
+        frame.turns,
+    );
+    let behind = h.cursor;
+    let cursor = words::due(text, behind, b"}");
+    Played {
+        cursor,
+        failed,
+        place: c.at,
+        table,
+        ends: false,
+    }
+}
+
+// Loop N { .. }: its first turn, and its second.
+fn turns<'a>(
+    text: &'a [u8],
+    c: Cursor,
+    places: &'a [usize],
+    lists: &'a [u16],
+    tplaces: &'a [usize],
+    book: &'a [usize],
+    rows: &'a [u16],
+    waves: &'a [u8],
+    known: Known,
+    signals: usize,
+    frame: Frame,
+    n: usize,
+    table: usize,
+    values: &mut [u8],
+    feeds: &mut [usize],
+    args: &mut [usize],
+) -> Played
+    requires { ⌜ (alive c ≡ true) × (0 < n) × (0 < frame .depth) × Stood (ground (now text) (now places) (now lists) (now tplaces) (now book) (now rows) (now waves) known signals) (stream (now text) c) (frame .depth - 1) (frame .level) table (arrays (now values) (now feeds) (now args)) ⌝ }
+    ensures { λ r. ⌜ Promised (ground (now (text .entry)) (now (places .entry)) (now (lists .entry)) (now (tplaces .entry)) (now (book .entry)) (now (rows .entry)) (now (waves .entry)) known signals) (stream (now (text .entry)) c) (frame .depth - 1) (frame .level) table (arrays (now (values .entry)) (now (feeds .entry)) (now (args .entry))) (arrays (now (values .exit)) (now (feeds .exit)) (now (args .exit))) (λ b. loopFew n (frame .seconds) (λ j. playFew j (frame .turns) b)) r ⌝ }
+{
+    let first = Frame {
+        seconds: frame.seconds,
+        turns: frame.turns,
+        depth: frame.depth - 1,
+        level: frame.level,
+    };
+    let a = statements(
+        text,
+        c,
+        places,
+        lists,
+        tplaces,
+        book,
+        rows,
+        waves,
+        known,
+        signals,
+        first,
+        table,
+        values,
+        feeds,
+        args,
+    );
+    if a.failed | (n < 2) | (frame.seconds == 0) {
+        return a;
+    }
+    let second = Frame {
+        seconds: frame.seconds - 1,
+        turns: frame.turns,
+        depth: frame.depth - 1,
+        level: frame.level,
+    };
+    statements(
+        text,
+        c,
+        places,
+        lists,
+        tplaces,
+        book,
+        rows,
+        waves,
+        known,
+        signals,
+        second,
+        a.table,
+        values,
+        feeds,
+        args,
+    )
+}
+
+// Macro or Call: the body of number i, its Shift played t times, from its own first byte. A macro runs in place; from a procedure the caller's pins and
+// table come back.
+fn enter<'a>(
+    text: &'a [u8],
+    places: &'a [usize],
+    lists: &'a [u16],
+    tplaces: &'a [usize],
+    book: &'a [usize],
+    rows: &'a [u16],
+    waves: &'a [u8],
+    known: Known,
+    signals: usize,
+    frame: Frame,
+    i: usize,
+    t: usize,
+    table: usize,
+    values: &mut [u8],
+    feeds: &mut [usize],
+    args: &mut [usize],
+) -> Played
+    requires { ⌜ Used (ground (now text) (now places) (now lists) (now tplaces) (now book) (now rows) (now waves) known signals) i (frame .depth) (frame .level) table (arrays (now values) (now feeds) (now args)) ⌝ }
+    ensures { λ r. ⌜ Entered (ground (now (text .entry)) (now (places .entry)) (now (lists .entry)) (now (tplaces .entry)) (now (book .entry)) (now (rows .entry)) (now (waves .entry)) known signals) i (frame .depth) (frame .level) table (arrays (now (values .entry)) (now (feeds .entry)) (now (args .entry))) (arrays (now (values .exit)) (now (feeds .exit)) (now (args .exit))) (frame .seconds) t r ⌝ }
+{
+    let inner = Frame {
+        seconds: frame.seconds,
+        turns: t,
+        depth: frame.depth - 1,
+        level: frame.level + 1,
+    };
+    let start = measures::start_at(book, i);
+    let body = &text[start..];
+    if i < measures::PROCEDURES {
+        return body_of(
+            text,
+            body,
+            places,
+            lists,
+            tplaces,
+            book,
+            rows,
+            waves,
+            known,
+            signals,
+            inner,
+            table,
+            values,
+            feeds,
+            args,
+        );
+    }
+    pins::leave(values, inner.level);
+    let r = body_of(
+        text,
+        body,
+        places,
+        lists,
+        tplaces,
+        book,
+        rows,
+        waves,
+        known,
+        signals,
+        inner,
+        table,
+        values,
+        feeds,
+        args,
+    );
+    pins::come_back(values, inner.level);
+    let cursor = r.cursor;
+    Played {
+        cursor,
+        failed: r.failed,
+        place: r.place,
+        table,
+        ends: false,
+    }
+}
+
+fn statement<'a>(
+    text: &'a [u8],
+    c: Cursor,
+    places: &'a [usize],
+    lists: &'a [u16],
+    tplaces: &'a [usize],
+    book: &'a [usize],
+    rows: &'a [u16],
+    waves: &'a [u8],
+    known: Known,
+    signals: usize,
+    frame: Frame,
+    table: usize,
+    values: &mut [u8],
+    feeds: &mut [usize],
+    args: &mut [usize],
+) -> Played
+    requires { ⌜ (alive c ≡ true) × Stood (ground (now text) (now places) (now lists) (now tplaces) (now book) (now rows) (now waves) known signals) (stream (now text) c) (frame .depth) (frame .level) table (arrays (now values) (now feeds) (now args)) ⌝ }
+    ensures { λ r. ⌜ Stepped (ground (now (text .entry)) (now (places .entry)) (now (lists .entry)) (now (tplaces .entry)) (now (book .entry)) (now (rows .entry)) (now (waves .entry)) known signals) (stream (now (text .entry)) c) (frame .depth) (frame .level) table (arrays (now (values .entry)) (now (feeds .entry)) (now (args .entry))) (arrays (now (values .exit)) (now (feeds .exit)) (now (args .exit))) (frame .seconds) (frame .turns) r ⌝ }
+{
+    let mut given = [0; sets::MOST];
+    let h = heads::head(
+        text,
+        c,
+        places,
+        lists,
+        tplaces,
+        book,
+        rows,
+        known,
+        true,
+        DEPTH,
+        false,
+        &mut given,
+        args,
+    );
+    let cursor = h.cursor;
+    let what = h.what;
+    match what {
+        heads::What::Ends => Played {
+            cursor,
+            failed: false,
+            place: 0,
+            table,
+            ends: true,
+        },
+        heads::What::Vector(place) => {
+            let failed = pins::vectors(
+                text,
+                &given,
+                values,
+                feeds,
+                frame.level,
+                signals,
+                waves,
+                table,
+                1,
+            );
+            Played {
+                cursor,
+                failed,
+                place,
+                table,
+                ends: false,
+            }
+        }
+        heads::What::Assigns => {
+            pins::put(text, &given, values, feeds, frame.level, signals);
+            Played {
+                cursor,
+                failed: false,
+                place: 0,
+                table,
+                ends: false,
+            }
+        }
+        heads::What::Chooses(k) => Played {
+            cursor,
+            failed: false,
+            place: 0,
+            table: k,
+            ends: false,
+        },
+        heads::What::Loops(n) => {
+            let r = turns(
+                text,
+                cursor,
+                places,
+                lists,
+                tplaces,
+                book,
+                rows,
+                waves,
+                known,
+                signals,
+                frame,
+                n,
+                table,
+                values,
+                feeds,
+                args,
+            );
+            let behind = r.cursor;
+            Played {
+                cursor: behind,
+                failed: r.failed,
+                place: r.place,
+                table: r.table,
+                ends: false,
+            }
+        }
+        heads::What::Shifts => shift(
+            text,
+            cursor,
+            places,
+            lists,
+            tplaces,
+            book,
+            rows,
+            waves,
+            known,
+            signals,
+            frame,
+            table,
+            values,
+            feeds,
+            args,
+        ),
+        heads::What::Uses(i, t) => {
+            pins::supply(&given, args, feeds, frame.level + 1);
+            let r = enter(
+                text,
+                places,
+                lists,
+                tplaces,
+                book,
+                rows,
+                waves,
+                known,
+                signals,
+                frame,
+                i,
+                t,
+                table,
+                values,
+                feeds,
+                args,
+            );
+            Played {
+                cursor,
+                failed: r.failed,
+                place: r.place,
+                table: r.table,
+                ends: false,
+            }
+        }
+    }
+}
+
+// ---- statements
+
+// Statements from the cursor on, up to their `}`.
+fn statements<'a>(
+    text: &'a [u8],
+    c: Cursor,
+    places: &'a [usize],
+    lists: &'a [u16],
+    tplaces: &'a [usize],
+    book: &'a [usize],
+    rows: &'a [u16],
+    waves: &'a [u8],
+    known: Known,
+    signals: usize,
+    frame: Frame,
+    table: usize,
+    values: &mut [u8],
+    feeds: &mut [usize],
+    args: &mut [usize],
+) -> Played
+    requires { ⌜ (alive c ≡ true) × Stood (ground (now text) (now places) (now lists) (now tplaces) (now book) (now rows) (now waves) known signals) (stream (now text) c) (frame .depth) (frame .level) table (arrays (now values) (now feeds) (now args)) ⌝ }
+    ensures { λ r. ⌜ Promised (ground (now (text .entry)) (now (places .entry)) (now (lists .entry)) (now (tplaces .entry)) (now (book .entry)) (now (rows .entry)) (now (waves .entry)) known signals) (stream (now (text .entry)) c) (frame .depth) (frame .level) table (arrays (now (values .entry)) (now (feeds .entry)) (now (args .entry))) (arrays (now (values .exit)) (now (feeds .exit)) (now (args .exit))) (playFew (frame .seconds) (frame .turns)) r ⌝ }
+{
+    let mut cursor = c;
+    let mut chosen = table;
+    loop {
+        let r = statement(
+            text,
+            cursor,
+            places,
+            lists,
+            tplaces,
+            book,
+            rows,
+            waves,
+            known,
+            signals,
+            frame,
+            chosen,
+            values,
+            feeds,
+            args,
+        );
+        if r.failed | r.ends {
+            return r;
+        }
+        cursor = r.cursor;
+        chosen = r.table;
+    }
+}
+
+// The statements of a body, which is the part of the text that begins with it.
+fn body_of<'a>(
+    text: &'a [u8],
+    body: &'a [u8],
+    places: &'a [usize],
+    lists: &'a [u16],
+    tplaces: &'a [usize],
+    book: &'a [usize],
+    rows: &'a [u16],
+    waves: &'a [u8],
+    known: Known,
+    signals: usize,
+    frame: Frame,
+    table: usize,
+    values: &mut [u8],
+    feeds: &mut [usize],
+    args: &mut [usize],
+) -> Played
+    requires { ⌜ (length (now body) ≤ length (now text)) × Stood (ground (now text) (now places) (now lists) (now tplaces) (now book) (now rows) (now waves) known signals) (toks (now text) (length (now text) - length (now body))) (frame .depth) (frame .level) table (arrays (now values) (now feeds) (now args)) ⌝ }
+    ensures { λ r. ⌜ Promised (ground (now (text .entry)) (now (places .entry)) (now (lists .entry)) (now (tplaces .entry)) (now (book .entry)) (now (rows .entry)) (now (waves .entry)) known signals) (toks (now (text .entry)) (length (now (text .entry)) - length (now (body .entry)))) (frame .depth) (frame .level) table (arrays (now (values .entry)) (now (feeds .entry)) (now (args .entry))) (arrays (now (values .exit)) (now (feeds .exit)) (now (args .exit))) (playFew (frame .seconds) (frame .turns)) r ⌝ }
+{
+    let c = words::cursor_at(text, text.len() - body.len());
+    statements(
+        text,
+        c,
+        places,
+        lists,
+        tplaces,
+        book,
+        rows,
+        waves,
+        known,
+        signals,
+        frame,
+        table,
+        values,
+        feeds,
+        args,
+    )
+}
+
+// ---- the run
+
+// The listed pattern of number k, from its own first byte. It starts with no table and all signals unassigned.
+fn pattern<'a>(
+    text: &'a [u8],
+    places: &'a [usize],
+    lists: &'a [u16],
+    tplaces: &'a [usize],
+    book: &'a [usize],
+    rows: &'a [u16],
+    waves: &'a [u8],
+    list: &'a [usize],
+    known: Known,
+    signals: usize,
+    patterns: usize,
+    k: usize,
+    values: &mut [u8],
+    feeds: &mut [usize],
+    args: &mut [usize],
+) -> Played
+    requires { ⌜ SomeListed (ground (now text) (now places) (now lists) (now tplaces) (now book) (now rows) (now waves) known signals) (now list) patterns k (arrays (now values) (now feeds) (now args)) ⌝ }
+    ensures { λ r. ⌜ PlaysListed (ground (now (text .entry)) (now (places .entry)) (now (lists .entry)) (now (tplaces .entry)) (now (book .entry)) (now (rows .entry)) (now (waves .entry)) known signals) (now (list .entry)) patterns k (arrays (now (values .exit)) (now (feeds .exit)) (now (args .exit))) r ⌝ }
+{
+    let names = &book[measures::PATTERNS * 2..];
+    let i = words::find(text, words::name_bytes(text, list, k), names, patterns);
+    let start = measures::start_at(book, measures::PATTERNS + i);
+    let body = &text[start..];
+    let frame = Frame {
+        seconds: SECONDS,
+        turns: 0,
+        depth: DEPTH,
+        level: 0,
+    };
+    pins::leave(values, 0);
+    body_of(
+        text,
+        body,
+        places,
+        lists,
+        tplaces,
+        book,
+        rows,
+        waves,
+        known,
+        signals,
+        frame,
+        pins::NONE,
+        values,
+        feeds,
+        args,
+    )
+}
+
+// The listed patterns in order: does a cycle fail, and where does the first one's V stand?
+pub fn first_failing<'a>(
+    text: &'a [u8],
+    places: &'a [usize],
+    lists: &'a [u16],
+    tplaces: &'a [usize],
+    book: &'a [usize],
+    rows: &'a [u16],
+    waves: &'a [u8],
+    list: &'a [usize],
+    known: Known,
+    signals: usize,
+    listed: usize,
+    patterns: usize,
+) -> Failing
+    requires { ⌜ SomeRun (now text) (now places) (now lists) (now tplaces) (now waves) (now book) (now rows) (now list) known signals listed patterns ⌝ }
+    ensures { λ r. ⌜ ((p : Parts) (d : Read) (run : Body) → Runs (now (text .entry)) (now (places .entry)) (now (lists .entry)) (now (tplaces .entry)) (now (waves .entry)) (now (book .entry)) (now (rows .entry)) (now (list .entry)) known signals listed patterns p d run → Decides d run r) ⌝ }
+{
+    let mut values = [0u8; pins::VALUES];
+    let mut feeds = [0usize; pins::FEEDS];
+    let mut args = [0usize; measures::ROW];
+    let mut k = 0;
+    while k < listed {
+        let r = pattern(
+            text,
+            places,
+            lists,
+            tplaces,
+            book,
+            rows,
+            waves,
+            list,
+            known,
+            signals,
+            patterns,
+            k,
+            &mut values,
+            &mut feeds,
+            &mut args,
+        );
+        if r.failed {
+            return Failing {
+                failed: true,
+                place: r.place,
+            };
+        }
+        k += 1;
+    }
+    Failing {
+        failed: false,
+        place: 0,
+    }
+}
