@@ -1,13 +1,13 @@
 -- What is kept while a body is played at a level: lengths, the rows of callers' pins, and callers' arguments.
-use Prim.Native.Nat.{ℕ, _+_, _<_}
+use Prim.Native.Nat.{ℕ, _+_, _*_, _<_}
 use native.Mathlib.Omega.{arith}
-use mathlib.Core.Path.{_≡_, refl, _∙_}
+use mathlib.Core.Path.{_≡_, refl, sym, _∙_}
 use mathlib.Core.List.{List}
 use lib.ListN.{length}
 use Rattle.meaning.specs.Bounds.{signalsMost}
 use Rattle.meaning.specs.Body.{Args}
 use Rattle.meaning.specs.Run.{State}
-use Rattle.pins.specs.Shown.{Shows, Others, Feeding, feedAt, levels}
+use Rattle.pins.specs.Shown.{Shows, Others, Feeding, feedsLength, feedAt, levels}
 use Rattle.plays.specs.Plays.{Ground, Arrays, arrays, Sized, Kept}
 
 pub kept-none : {level : ℕ} {x : Arrays} → Kept level x x
@@ -22,25 +22,32 @@ kept-then a b = record {
   args-long = b .args-long ∙ a .args-long;
 }
 
--- a statement that changes no other level
-pub kept-others : {level : ℕ} {values values′ feeds feeds′ args args′ : List ℕ} → Others level values values′ feeds feeds′ → length args′ ≡ length args
-    → Kept level (arrays values feeds args) (arrays values′ feeds′ args′)
-kept-others o e = record {
-  rows = λ i l h. o .rows i l;
-  arguments = λ l s h k. o .feeds-kept l s h (λ q. omega arith);
-  values-long = o .values-long;
-  feeds-long = o .feeds-long;
-  args-long = e;
-}
+module _ {g : Ground} {level : ℕ} {values feeds args : List ℕ} (s : Sized g level (arrays values feeds args)) where
+  -- only room for arguments was used
+  pub kept-args : {args′ : List ℕ} → length args′ ≡ signalsMost * 2 → Kept level (arrays values feeds args) (arrays values feeds args′)
+  kept-args e = record { rows = λ i l h. refl; arguments = λ l s h k. refl; values-long = refl; feeds-long = refl; args-long = e ∙ sym (s .args-long) }
 
--- only room for arguments was used
-pub kept-args : {level : ℕ} {values feeds args args′ : List ℕ} → length args′ ≡ length args → Kept level (arrays values feeds args) (arrays values feeds args′)
-kept-args e = record { rows = λ i l h. refl; arguments = λ l s h k. refl; values-long = refl; feeds-long = refl; args-long = e }
+  -- a statement that changes no other level
+  pub kept-others : {values′ feeds′ args′ : List ℕ} → Others level values values′ feeds feeds′ → length args′ ≡ signalsMost * 2
+      → Kept level (arrays values feeds args) (arrays values′ feeds′ args′)
+  kept-others o e = record {
+    rows = λ i l h. o .rows i l;
+    arguments = λ l s h k. o .feeds-kept l s h (λ q. omega arith);
+    values-long = o .values-long;
+    feeds-long = o .feeds-long;
+    args-long = e ∙ sym (s .args-long);
+  }
 
--- only the arguments of the next level were written
-pub kept-supplied : {level : ℕ} {values feeds feeds′ args : List ℕ} → length feeds′ ≡ length feeds
-    → ((l s : ℕ) → s < signalsMost → (l ≡ level + 1 → ⊥) → feedAt feeds′ l s ≡ feedAt feeds l s) → Kept level (arrays values feeds args) (arrays values feeds′ args)
-kept-supplied e h = record { rows = λ i l q. refl; arguments = λ l s q k. h l s q (λ z. omega arith); values-long = refl; feeds-long = e; args-long = refl }
+  -- room for arguments was used, and the arguments of the next level were written
+  pub kept-supplied : {feeds′ args′ : List ℕ} → length args′ ≡ signalsMost * 2 → length feeds′ ≡ feedsLength
+      → ((l s : ℕ) → s < signalsMost → (l ≡ level + 1 → ⊥) → feedAt feeds′ l s ≡ feedAt feeds l s) → Kept level (arrays values feeds args) (arrays values feeds′ args′)
+  kept-supplied e f h = record {
+    rows = λ i l q. refl;
+    arguments = λ l s q k. h l s q (λ z. omega arith);
+    values-long = refl;
+    feeds-long = f ∙ sym (s .roomy .feeds-long);
+    args-long = e ∙ sym (s .args-long);
+  }
 
 module _ {g : Ground} {x y : Arrays} where
   pub sized-kept : {level : ℕ} → Sized g level x → Kept level x y → Sized g level y

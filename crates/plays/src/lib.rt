@@ -103,7 +103,7 @@ fn shift<'a>(
     }
 }
 
-// Loop N { .. }: its first turn, and its second.
+// Loop N { .. }: its first turn, and its second where there is one and a second turn may be open.
 fn turns<'a>(
     text: &'a [u8],
     c: Cursor,
@@ -255,6 +255,7 @@ fn enter<'a>(
     }
 }
 
+// The statement at the cursor, or the `}` there.
 fn statement<'a>(
     text: &'a [u8],
     c: Cursor,

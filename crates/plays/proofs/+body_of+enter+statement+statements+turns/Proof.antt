@@ -109,7 +109,9 @@ abbrev turns-calls : ℕ → turns-lts.Claims
 turns-calls t = (statements-below t, statements.Post)
 
 body-of-sub-cursor-at : (t : ℕ) → body-of-lts.Need-sub-cursor-at (body-of-calls t) (body-of-at t) body-of.Post
-body-of-sub-cursor-at t c = omega (arith, c .before .before .before .before .before .before .before .before .before .before .before .pre .1 .0)
+body-of-sub-cursor-at t c =
+    let pre′ = c .before .before .before .before .before .before .before .before .before .before .before .pre in
+    omega (arith, pre′ .1 .0)
 
 body-of-cursor-at-requires : (t : ℕ) → body-of-lts.Need-cursor-at-requires (body-of-calls t) (body-of-at t) body-of.Post
 body-of-cursor-at-requires t c κs = search needs
@@ -117,8 +119,8 @@ body-of-cursor-at-requires t c κs = search needs
 body-of-statements-requires : (t : ℕ) → body-of-lts.Need-statements-requires (body-of-calls t) (body-of-at t) body-of.Post
 body-of-statements-requires t c κs =
     let pre′ = c .before .before .before .before .before .before .before .before .before .before .before .before .before .before .before .pre in
-    let at = c .before .before .before .cursor-at .ensures in
-    (omega (arith, pre′ .0), (eq-eqb _ 0 (at .on), rw (at .there) (pre′ .1 .1)))
+    let cursor-at′ = c .before .before .before .cursor-at in
+    (omega (arith, pre′ .0), (eq-eqb _ 0 (cursor-at′ .ensures .on), rw (cursor-at′ .ensures .there) (pre′ .1 .1)))
 
 body-of-same-length : (t : ℕ) → body-of-lts.Need-same-length (body-of-calls t) (body-of-at t) body-of.Post
 body-of-same-length t c = search needs
@@ -130,25 +132,34 @@ body-of-same-length-3 : (t : ℕ) → body-of-lts.Need-same-length-3 (body-of-ca
 body-of-same-length-3 t c = search needs
 
 body-of-returns : (t : ℕ) → body-of-lts.Need-returns (body-of-calls t) (body-of-at t) body-of.Post
-body-of-returns t c = rw (c .before .before .before .before .before .before .before .before .before .before .cursor-at .ensures .there) at (c .before .before .before .before .before .before .statements .ensures)
+body-of-returns t c =
+    let cursor-at′ = c .before .before .before .before .before .before .before .before .before .before .cursor-at in
+    let statements′ = c .before .before .before .before .before .before .statements in
+    rw (cursor-at′ .ensures .there) at (statements′ .ensures)
 
 enter-sub-body : (t : ℕ) → enter-lts.Need-sub-body (enter-calls t) (enter-at t) enter.Post
-enter-sub-body t c = omega (arith, c .before .before .before .before .before .before .before .before .before .before .before .pre .1 .use′ .some-more)
+enter-sub-body t c =
+    let pre′ = c .before .before .before .before .before .before .before .before .before .before .before .pre in
+    omega (arith, pre′ .1 .use′ .some-more)
 
 enter-add-t23 : (t : ℕ) → enter-lts.Need-add-t23 (enter-calls t) (enter-at t) enter.Post
-enter-add-t23 t c = omega (arith, c .before .before .before .before .before .before .before .before .before .before .before .before .pre .1 .use′ .fits .levels)
+enter-add-t23 t c =
+    let pre′ = c .before .before .before .before .before .before .before .before .before .before .before .before .pre in
+    omega (arith, pre′ .1 .use′ .fits .levels)
 
 enter-start-at-requires : (t : ℕ) → enter-lts.Need-start-at-requires (enter-calls t) (enter-at t) enter.Post
 enter-start-at-requires t c κs = search needs
 
 enter-sub-body-2 : (t : ℕ) → enter-lts.Need-sub-body-2 (enter-calls t) (enter-at t) enter.Post
 enter-sub-body-2 t c =
-    let u = c .before .before .before .before .before .before .before .before .before .before .before .before .before .pre .1 .use′ in
+    let pre′ = c .before .before .before .before .before .before .before .before .before .before .before .before .before .pre in
+    let u = pre′ .1 .use′ in
     omega (arith, c .start-at .ensures (omega (arith, u .declared)), begins-within _ _ _ _ _ (u .holds))
 
 enter-part-body-start : (t : ℕ) → enter-lts.Need-part-body-start (enter-calls t) (enter-at t) enter.Post
 enter-part-body-start t c =
-    let u = c .before .before .before .before .before .before .before .before .before .before .before .before .before .pre .1 .use′ in
+    let pre′ = c .before .before .before .before .before .before .before .before .before .before .before .before .before .pre in
+    let u = pre′ .1 .use′ in
     omega (arith, c .start-at .ensures (omega (arith, u .declared)), begins-within _ _ _ _ _ (u .holds))
 
 enter-part-body-end : (t : ℕ) → enter-lts.Need-part-body-end (enter-calls t) (enter-at t) enter.Post
@@ -157,14 +168,16 @@ enter-part-body-end t c = search needs
 enter-body-of-requires : (t : ℕ) → enter-lts.Need-body-of-requires (enter-calls t) (enter-at t) enter.Post
 enter-body-of-requires t c κs =
     let pre′ = c .before .before .before .before .before .before .before .before .before .before .before .before .before .before .before .before .before .before .pre in
+    let args′ = c .before .before .before .before .before .before .before .before .before .before .before .before .before .before .before .before .before .before .args in
+    let start-at′ = c .before .before .before .before .before .start-at in
     let used = pre′ .1 in
     let u = used .use′ in
-    let at = c .before .before .before .before .before .start-at .ensures (omega (arith, u .declared)) in
+    let at = start-at′ .ensures (omega (arith, u .declared)) in
     let within = begins-within _ _ _ _ _ (u .holds) in (
       omega (arith, pre′ .0, u .some-more),
       (
-        part-within (c .before .before .before .before .before .before .before .before .before .before .before .before .before .before .before .before .before .before .args .text .now) (c .before .before .before .before .before .start-at .result) _ at within,
-        rw (part-begins (c .before .before .before .before .before .before .before .before .before .before .before .before .before .before .before .before .before .before .args .text .now) (c .before .before .before .before .before .start-at .result) _ at within) (record {
+        part-within (args′ .text .now) (start-at′ .result) _ at within,
+        rw (part-begins (args′ .text .now) (start-at′ .result) _ at within) (record {
           env = used .env;
           body = used .body;
           rest = used .rest;
@@ -186,44 +199,56 @@ enter-same-length-3 t c = search needs
 
 enter-returns : (t : ℕ) → enter-lts.Need-returns (enter-calls t) (enter-at t) enter.Post
 enter-returns t c =
-    let u = c .before .before .before .before .before .before .before .before .before .before .before .before .before .before .before .before .before .before .before .before .before .before .before .before .before .pre .1 .use′ in
-    let at = c .before .before .before .before .before .before .before .before .before .before .before .before .start-at .ensures (omega (arith, u .declared)) in
-    let p = rw (part-begins (c .before .before .before .before .before .before .before .before .before .before .before .before .before .before .before .before .before .before .before .before .before .before .before .before .before .args .text .now) (c .before .before .before .before .before .before .before .before .before .before .before .before .start-at .result) _ at (begins-within _ _ _ _ _ (u .holds))) at (c .before .before .before .before .before .before .body-of .ensures) in
+    let pre′ = c .before .before .before .before .before .before .before .before .before .before .before .before .before .before .before .before .before .before .before .before .before .before .before .before .before .pre in
+    let args′ = c .before .before .before .before .before .before .before .before .before .before .before .before .before .before .before .before .before .before .before .before .before .before .before .before .before .args in
+    let start-at′ = c .before .before .before .before .before .before .before .before .before .before .before .before .start-at in
+    let if1′ = c .before .before .before .before .before .before .before .before .before .before .if1 in
+    let body-of′ = c .before .before .before .before .before .before .body-of in
+    let u = pre′ .1 .use′ in
+    let at = start-at′ .ensures (omega (arith, u .declared)) in
+    let p = rw (part-begins (args′ .text .now) (start-at′ .result) _ at (begins-within _ _ _ _ _ (u .holds))) at (body-of′ .ensures) in
     record {
       kept = kept-below (p .kept);
-      told = λ E b us a s v. macro-told v _ _ (kind-macro _ (c .before .before .before .before .before .before .before .before .before .before .if1 .taken)) (p .kept) (p .plays E b us _ (macro-standing v));
+      told = λ E b us a s v. macro-told v _ _ (kind-macro _ (if1′ .taken)) (p .kept) (p .plays E b us _ (macro-standing v));
     }
 
 enter-leave-requires : (t : ℕ) → enter-lts.Need-leave-requires (enter-calls t) (enter-at t) enter.Post
 enter-leave-requires t c κs =
-    let used = c .before .before .before .before .before .before .before .before .before .before .before .before .before .before .before .before .pre .1 in
+    let pre′ = c .before .before .before .before .before .before .before .before .before .before .before .before .before .before .before .before .pre in
+    let used = pre′ .1 in
     (used .sized .roomy .values-long, omega (arith, used .use′ .fits .levels))
 
 enter-body-of-requires-2 : (t : ℕ) → enter-lts.Need-body-of-requires-2 (enter-calls t) (enter-at t) enter.Post
 enter-body-of-requires-2 t c κs =
     let pre′ = c .before .before .before .before .before .before .before .before .before .before .before .before .before .before .before .before .before .before .before .before .before .before .pre in
+    let args′ = c .before .before .before .before .before .before .before .before .before .before .before .before .before .before .before .before .before .before .before .before .before .before .args in
+    let start-at′ = c .before .before .before .before .before .before .before .before .before .start-at in
+    let leave′ = c .before .before .before .before .before .leave in
     let used = pre′ .1 in
     let u = used .use′ in
-    let at = c .before .before .before .before .before .before .before .before .before .start-at .ensures (omega (arith, u .declared)) in
+    let at = start-at′ .ensures (omega (arith, u .declared)) in
     let within = begins-within _ _ _ _ _ (u .holds) in (
       omega (arith, pre′ .0, u .some-more),
       (
-        part-within (c .before .before .before .before .before .before .before .before .before .before .before .before .before .before .before .before .before .before .before .before .before .before .args .text .now) (c .before .before .before .before .before .before .before .before .before .start-at .result) _ at within,
-        rw (part-begins (c .before .before .before .before .before .before .before .before .before .before .before .before .before .before .before .before .before .before .before .before .before .before .args .text .now) (c .before .before .before .before .before .before .before .before .before .start-at .result) _ at within) (record {
+        part-within (args′ .text .now) (start-at′ .result) _ at within,
+        rw (part-begins (args′ .text .now) (start-at′ .result) _ at within) (record {
           env = used .env;
           body = used .body;
           rest = used .rest;
           state = record { pins = bare (used .state .pins); table = used .state .table; args = used .arguments };
-          standing = procedure-standing u (used .sized) (c .before .before .before .before .before .leave .ensures);
-          sized = sized-at (sized-left (used .sized) (c .before .before .before .before .before .leave .ensures)) _ (omega (arith, u .fits .levels));
+          standing = procedure-standing u (used .sized) (leave′ .ensures);
+          sized = sized-at (sized-left (used .sized) (leave′ .ensures)) _ (omega (arith, u .fits .levels));
         }),
       ),
     )
 
 enter-come-back-requires : (t : ℕ) → enter-lts.Need-come-back-requires (enter-calls t) (enter-at t) enter.Post
 enter-come-back-requires t c κs =
-    let used = c .before .before .before .before .before .before .before .before .before .before .before .before .before .before .before .before .before .before .before .before .before .before .before .before .before .before .before .before .before .before .pre .1 in
-    (c .before .before .before .before .before .before .before .body-of2 .ensures .kept .values-long ∙ c .before .before .before .before .before .before .before .before .before .before .before .before .before .leave .ensures .long ∙ used .sized .roomy .values-long, omega (arith, used .use′ .fits .levels))
+    let pre′ = c .before .before .before .before .before .before .before .before .before .before .before .before .before .before .before .before .before .before .before .before .before .before .before .before .before .before .before .before .before .before .pre in
+    let leave′ = c .before .before .before .before .before .before .before .before .before .before .before .before .before .leave in
+    let body-of2′ = c .before .before .before .before .before .before .before .body-of2 in
+    let used = pre′ .1 in
+    (body-of2′ .ensures .kept .values-long ∙ leave′ .ensures .long ∙ used .sized .roomy .values-long, omega (arith, used .use′ .fits .levels))
 
 enter-same-length-4 : (t : ℕ) → enter-lts.Need-same-length-4 (enter-calls t) (enter-at t) enter.Post
 enter-same-length-4 t c = search needs
@@ -236,15 +261,22 @@ enter-same-length-6 t c = search needs
 
 enter-returns-2 : (t : ℕ) → enter-lts.Need-returns-2 (enter-calls t) (enter-at t) enter.Post
 enter-returns-2 t c =
-    let used = c .before .before .before .before .before .before .before .before .before .before .before .before .before .before .before .before .before .before .before .before .before .before .before .before .before .before .before .before .before .before .before .before .before .before .pre .1 in
-    let u = used .use′ in
-    let at = c .before .before .before .before .before .before .before .before .before .before .before .before .before .before .before .before .before .before .before .before .before .start-at .ensures (omega (arith, u .declared)) in
-    let l = c .before .before .before .before .before .before .before .before .before .before .before .before .before .before .before .before .before .leave .ensures in
-    let b′ = c .before .before .before .come-back .ensures in
-    let p = rw (part-begins (c .before .before .before .before .before .before .before .before .before .before .before .before .before .before .before .before .before .before .before .before .before .before .before .before .before .before .before .before .before .before .before .before .before .before .args .text .now) (c .before .before .before .before .before .before .before .before .before .before .before .before .before .before .before .before .before .before .before .before .before .start-at .result) _ at (begins-within _ _ _ _ _ (u .holds))) at (c .before .before .before .before .before .before .before .before .before .before .before .body-of2 .ensures) in
+    let pre′ = c .before .before .before .before .before .before .before .before .before .before .before .before .before .before .before .before .before .before .before .before .before .before .before .before .before .before .before .before .before .before .before .before .before .before .pre in
+    let args′ = c .before .before .before .before .before .before .before .before .before .before .before .before .before .before .before .before .before .before .before .before .before .before .before .before .before .before .before .before .before .before .before .before .before .before .args in
+    let start-at′ = c .before .before .before .before .before .before .before .before .before .before .before .before .before .before .before .before .before .before .before .before .before .start-at in
+    let if1′ = c .before .before .before .before .before .before .before .before .before .before .before .before .before .before .before .before .before .before .before .if1 in
+    let leave′ = c .before .before .before .before .before .before .before .before .before .before .before .before .before .before .before .before .before .leave in
+    let body-of2′ = c .before .before .before .before .before .before .before .before .before .before .before .body-of2 in
+    let come-back′ = c .before .before .before .come-back in
+    let sized = pre′ .1 .sized in
+    let u = pre′ .1 .use′ in
+    let at = start-at′ .ensures (omega (arith, u .declared)) in
+    let l = leave′ .ensures in
+    let p = rw (part-begins (args′ .text .now) (start-at′ .result) _ at (begins-within _ _ _ _ _ (u .holds))) at (body-of2′ .ensures) in
     record {
-      kept = kept-returned _ l (p .kept) b′;
-      told = λ E b us a s v. procedure-told v _ _ (kind-procedure _ (c .before .before .before .before .before .before .before .before .before .before .before .before .before .before .before .before .before .before .before .if1 .left)) (used .sized) l (p .kept) b′ (p .plays E b us _ (procedure-standing v (used .sized) l));
+      kept = kept-returned _ l (p .kept) (come-back′ .ensures);
+      told = λ E b us a s v.
+          procedure-told v _ _ (kind-procedure _ (if1′ .left)) sized l (p .kept) (come-back′ .ensures) (p .plays E b us _ (procedure-standing v sized l));
     }
 
 statement-slice-aggregate-head : (t : ℕ) → statement-lts.Need-slice-aggregate-head (statement-calls t) (statement-at t) statement′.Post
@@ -252,7 +284,8 @@ statement-slice-aggregate-head t c = search needs
 
 statement-head-requires : (t : ℕ) → statement-lts.Need-head-requires (statement-calls t) (statement-at t) statement′.Post
 statement-head-requires t c κs =
-    let stood = c .before .before .before .before .before .before .before .before .before .before .before .before .pre .1 .1 in
+    let pre′ = c .before .before .before .before .before .before .before .before .before .before .before .before .pre in
+    let stood = pre′ .1 .1 in
     (record { env = stood .env; describes = stood .standing .holding .describes }, (omega arith), gave-zeros, stood .sized .args-long)
 
 statement-enum-told : (t : ℕ) → statement-lts.Need-enum-told (statement-calls t) (statement-at t) statement′.Post
@@ -266,8 +299,10 @@ statement-slice-aggregate-vectors t c = search needs
 
 statement-vectors-requires : (t : ℕ) → statement-lts.Need-vectors-requires (statement-calls t) (statement-at t) statement′.Post
 statement-vectors-requires t c κs =
-    let stood = c .before .before .before .before .before .before .before .before .before .before .before .before .before .before .before .before .before .before .before .before .before .before .before .pre .1 .1 in
-    (stood .sized .roomy, c .before .before .before .before .before .before .before .before .before .before .head .ensures .0, stood .sized .waves-long)
+    let pre′ = c .before .before .before .before .before .before .before .before .before .before .before .before .before .before .before .before .before .before .before .before .before .before .before .pre in
+    let head′ = c .before .before .before .before .before .before .before .before .before .before .head in
+    let sized = pre′ .1 .1 .sized in
+    (sized .roomy, head′ .ensures .0, sized .waves-long)
 
 statement-enum-told-2 : (t : ℕ) → statement-lts.Need-enum-told-2 (statement-calls t) (statement-at t) statement′.Post
 statement-enum-told-2 t c = c .match .keys3
@@ -276,7 +311,10 @@ statement-slice-aggregate-put : (t : ℕ) → statement-lts.Need-slice-aggregate
 statement-slice-aggregate-put t c = search needs
 
 statement-put-requires : (t : ℕ) → statement-lts.Need-put-requires (statement-calls t) (statement-at t) statement′.Post
-statement-put-requires t c κs = (c .before .before .before .before .before .before .before .before .before .before .before .before .before .before .before .before .before .before .before .before .before .before .pre .1 .1 .sized .roomy, c .before .before .before .before .before .before .before .before .before .head .ensures .0)
+statement-put-requires t c κs =
+    let pre′ = c .before .before .before .before .before .before .before .before .before .before .before .before .before .before .before .before .before .before .before .before .before .before .pre in
+    let head′ = c .before .before .before .before .before .before .before .before .before .head in
+    (pre′ .1 .1 .sized .roomy, head′ .ensures .0)
 
 statement-enum-known-what-2 : (t : ℕ) → statement-lts.Need-enum-known-what-2 (statement-calls t) (statement-at t) statement′.Post
 statement-enum-known-what-2 t c = c .match .keys4
@@ -287,9 +325,11 @@ statement-enum-known-what-3 t c = c .match .keys5
 statement-turns-requires : (t : ℕ) → statement-lts.Need-turns-requires (statement-calls t) (statement-at t) statement′.Post
 statement-turns-requires t c κs =
     let pre′ = c .before .before .before .before .before .before .before .before .before .before .before .before .before .before .before .before .before .before .before .before .before .before .before .pre in
+    let head′ = c .before .before .before .before .before .before .before .before .before .before .head in
+    let what3′ = c .before .before .before .before .what3 in
     let stood = pre′ .1 .1 in
     let st = stood .standing in
-    let i = in-loop st (pre′ .1 .0) _ _ _ (c .before .before .before .before .before .before .before .before .before .before .head .ensures .2 (stood .env) (st .holding .describes)) _ (c .before .before .before .before .what3 .given .1) in (
+    let i = in-loop st (pre′ .1 .0) _ _ _ (head′ .ensures .2 (stood .env) (st .holding .describes)) _ (what3′ .given .1) in (
       omega (arith, pre′ .0),
       (
         i .1 .on,
@@ -301,7 +341,7 @@ statement-turns-requires t c κs =
           rest = i .1 .between;
           state = stood .state;
           standing = loop-standing st (i .1) (st .shows);
-          sized = sized-kept (stood .sized) (kept-args (c .before .before .before .before .before .before .before .before .before .before .head .ensures .1 ∙ sym (stood .sized .args-long)));
+          sized = sized-kept (stood .sized) (kept-args (stood .sized) (head′ .ensures .1));
         },
       ),
     )
@@ -312,9 +352,11 @@ statement-enum-told-3 t c = c .match .keys6
 statement-shift-requires : (t : ℕ) → statement-lts.Need-shift-requires (statement-calls t) (statement-at t) statement′.Post
 statement-shift-requires t c κs =
     let pre′ = c .before .before .before .before .before .before .before .before .before .before .before .before .before .before .before .before .before .before .before .before .before .before .pre in
+    let head′ = c .before .before .before .before .before .before .before .before .before .head in
+    let enum-told3′ = c .before .before .before .enum-told3 in
     let stood = pre′ .1 .1 in
     let st = stood .standing in
-    let i = in-shift st (pre′ .1 .0) _ _ _ (c .before .before .before .before .before .before .before .before .before .head .ensures .2 (stood .env) (st .holding .describes)) (c .before .before .before .enum-told3 .given .1) in (
+    let i = in-shift st (pre′ .1 .0) _ _ _ (head′ .ensures .2 (stood .env) (st .holding .describes)) (enum-told3′ .given .1) in (
       i .on,
       record {
         env = stood .env;
@@ -322,7 +364,7 @@ statement-shift-requires t c κs =
         rest = i .between;
         state = stood .state;
         standing = shift-standing st i (st .shows);
-        sized = sized-kept (stood .sized) (kept-args (c .before .before .before .before .before .before .before .before .before .head .ensures .1 ∙ sym (stood .sized .args-long)));
+        sized = sized-kept (stood .sized) (kept-args (stood .sized) (head′ .ensures .1));
       },
     )
 
@@ -333,23 +375,30 @@ statement-slice-aggregate-supply : (t : ℕ) → statement-lts.Need-slice-aggreg
 statement-slice-aggregate-supply t c = search needs
 
 statement-add-supply : (t : ℕ) → statement-lts.Need-add-supply (statement-calls t) (statement-at t) statement′.Post
-statement-add-supply t c = omega (arith, c .before .before .before .before .before .before .before .before .before .before .before .before .before .before .before .before .before .before .before .before .before .before .before .before .pre .1 .1 .sized .roomy .inside-levels)
+statement-add-supply t c =
+    let pre′ = c .before .before .before .before .before .before .before .before .before .before .before .before .before .before .before .before .before .before .before .before .before .before .before .before .pre in
+    omega (arith, pre′ .1 .1 .sized .roomy .inside-levels)
 
 statement-supply-requires : (t : ℕ) → statement-lts.Need-supply-requires (statement-calls t) (statement-at t) statement′.Post
 statement-supply-requires t c κs =
     let pre′ = c .before .before .before .before .before .before .before .before .before .before .before .before .before .before .before .before .before .before .before .before .before .before .before .before .pre in
+    let head′ = c .before .before .before .before .before .before .before .before .before .before .before .head in
+    let what4′ = c .before .before .before .before .before .what4 in
     let stood = pre′ .1 .1 in
     let st = stood .standing in
-    let d = called st (pre′ .1 .0) _ _ _ (c .before .before .before .before .before .before .before .before .before .before .before .head .ensures .2 (stood .env) (st .holding .describes)) _ _ (c .before .before .before .before .before .what4 .given .1) in
-    (c .before .before .before .before .before .before .before .before .before .before .before .head .ensures .0, c .before .before .before .before .before .before .before .before .before .before .before .head .ensures .1, stood .sized .roomy .feeds-long, omega (arith, d .body-fits .levels))
+    let d = called st (pre′ .1 .0) _ _ _ (head′ .ensures .2 (stood .env) (st .holding .describes)) _ _ (what4′ .given .1) in
+    (head′ .ensures .0, head′ .ensures .1, stood .sized .roomy .feeds-long, omega (arith, d .body-fits .levels))
 
 statement-enter-requires : (t : ℕ) → statement-lts.Need-enter-requires (statement-calls t) (statement-at t) statement′.Post
 statement-enter-requires t c κs =
     let pre′ = c .before .before .before .before .before .before .before .before .before .before .before .before .before .before .before .before .before .before .before .before .before .before .before .before .before .before .before .before .before .before .pre in
+    let head′ = c .before .before .before .before .before .before .before .before .before .before .before .before .before .before .before .before .before .head in
+    let what4′ = c .before .before .before .before .before .before .before .before .before .before .before .what4 in
+    let supply′ = c .before .before .before .before .before .supply in
     let stood = pre′ .1 .1 in
     let st = stood .standing in
-    let d = called st (pre′ .1 .0) _ _ _ (c .before .before .before .before .before .before .before .before .before .before .before .before .before .before .before .before .before .head .ensures .2 (stood .env) (st .holding .describes)) _ _ (c .before .before .before .before .before .before .before .before .before .before .before .what4 .given .1) in
-    let s = c .before .before .before .before .before .supply .ensures in (
+    let d = called st (pre′ .1 .0) _ _ _ (head′ .ensures .2 (stood .env) (st .holding .describes)) _ _ (what4′ .given .1) in
+    let f = supply′ .ensures in (
       omega (arith, pre′ .0),
       record {
         env = stood .env;
@@ -357,9 +406,8 @@ statement-enter-requires t c κs =
         rest = d .after;
         arguments = d .arguments;
         state = stood .state;
-        use′ = called-using st d (shows-supplied (st .shows) (s .1)) (s .2 _ _ (d .supplied));
-        sized = sized-kept (stood .sized)
-            (kept-then (kept-args (c .before .before .before .before .before .before .before .before .before .before .before .before .before .before .before .before .before .head .ensures .1 ∙ sym (stood .sized .args-long))) (kept-supplied (s .0 ∙ sym (stood .sized .roomy .feeds-long)) (s .1)));
+        use′ = called-using st d (shows-supplied (st .shows) (f .1)) (f .2 _ _ (d .supplied));
+        sized = sized-kept (stood .sized) (kept-supplied (stood .sized) (head′ .ensures .1) (f .0) (f .1));
       },
     )
 
@@ -368,11 +416,12 @@ statement-same-length t c = search needs
 
 statement-returns : (t : ℕ) → statement-lts.Need-returns (statement-calls t) (statement-at t) statement′.Post
 statement-returns t c =
-    let pre′ = c .before .before .before .before .before .before .before .before .before .before .before .before .before .before .before .before .before .before .before .pre .1 in
-    let h = c .before .before .before .before .before .before .head .ensures in
+    let pre′ = c .before .before .before .before .before .before .before .before .before .before .before .before .before .before .before .before .before .before .before .pre in
+    let head′ = c .before .before .before .before .before .before .head in
+    let h = head′ .ensures in
     record {
-      kept = kept-args (h .1 ∙ sym (pre′ .1 .sized .args-long));
-      steps = λ E b us s st. ends-step st (pre′ .0) _ _ _ (h .2 E (st .holding .describes)) (c .enum-told .given .1) (st .shows);
+      kept = kept-args (pre′ .1 .1 .sized) (h .1);
+      steps = λ E b us s st. ends-step st (pre′ .1 .0) _ _ _ (h .2 E (st .holding .describes)) (c .enum-told .given .1) (st .shows);
     }
 
 statement-same-length-2 : (t : ℕ) → statement-lts.Need-same-length-2 (statement-calls t) (statement-at t) statement′.Post
@@ -386,12 +435,15 @@ statement-same-length-4 t c = search needs
 
 statement-returns-2 : (t : ℕ) → statement-lts.Need-returns-2 (statement-calls t) (statement-at t) statement′.Post
 statement-returns-2 t c =
-    let pre′ = c .before .before .before .before .before .before .before .before .before .before .before .before .before .before .before .before .before .before .before .before .before .before .before .before .before .before .before .before .pre .1 in
-    let h = c .before .before .before .before .before .before .before .before .before .before .before .before .before .before .before .head .ensures in
-    let v = c .before .before .before .before .vectors .ensures in
+    let pre′ = c .before .before .before .before .before .before .before .before .before .before .before .before .before .before .before .before .before .before .before .before .before .before .before .before .before .before .before .before .pre in
+    let head′ = c .before .before .before .before .before .before .before .before .before .before .before .before .before .before .before .head in
+    let what′ = c .before .before .before .before .before .before .before .before .before .what in
+    let vectors′ = c .before .before .before .before .vectors in
+    let h = head′ .ensures in
+    let v = vectors′ .ensures in
     record {
-      kept = kept-others (v .0) (h .1 ∙ sym (pre′ .1 .sized .args-long));
-      steps = λ E b us s st. vector-step st (pre′ .0) _ _ _ (h .2 E (st .holding .describes)) _ (c .before .before .before .before .before .before .before .before .before .what .given .1) (v .1);
+      kept = kept-others (pre′ .1 .1 .sized) (v .0) (h .1);
+      steps = λ E b us s st. vector-step st (pre′ .1 .0) _ _ _ (h .2 E (st .holding .describes)) _ (what′ .given .1) (v .1);
     }
 
 statement-same-length-5 : (t : ℕ) → statement-lts.Need-same-length-5 (statement-calls t) (statement-at t) statement′.Post
@@ -405,12 +457,15 @@ statement-same-length-7 t c = search needs
 
 statement-returns-3 : (t : ℕ) → statement-lts.Need-returns-3 (statement-calls t) (statement-at t) statement′.Post
 statement-returns-3 t c =
-    let pre′ = c .before .before .before .before .before .before .before .before .before .before .before .before .before .before .before .before .before .before .before .before .before .before .before .before .before .before .before .pre .1 in
-    let h = c .before .before .before .before .before .before .before .before .before .before .before .before .before .before .head .ensures in
-    let v = c .before .before .before .before .put .ensures in
+    let pre′ = c .before .before .before .before .before .before .before .before .before .before .before .before .before .before .before .before .before .before .before .before .before .before .before .before .before .before .before .pre in
+    let head′ = c .before .before .before .before .before .before .before .before .before .before .before .before .before .before .head in
+    let enum-told2′ = c .before .before .before .before .before .before .before .before .enum-told2 in
+    let put′ = c .before .before .before .before .put in
+    let h = head′ .ensures in
+    let v = put′ .ensures in
     record {
-      kept = kept-others (v .0) (h .1 ∙ sym (pre′ .1 .sized .args-long));
-      steps = λ E b us s st. assigns-step st (pre′ .0) _ _ _ (h .2 E (st .holding .describes)) (c .before .before .before .before .before .before .before .before .enum-told2 .given .1) (v .1);
+      kept = kept-others (pre′ .1 .1 .sized) (v .0) (h .1);
+      steps = λ E b us s st. assigns-step st (pre′ .1 .0) _ _ _ (h .2 E (st .holding .describes)) (enum-told2′ .given .1) (v .1);
     }
 
 statement-same-length-8 : (t : ℕ) → statement-lts.Need-same-length-8 (statement-calls t) (statement-at t) statement′.Post
@@ -418,11 +473,13 @@ statement-same-length-8 t c = search needs
 
 statement-returns-4 : (t : ℕ) → statement-lts.Need-returns-4 (statement-calls t) (statement-at t) statement′.Post
 statement-returns-4 t c =
-    let pre′ = c .before .before .before .before .before .before .before .before .before .before .before .before .before .before .before .before .before .before .before .before .pre .1 in
-    let h = c .before .before .before .before .before .before .before .head .ensures in
+    let pre′ = c .before .before .before .before .before .before .before .before .before .before .before .before .before .before .before .before .before .before .before .before .pre in
+    let head′ = c .before .before .before .before .before .before .before .head in
+    let what2′ = c .before .what2 in
+    let h = head′ .ensures in
     record {
-      kept = kept-args (h .1 ∙ sym (pre′ .1 .sized .args-long));
-      steps = λ E b us s st. chooses-step st (pre′ .0) _ _ _ (h .2 E (st .holding .describes)) _ (c .before .what2 .given .1) (st .shows);
+      kept = kept-args (pre′ .1 .1 .sized) (h .1);
+      steps = λ E b us s st. chooses-step st (pre′ .1 .0) _ _ _ (h .2 E (st .holding .describes)) _ (what2′ .given .1) (st .shows);
     }
 
 statement-same-length-9 : (t : ℕ) → statement-lts.Need-same-length-9 (statement-calls t) (statement-at t) statement′.Post
@@ -436,13 +493,16 @@ statement-same-length-11 t c = search needs
 
 statement-returns-5 : (t : ℕ) → statement-lts.Need-returns-5 (statement-calls t) (statement-at t) statement′.Post
 statement-returns-5 t c =
-    let pre′ = c .before .before .before .before .before .before .before .before .before .before .before .before .before .before .before .before .before .before .before .before .before .before .before .before .before .before .before .before .before .before .before .pre .1 in
-    let h = c .before .before .before .before .before .before .before .before .before .before .before .before .before .before .before .before .before .before .head .ensures in
-    let v = c .before .before .before .before .before .before .before .turns .ensures in
+    let pre′ = c .before .before .before .before .before .before .before .before .before .before .before .before .before .before .before .before .before .before .before .before .before .before .before .before .before .before .before .before .before .before .before .pre in
+    let head′ = c .before .before .before .before .before .before .before .before .before .before .before .before .before .before .before .before .before .before .head in
+    let what3′ = c .before .before .before .before .before .before .before .before .before .before .before .before .what3 in
+    let turns′ = c .before .before .before .before .before .before .before .turns in
+    let h = head′ .ensures in
+    let v = turns′ .ensures in
     record {
-      kept = kept-then (kept-args (h .1 ∙ sym (pre′ .1 .sized .args-long))) (v .kept);
+      kept = kept-then (kept-args (pre′ .1 .1 .sized) (h .1)) (v .kept);
       steps = λ E b us s st. (
-          let i = in-loop st (pre′ .0) _ _ _ (h .2 E (st .holding .describes)) _ (c .before .before .before .before .before .before .before .before .before .before .before .before .what3 .given .1) in
+          let i = in-loop st (pre′ .1 .0) _ _ _ (h .2 E (st .holding .describes)) _ (what3′ .given .1) in
           loop-step st (i .1) _ _ (v .plays E (i .1 .body) (i .1 .between) s (loop-standing st (i .1) (st .shows))));
     }
 
@@ -457,13 +517,16 @@ statement-same-length-14 t c = search needs
 
 statement-returns-6 : (t : ℕ) → statement-lts.Need-returns-6 (statement-calls t) (statement-at t) statement′.Post
 statement-returns-6 t c =
-    let pre′ = c .before .before .before .before .before .before .before .before .before .before .before .before .before .before .before .before .before .before .before .before .before .before .before .before .before .before .before .before .before .pre .1 in
-    let h = c .before .before .before .before .before .before .before .before .before .before .before .before .before .before .before .before .head .ensures in
-    let v = c .before .before .before .before .before .before .shift .ensures in
+    let pre′ = c .before .before .before .before .before .before .before .before .before .before .before .before .before .before .before .before .before .before .before .before .before .before .before .before .before .before .before .before .before .pre in
+    let head′ = c .before .before .before .before .before .before .before .before .before .before .before .before .before .before .before .before .head in
+    let enum-told3′ = c .before .before .before .before .before .before .before .before .before .before .enum-told3 in
+    let shift′ = c .before .before .before .before .before .before .shift in
+    let h = head′ .ensures in
+    let v = shift′ .ensures in
     record {
-      kept = kept-then (kept-args (h .1 ∙ sym (pre′ .1 .sized .args-long))) (v .kept);
+      kept = kept-then (kept-args (pre′ .1 .1 .sized) (h .1)) (v .kept);
       steps = λ E b us s st. (
-          let i = in-shift st (pre′ .0) _ _ _ (h .2 E (st .holding .describes)) (c .before .before .before .before .before .before .before .before .before .before .enum-told3 .given .1) in
+          let i = in-shift st (pre′ .1 .0) _ _ _ (h .2 E (st .holding .describes)) (enum-told3′ .given .1) in
           shift-step st i _ _ (v .goes-on) (v .plays E _ _ (i .between) s (shift-standing st i (st .shows))));
     }
 
@@ -474,21 +537,28 @@ statement-same-length-16 : (t : ℕ) → statement-lts.Need-same-length-16 (stat
 statement-same-length-16 t c = search needs
 
 statement-same-length-17 : (t : ℕ) → statement-lts.Need-same-length-17 (statement-calls t) (statement-at t) statement′.Post
-statement-same-length-17 t c = c .before .before .before .before .before .before .enter .ensures .kept .args-long ∙ c .before .before .before .before .before .before .before .before .before .before .before .before .before .before .before .before .before .before .before .before .before .before .before .before .head .ensures .1 ∙ sym (c .before .before .before .before .before .before .before .before .before .before .before .before .before .before .before .before .before .before .before .before .before .before .before .before .before .before .before .before .before .before .before .before .before .before .before .before .before .pre .1 .1 .sized .args-long)
+statement-same-length-17 t c =
+    let pre′ = c .before .before .before .before .before .before .before .before .before .before .before .before .before .before .before .before .before .before .before .before .before .before .before .before .before .before .before .before .before .before .before .before .before .before .before .before .before .pre in
+    let head′ = c .before .before .before .before .before .before .before .before .before .before .before .before .before .before .before .before .before .before .before .before .before .before .before .before .head in
+    let enter′ = c .before .before .before .before .before .before .enter in
+    enter′ .ensures .kept .args-long ∙ head′ .ensures .1 ∙ sym (pre′ .1 .1 .sized .args-long)
 
 statement-returns-7 : (t : ℕ) → statement-lts.Need-returns-7 (statement-calls t) (statement-at t) statement′.Post
 statement-returns-7 t c =
-    let pre′ = c .before .before .before .before .before .before .before .before .before .before .before .before .before .before .before .before .before .before .before .before .before .before .before .before .before .before .before .before .before .before .before .before .before .before .before .before .before .pre .1 in
-    let h = c .before .before .before .before .before .before .before .before .before .before .before .before .before .before .before .before .before .before .before .before .before .before .before .before .head .ensures in
-    let v = c .before .before .before .before .before .before .enter .ensures in
-    let w = c .before .before .before .before .before .before .before .before .before .before .before .before .supply .ensures in
+    let pre′ = c .before .before .before .before .before .before .before .before .before .before .before .before .before .before .before .before .before .before .before .before .before .before .before .before .before .before .before .before .before .before .before .before .before .before .before .before .before .pre in
+    let head′ = c .before .before .before .before .before .before .before .before .before .before .before .before .before .before .before .before .before .before .before .before .before .before .before .before .head in
+    let what4′ = c .before .before .before .before .before .before .before .before .before .before .before .before .before .before .before .before .before .before .what4 in
+    let supply′ = c .before .before .before .before .before .before .before .before .before .before .before .before .supply in
+    let enter′ = c .before .before .before .before .before .before .enter in
+    let h = head′ .ensures in
+    let f = supply′ .ensures in
+    let v = enter′ .ensures in
     record {
-      kept =
-          kept-then (kept-args (h .1 ∙ sym (pre′ .1 .sized .args-long)))
-          (kept-then (kept-supplied (w .0 ∙ sym (pre′ .1 .sized .roomy .feeds-long)) (w .1)) (v .kept));
+      kept = kept-then (kept-supplied (pre′ .1 .1 .sized) (h .1) (f .0) (f .1)) (v .kept);
       steps = λ E b us s st. (
-          let d = called st (pre′ .0) _ _ _ (h .2 E (st .holding .describes)) _ _ (c .before .before .before .before .before .before .before .before .before .before .before .before .before .before .before .before .before .before .what4 .given .1) in
-          called-step st d (c .before .before .before .before .before .before .enter .result) _ _ (v .told E (d .body) (d .after) (d .arguments) s (called-using st d (shows-supplied (st .shows) (w .1)) (w .2 _ _ (d .supplied)))));
+          let d = called st (pre′ .1 .0) _ _ _ (h .2 E (st .holding .describes)) _ _ (what4′ .given .1) in
+          called-step st d (enter′ .result) _ _
+          (v .told E (d .body) (d .after) (d .arguments) s (called-using st d (shows-supplied (st .shows) (f .1)) (f .2 _ _ (d .supplied)))));
     }
 
 abbrev statements-Inv-loop : statements-lts.InvT-loop
@@ -503,7 +573,9 @@ statements-loop-holds : (t : ℕ) → statements-lts.Need-loop-holds (
   statement-below t,
   statement′.Post,
 ) (statements-at t) statements.Post statements-Inv-loop statements-μ-loop
-statements-loop-holds t c = record { kept = kept-none; onward = λ E b us s st. going (c .before .before .before .before .before .before .before .before .before .before .pre .1 .0) st }
+statements-loop-holds t c =
+    let pre′ = c .before .before .before .before .before .before .before .before .before .before .pre in
+    record { kept = kept-none; onward = λ E b us s st. going (pre′ .1 .0) st }
 
 statements-statement-requires : (t : ℕ) → statements-lts.Need-statement-requires (
   statement-below t,
@@ -511,8 +583,9 @@ statements-statement-requires : (t : ℕ) → statements-lts.Need-statement-requ
 ) (statements-at t) statements.Post statements-Inv-loop statements-μ-loop
 statements-statement-requires t c κs =
     let pre′ = c .before .before .before .before .before .before .before .before .before .before .before .before .before .before .pre in
+    let loop′ = c .before .before .before .loop in
     let stood = pre′ .1 .1 in
-    let inv = c .before .before .before .loop .inv in
+    let inv = loop′ .inv in
     let o = inv .onward (stood .env) (stood .body) (stood .rest) (stood .state) (stood .standing) in (
       omega (arith, pre′ .0),
       (o .on, record { env = stood .env; body = o .rest; rest = stood .rest; state = o .state; standing = o .standing; sized = sized-kept (stood .sized) (inv .kept) }),
@@ -545,8 +618,10 @@ statements-returns :
     statements-Inv-loop
     statements-μ-loop
 statements-returns t c =
-    let inv = c .before .before .before .before .before .before .before .before .before .before .before .before .loop .inv in
-    let step = c .before .before .before .before .before .before .before .before .statement .ensures in
+    let loop′ = c .before .before .before .before .before .before .before .before .before .before .before .before .loop in
+    let statement′ = c .before .before .before .before .before .before .before .before .statement in
+    let inv = loop′ .inv in
+    let step = statement′ .ensures in
     record {
       kept = kept-then (inv .kept) (step .kept);
       plays = λ E b us s st. (let o = inv .onward E b us s st in gone o (step .steps E (o .rest) us (o .state) (o .standing)) (c .if1 .taken));
@@ -557,25 +632,34 @@ statements-loop-less : (t : ℕ) → statements-lts.Need-loop-less (
   statement′.Post,
 ) (statements-at t) statements.Post statements-Inv-loop statements-μ-loop
 statements-loop-less t c =
-    let stood = c .before .before .before .before .before .before .before .before .before .before .before .before .before .before .before .before .before .before .before .before .before .before .before .before .pre .1 .1 in
-    let o = c .before .before .before .before .before .before .before .before .before .before .before .before .before .loop .inv .onward (stood .env) (stood .body) (stood .rest) (stood .state) (stood .standing) in
-    fewer o (c .before .before .before .before .before .before .before .before .before .statement .ensures .steps (stood .env) (o .rest) (stood .rest) (o .state) (o .standing)) (c .before .if1 .left)
+    let pre′ = c .before .before .before .before .before .before .before .before .before .before .before .before .before .before .before .before .before .before .before .before .before .before .before .before .pre in
+    let loop′ = c .before .before .before .before .before .before .before .before .before .before .before .before .before .loop in
+    let statement′ = c .before .before .before .before .before .before .before .before .before .statement in
+    let if1′ = c .before .if1 in
+    let stood = pre′ .1 .1 in
+    let o = loop′ .inv .onward (stood .env) (stood .body) (stood .rest) (stood .state) (stood .standing) in
+    fewer o (statement′ .ensures .steps (stood .env) (o .rest) (stood .rest) (o .state) (o .standing)) (if1′ .left)
 
 statements-loop-again : (t : ℕ) → statements-lts.Need-loop-again (
   statement-below t,
   statement′.Post,
 ) (statements-at t) statements.Post statements-Inv-loop statements-μ-loop
 statements-loop-again t c =
-    let inv = c .before .before .before .before .before .before .before .before .before .before .before .before .before .loop .inv in
-    let step = c .before .before .before .before .before .before .before .before .before .statement .ensures in
+    let loop′ = c .before .before .before .before .before .before .before .before .before .before .before .before .before .loop in
+    let statement′ = c .before .before .before .before .before .before .before .before .before .statement in
+    let if1′ = c .before .if1 in
+    let inv = loop′ .inv in
+    let step = statement′ .ensures in
     record {
       kept = kept-then (inv .kept) (step .kept);
-      onward = λ E b us s st. (let o = inv .onward E b us s st in going-on o (step .steps E (o .rest) us (o .state) (o .standing)) (c .before .if1 .left));
+      onward = λ E b us s st. (let o = inv .onward E b us s st in going-on o (step .steps E (o .rest) us (o .state) (o .standing)) (if1′ .left));
     }
 
 turns-sub-t20 :
     (t : ℕ) → turns-lts.Need-sub-t20 (statements-below t, statements.Post) (turns-at t) turns.Post
-turns-sub-t20 t c = omega (arith, c .before .before .before .before .before .before .before .before .before .before .before .pre .1 .2)
+turns-sub-t20 t c =
+    let pre′ = c .before .before .before .before .before .before .before .before .before .before .before .pre in
+    omega (arith, pre′ .1 .2)
 
 turns-statements-requires : (t : ℕ) → turns-lts.Need-statements-requires (turns-calls t) (turns-at t) turns.Post
 turns-statements-requires t c κs =
@@ -600,25 +684,35 @@ turns-same-length-3 t c = search needs
 turns-returns :
     (t : ℕ) → turns-lts.Need-returns (statements-below t, statements.Post) (turns-at t) turns.Post
 turns-returns t c =
-    let pre′ = c .before .before .before .before .before .before .before .before .before .before .before .before .before .before .before .before .before .before .before .before .before .before .before .before .pre .1 in
-    let a = c .before .before .before .before .before .before .before .before .before .statements .ensures in
-    record { kept = a .kept; plays = λ E b us s st. turned-once _ _ (λ j. playFew j _ b) (pre′ .1) (a .plays E b us s st) (c .if1 .taken) }
+    let pre′ = c .before .before .before .before .before .before .before .before .before .before .before .before .before .before .before .before .before .before .before .before .before .before .before .before .pre in
+    let statements′ = c .before .before .before .before .before .before .before .before .before .statements in
+    let a = statements′ .ensures in
+    record { kept = a .kept; plays = λ E b us s st. turned-once _ _ (λ j. playFew j _ b) (pre′ .1 .1) (a .plays E b us s st) (c .if1 .taken) }
 
 turns-sub-t20-2 :
     (t : ℕ) →
     turns-lts.Need-sub-t20-2 (statements-below t, statements.Post) (turns-at t) turns.Post
-turns-sub-t20-2 t c = omega (arith, second-open (c .before .before .before .before .before .before .before .before .before .before .before .before .before .before .before .before .before .before .before .before .before .before .before .before .before .args .n) (c .before .before .before .before .before .before .before .before .before .before .before .before .before .before .before .before .before .before .before .before .before .before .before .before .before .args .frame .seconds) (c .before .before .before .before .before .before .before .before .before .before .statements .result .failed) (c .before .if1 .left))
+turns-sub-t20-2 t c =
+    let args′ = c .before .before .before .before .before .before .before .before .before .before .before .before .before .before .before .before .before .before .before .before .before .before .before .before .before .args in
+    let statements′ = c .before .before .before .before .before .before .before .before .before .before .statements in
+    let if1′ = c .before .if1 in
+    omega (arith, second-open (args′ .n) (args′ .frame .seconds) (statements′ .result .failed) (if1′ .left))
 
 turns-sub-t31 :
     (t : ℕ) → turns-lts.Need-sub-t31 (statements-below t, statements.Post) (turns-at t) turns.Post
-turns-sub-t31 t c = omega (arith, c .before .before .before .before .before .before .before .before .before .before .before .before .before .before .before .before .before .before .before .before .before .before .before .before .before .before .pre .1 .2)
+turns-sub-t31 t c =
+    let pre′ = c .before .before .before .before .before .before .before .before .before .before .before .before .before .before .before .before .before .before .before .before .before .before .before .before .before .before .pre in
+    omega (arith, pre′ .1 .2)
 
 turns-statements-requires-2 : (t : ℕ) → turns-lts.Need-statements-requires-2 (turns-calls t) (turns-at t) turns.Post
 turns-statements-requires-2 t c κs =
     let pre′ = c .before .before .before .before .before .before .before .before .before .before .before .before .before .before .before .before .before .before .before .before .before .before .before .before .before .before .before .before .before .pre in
-    let a = c .before .before .before .before .before .before .before .before .before .before .before .before .before .before .statements .ensures in
+    let args′ = c .before .before .before .before .before .before .before .before .before .before .before .before .before .before .before .before .before .before .before .before .before .before .before .before .before .before .before .before .before .args in
+    let statements′ = c .before .before .before .before .before .before .before .before .before .before .before .before .before .before .statements in
+    let if1′ = c .before .before .before .before .before .if1 in
+    let a = statements′ .ensures in
     let stood = pre′ .1 .3 in
-    let sound = first-sound (c .before .before .before .before .before .before .before .before .before .before .before .before .before .before .before .before .before .before .before .before .before .before .before .before .before .before .before .before .before .args .n) (c .before .before .before .before .before .before .before .before .before .before .before .before .before .before .before .before .before .before .before .before .before .before .before .before .before .before .before .before .before .args .frame .seconds) (c .before .before .before .before .before .before .before .before .before .before .before .before .before .before .statements .result .failed) (c .before .before .before .before .before .if1 .left) in (
+    let sound = first-sound (args′ .n) (args′ .frame .seconds) (statements′ .result .failed) (if1′ .left) in (
       omega (arith, pre′ .0, pre′ .1 .2),
       (
         pre′ .1 .0,
@@ -636,30 +730,43 @@ turns-statements-requires-2 t c κs =
 turns-same-length-4 :
     (t : ℕ) →
     turns-lts.Need-same-length-4 (statements-below t, statements.Post) (turns-at t) turns.Post
-turns-same-length-4 t c = c .before .before .before .before .before .before .statements2 .ensures .kept .values-long ∙ c .before .before .before .before .before .before .before .before .before .before .before .before .before .before .before .before .before .before .before .before .before .statements .ensures .kept .values-long
+turns-same-length-4 t c =
+    let statements′ = c .before .before .before .before .before .before .before .before .before .before .before .before .before .before .before .before .before .before .before .before .before .statements in
+    let statements2′ = c .before .before .before .before .before .before .statements2 in
+    statements2′ .ensures .kept .values-long ∙ statements′ .ensures .kept .values-long
 
 turns-same-length-5 :
     (t : ℕ) →
     turns-lts.Need-same-length-5 (statements-below t, statements.Post) (turns-at t) turns.Post
-turns-same-length-5 t c = c .before .before .before .before .before .before .statements2 .ensures .kept .feeds-long ∙ c .before .before .before .before .before .before .before .before .before .before .before .before .before .before .before .before .before .before .before .before .before .statements .ensures .kept .feeds-long
+turns-same-length-5 t c =
+    let statements′ = c .before .before .before .before .before .before .before .before .before .before .before .before .before .before .before .before .before .before .before .before .before .statements in
+    let statements2′ = c .before .before .before .before .before .before .statements2 in
+    statements2′ .ensures .kept .feeds-long ∙ statements′ .ensures .kept .feeds-long
 
 turns-same-length-6 :
     (t : ℕ) →
     turns-lts.Need-same-length-6 (statements-below t, statements.Post) (turns-at t) turns.Post
-turns-same-length-6 t c = c .before .before .before .before .before .before .statements2 .ensures .kept .args-long ∙ c .before .before .before .before .before .before .before .before .before .before .before .before .before .before .before .before .before .before .before .before .before .statements .ensures .kept .args-long
+turns-same-length-6 t c =
+    let statements′ = c .before .before .before .before .before .before .before .before .before .before .before .before .before .before .before .before .before .before .before .before .before .statements in
+    let statements2′ = c .before .before .before .before .before .before .statements2 in
+    statements2′ .ensures .kept .args-long ∙ statements′ .ensures .kept .args-long
 
 turns-returns-2 :
     (t : ℕ) →
     turns-lts.Need-returns-2 (statements-below t, statements.Post) (turns-at t) turns.Post
 turns-returns-2 t c =
-    let a = c .before .before .before .before .before .before .before .before .before .before .before .before .before .before .before .before .before .before .before .before .before .statements .ensures in
-    let z = c .before .before .before .before .before .before .statements2 .ensures in
-    let sound = first-sound (c .before .before .before .before .before .before .before .before .before .before .before .before .before .before .before .before .before .before .before .before .before .before .before .before .before .before .before .before .before .before .before .before .before .before .before .before .args .n) (c .before .before .before .before .before .before .before .before .before .before .before .before .before .before .before .before .before .before .before .before .before .before .before .before .before .before .before .before .before .before .before .before .before .before .before .before .args .frame .seconds) (c .before .before .before .before .before .before .before .before .before .before .before .before .before .before .before .before .before .before .before .before .before .statements .result .failed) (c .before .before .before .before .before .before .before .before .before .before .before .before .if1 .left) in
+    let args′ = c .before .before .before .before .before .before .before .before .before .before .before .before .before .before .before .before .before .before .before .before .before .before .before .before .before .before .before .before .before .before .before .before .before .before .before .before .args in
+    let statements′ = c .before .before .before .before .before .before .before .before .before .before .before .before .before .before .before .before .before .before .before .before .before .statements in
+    let if1′ = c .before .before .before .before .before .before .before .before .before .before .before .before .if1 in
+    let statements2′ = c .before .before .before .before .before .before .statements2 in
+    let a = statements′ .ensures in
+    let z = statements2′ .ensures in
+    let sound = first-sound (args′ .n) (args′ .frame .seconds) (statements′ .result .failed) (if1′ .left) in
     record {
       kept = kept-then (a .kept) (z .kept);
       plays = λ E b us s st. (
           let p = a .plays E b us s st in
-          turned-twice _ _ (λ j. playFew j _ b) p (c .before .before .before .before .before .before .before .before .before .before .before .before .if1 .left) (z .plays E b us _ (turned-standing _ _ st p sound)));
+          turned-twice _ _ (λ j. playFew j _ b) p (if1′ .left) (z .plays E b us _ (turned-standing _ _ st p sound)));
     }
 
 pub +body-of+enter+statement+statements+turns-spec : {M : Type 1} → statement M

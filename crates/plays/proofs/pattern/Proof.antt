@@ -36,23 +36,34 @@ find-requires c κs = search needs
 
 add-start-at : tie.Need-add-start-at
 add-start-at c =
-    let n = c .before .before .before .before .before .before .before .before .before .before .before .before .before .before .pre .listed-at in
-    omega (arith, found-at n (c .find .result) (rest (c .before .before .before .before .before .before .before .before .before .before .before .before .before .before .args .book .now) (firstPattern * 2)) (c .before .name-bytes .ensures) (c .find .ensures) .0, n .few)
+    let pre′ = c .before .before .before .before .before .before .before .before .before .before .before .before .before .before .pre in
+    let args′ = c .before .before .before .before .before .before .before .before .before .before .before .before .before .before .args in
+    let name-bytes′ = c .before .name-bytes in
+    let n = pre′ .listed-at in
+    omega (arith, found-at n (c .find .result) (rest (args′ .book .now) (firstPattern * 2)) (name-bytes′ .ensures) (c .find .ensures) .0, n .few)
 
 start-at-requires : tie.Need-start-at-requires
 start-at-requires c κs = search needs
 
 sub-body : tie.Need-sub-body
 sub-body c =
-    let n = c .before .before .before .before .before .before .before .before .before .before .before .before .before .before .before .pre .listed-at in
-    let x = found-at n (c .before .find .result) (rest (c .before .before .before .before .before .before .before .before .before .before .before .before .before .before .before .args .book .now) (firstPattern * 2)) (c .before .before .name-bytes .ensures) (c .before .find .ensures) in
-    omega (arith, c .start-at .ensures (omega (arith, x .0, n .few)), pattern-within n (c .before .find .result) (x .2))
+    let pre′ = c .before .before .before .before .before .before .before .before .before .before .before .before .before .before .before .pre in
+    let args′ = c .before .before .before .before .before .before .before .before .before .before .before .before .before .before .before .args in
+    let name-bytes′ = c .before .before .name-bytes in
+    let find′ = c .before .find in
+    let n = pre′ .listed-at in
+    let x = found-at n (find′ .result) (rest (args′ .book .now) (firstPattern * 2)) (name-bytes′ .ensures) (find′ .ensures) in
+    omega (arith, c .start-at .ensures (omega (arith, x .0, n .few)), pattern-within n (find′ .result) (x .2))
 
 part-body-start : tie.Need-part-body-start
 part-body-start c =
-    let n = c .before .before .before .before .before .before .before .before .before .before .before .before .before .before .before .pre .listed-at in
-    let x = found-at n (c .before .find .result) (rest (c .before .before .before .before .before .before .before .before .before .before .before .before .before .before .before .args .book .now) (firstPattern * 2)) (c .before .before .name-bytes .ensures) (c .before .find .ensures) in
-    omega (arith, c .start-at .ensures (omega (arith, x .0, n .few)), pattern-within n (c .before .find .result) (x .2))
+    let pre′ = c .before .before .before .before .before .before .before .before .before .before .before .before .before .before .before .pre in
+    let args′ = c .before .before .before .before .before .before .before .before .before .before .before .before .before .before .before .args in
+    let name-bytes′ = c .before .before .name-bytes in
+    let find′ = c .before .find in
+    let n = pre′ .listed-at in
+    let x = found-at n (find′ .result) (rest (args′ .book .now) (firstPattern * 2)) (name-bytes′ .ensures) (find′ .ensures) in
+    omega (arith, c .start-at .ensures (omega (arith, x .0, n .few)), pattern-within n (find′ .result) (x .2))
 
 part-body-end : tie.Need-part-body-end
 part-body-end c = search needs
@@ -63,18 +74,24 @@ leave-requires c κs = search needs
 body-of-requires : tie.Need-body-of-requires
 body-of-requires c κs =
     let pre′ = c .before .before .before .before .before .before .before .before .before .before .before .before .before .before .before .before .before .before .before .before .before .before .before .pre in
+    let args′ = c .before .before .before .before .before .before .before .before .before .before .before .before .before .before .before .before .before .before .before .before .before .before .before .args in
+    let name-bytes′ = c .before .before .before .before .before .before .before .before .before .before .name-bytes in
+    let find′ = c .before .before .before .before .before .before .before .before .before .find in
+    let start-at′ = c .before .before .before .before .before .before .before .before .start-at in
+    let leave′ = c .before .before .before .before .before .leave in
+    let pre′ = pre′ in
     let n = pre′ .listed-at in
-    let x = found-at n (c .before .before .before .before .before .before .before .before .before .find .result) (rest (c .before .before .before .before .before .before .before .before .before .before .before .before .before .before .before .before .before .before .before .before .before .before .before .args .book .now) (firstPattern * 2)) (c .before .before .before .before .before .before .before .before .before .before .name-bytes .ensures) (c .before .before .before .before .before .before .before .before .before .find .ensures) in
-    let at = c .before .before .before .before .before .before .before .before .start-at .ensures (omega (arith, x .0, n .few)) in
-    let within = pattern-within n (c .before .before .before .before .before .before .before .before .before .find .result) (x .2) in (
-      part-within (c .before .before .before .before .before .before .before .before .before .before .before .before .before .before .before .before .before .before .before .before .before .before .before .args .text .now) (c .before .before .before .before .before .before .before .before .start-at .result) _ at within,
-      rw (part-begins (c .before .before .before .before .before .before .before .before .before .before .before .before .before .before .before .before .before .before .before .before .before .before .before .args .text .now) (c .before .before .before .before .before .before .before .before .start-at .result) _ at within) (record {
+    let x = found-at n (find′ .result) (rest (args′ .book .now) (firstPattern * 2)) (name-bytes′ .ensures) (find′ .ensures) in
+    let at = start-at′ .ensures (omega (arith, x .0, n .few)) in
+    let within = pattern-within n (find′ .result) (x .2) in (
+      part-within (args′ .text .now) (start-at′ .result) _ at within,
+      rw (part-begins (args′ .text .now) (start-at′ .result) _ at within) (record {
         env = pre′ .env;
         body = pre′ .decl .body;
         rest = n .stands .0;
-        state = record { pins = bare (start (c .before .before .before .before .before .before .before .before .before .before .before .before .before .before .before .before .before .before .before .before .before .before .before .args .signals) .pins); table = none; args = [] };
-        standing = pattern-standing n (c .before .before .before .before .before .before .before .before .before .find .result) (x .2) (pre′ .sized) (c .before .before .before .before .before .leave .ensures) (start (c .before .before .before .before .before .before .before .before .before .before .before .before .before .before .before .before .before .before .before .before .before .before .before .args .signals)) (opening-long (c .before .before .before .before .before .before .before .before .before .before .before .before .before .before .before .before .before .before .before .before .before .before .before .args .signals));
-        sized = sized-left (pre′ .sized) (c .before .before .before .before .before .leave .ensures);
+        state = record { pins = bare (start (args′ .signals) .pins); table = none; args = [] };
+        standing = pattern-standing n (find′ .result) (x .2) (pre′ .sized) (leave′ .ensures) (start (args′ .signals)) (opening-long (args′ .signals));
+        sized = sized-left (pre′ .sized) (leave′ .ensures);
       }),
     )
 
@@ -90,19 +107,26 @@ same-length-3 c = search needs
 returns : tie.Need-returns
 returns c =
     let pre′ = c .before .before .before .before .before .before .before .before .before .before .before .before .before .before .before .before .before .before .before .before .before .before .before .before .before .before .before .before .before .before .pre in
+    let args′ = c .before .before .before .before .before .before .before .before .before .before .before .before .before .before .before .before .before .before .before .before .before .before .before .before .before .before .before .before .before .before .args in
+    let name-bytes′ = c .before .before .before .before .before .before .before .before .before .before .before .before .before .before .before .before .before .name-bytes in
+    let find′ = c .before .before .before .before .before .before .before .before .before .before .before .before .before .before .before .before .find in
+    let start-at′ = c .before .before .before .before .before .before .before .before .before .before .before .before .before .before .before .start-at in
+    let leave′ = c .before .before .before .before .before .before .before .before .before .before .before .before .leave in
+    let body-of′ = c .before .before .before .before .before .before .body-of in
+    let pre′ = pre′ in
     let n = pre′ .listed-at in
-    let l = c .before .before .before .before .before .before .before .before .before .before .before .before .leave .ensures in
-    let x = found-at n (c .before .before .before .before .before .before .before .before .before .before .before .before .before .before .before .before .find .result) (rest (c .before .before .before .before .before .before .before .before .before .before .before .before .before .before .before .before .before .before .before .before .before .before .before .before .before .before .before .before .before .before .args .book .now) (firstPattern * 2)) (c .before .before .before .before .before .before .before .before .before .before .before .before .before .before .before .before .before .name-bytes .ensures) (c .before .before .before .before .before .before .before .before .before .before .before .before .before .before .before .before .find .ensures) in
-    let at = c .before .before .before .before .before .before .before .before .before .before .before .before .before .before .before .start-at .ensures (omega (arith, x .0, n .few)) in
-    let b = rw (part-begins (c .before .before .before .before .before .before .before .before .before .before .before .before .before .before .before .before .before .before .before .before .before .before .before .before .before .before .before .before .before .before .args .text .now) (c .before .before .before .before .before .before .before .before .before .before .before .before .before .before .before .start-at .result) _ at (pattern-within n (c .before .before .before .before .before .before .before .before .before .before .before .before .before .before .before .before .find .result) (x .2))) at (c .before .before .before .before .before .before .body-of .ensures) in
+    let l = leave′ .ensures in
+    let x = found-at n (find′ .result) (rest (args′ .book .now) (firstPattern * 2)) (name-bytes′ .ensures) (find′ .ensures) in
+    let at = start-at′ .ensures (omega (arith, x .0, n .few)) in
+    let b = rw (part-begins (args′ .text .now) (start-at′ .result) _ at (pattern-within n (find′ .result) (x .2))) at (body-of′ .ensures) in
     record {
       sized = sized-kept (sized-left (pre′ .sized) l) (b .kept);
       fails = λ E ps d m s h. (
-          let e = found-at m (c .before .before .before .before .before .before .before .before .before .before .before .before .before .before .before .before .find .result) (rest (c .before .before .before .before .before .before .before .before .before .before .before .before .before .before .before .before .before .before .before .before .before .before .before .before .before .before .before .before .before .before .args .book .now) (firstPattern * 2)) (c .before .before .before .before .before .before .before .before .before .before .before .before .before .before .before .before .before .name-bytes .ensures) (c .before .before .before .before .before .before .before .before .before .before .before .before .before .before .before .before .find .ensures) .2 in
-          listed-fails m s (b .plays E (d .body) (m .stands .0) _ (pattern-standing m (c .before .before .before .before .before .before .before .before .before .before .before .before .before .before .before .before .find .result) e (pre′ .sized) l s h)));
+          let e = found-at m (find′ .result) (rest (args′ .book .now) (firstPattern * 2)) (name-bytes′ .ensures) (find′ .ensures) .2 in
+          listed-fails m s (b .plays E (d .body) (m .stands .0) _ (pattern-standing m (find′ .result) e (pre′ .sized) l s h)));
       sound = λ E ps d m s h. (
-          let e = found-at m (c .before .before .before .before .before .before .before .before .before .before .before .before .before .before .before .before .find .result) (rest (c .before .before .before .before .before .before .before .before .before .before .before .before .before .before .before .before .before .before .before .before .before .before .before .before .before .before .before .before .before .before .args .book .now) (firstPattern * 2)) (c .before .before .before .before .before .before .before .before .before .before .before .before .before .before .before .before .before .name-bytes .ensures) (c .before .before .before .before .before .before .before .before .before .before .before .before .before .before .before .before .find .ensures) .2 in
-          listed-sound m s (b .plays E (d .body) (m .stands .0) _ (pattern-standing m (c .before .before .before .before .before .before .before .before .before .before .before .before .before .before .before .before .find .result) e (pre′ .sized) l s h)));
+          let e = found-at m (find′ .result) (rest (args′ .book .now) (firstPattern * 2)) (name-bytes′ .ensures) (find′ .ensures) .2 in
+          listed-sound m s (b .plays E (d .body) (m .stands .0) _ (pattern-standing m (find′ .result) e (pre′ .sized) l s h)));
     }
 
 pub pattern-spec : {M : Type 1} → statement M

@@ -1,6 +1,6 @@
 -- A Shift meets its contract: the head that is read is its V's, the V plays as often as the frame says, and its `}` is due behind it.
 use native.Mathlib.Omega.{arith}
-use mathlib.Core.Path.{refl, sym, _∙_}
+use mathlib.Core.Path.{refl}
 use Rattle.tokens.specs.Written.{bytes}
 use Rattle.assigns.proofs.Table.{gave-zeros}
 use Rattle.plays.proofs.Keeping.{kept-others}
@@ -14,7 +14,8 @@ slice-aggregate-head c = search needs
 
 head-requires : tie.Need-head-requires
 head-requires c κs =
-    let stood = c .before .before .before .before .before .before .before .before .before .before .before .before .pre .1 in
+    let pre′ = c .before .before .before .before .before .before .before .before .before .before .before .before .pre in
+    let stood = pre′ .1 in
     (record { env = stood .env; describes = stood .standing .holding .describes }, (omega arith), gave-zeros, stood .sized .args-long)
 
 slice-aggregate-vectors : tie.Need-slice-aggregate-vectors
@@ -22,8 +23,10 @@ slice-aggregate-vectors c = search needs
 
 vectors-requires : tie.Need-vectors-requires
 vectors-requires c κs =
-    let stood = c .before .before .before .before .before .before .before .before .before .before .before .before .before .before .before .before .before .before .before .pre .1 in
-    (stood .sized .roomy, c .before .before .before .before .before .before .head .ensures .0, stood .sized .waves-long)
+    let pre′ = c .before .before .before .before .before .before .before .before .before .before .before .before .before .before .before .before .before .before .before .pre in
+    let head′ = c .before .before .before .before .before .before .head in
+    let stood = pre′ .1 in
+    (stood .sized .roomy, head′ .ensures .0, stood .sized .waves-long)
 
 slice-aggregate-due : tie.Need-slice-aggregate-due
 slice-aggregate-due c = search needs
@@ -47,7 +50,7 @@ returns c =
     let head′ = c .before .before .before .before .before .before .before .before .before .before .before .before .before .before .head in
     let vectors′ = c .before .before .before .before .before .before .before .vectors in
     record {
-      kept = kept-others (vectors′ .ensures .0) (head′ .ensures .1 ∙ sym (pre′ .1 .sized .args-long));
+      kept = kept-others (pre′ .1 .sized) (vectors′ .ensures .0) (head′ .ensures .1);
       goes-on = refl;
       plays = λ E p a us s st. shift-plays _ _ _ _ _ st (pre′ .0) (head′ .ensures .2 E (st .holding .describes)) (vectors′ .ensures .1) (c .due .ensures);
     }
