@@ -6,5 +6,5 @@ mod Judging
 mod Keeping
 mod Blocks
 mod Tabling
-mod Deciding
+pub mod Deciding
 mod Packing

@@ -1,0 +1,7 @@
+mod Naming
+mod Judging
+mod Answering
+mod Outlining
+mod Fronts
+mod Shaping
+mod Handing

@@ -1,0 +1,79 @@
+-- The waveform service from the events: refused with them, without room for them, or the events at the front of both buffers.
+use Prim.Native.Nat.{ℕ, _≤_}
+use native.Mathlib.Omega.{arith}
+use mathlib.Core.Path.{_≡_, refl, sym, ap, _∙_}
+use mathlib.Core.Bool.{Bool, true, false, not, _&&_, _||_}
+use mathlib.Core.List.{List, _++_}
+use lib.Dec.{leb, ltb}
+use lib.ListN.{length, take, drop}
+use borrow.Author.Tests.{le-leb, lt-leb, ltb-true, ltb-false}
+use Rattle.meaning.specs.Refusals.{noRoom}
+use Rattle.meaning.specs.Bounds.{entryMost}
+use Rattle.meaning.specs.Timing.{Event}
+use Rattle.meaning.specs.Meaning.{Answer, given, refused, answering}
+use Rattle.meaning.specs.Services.{timesOf, lettersOf, eventsOut, Waveform, waveform}
+use Rattle.assigns.proofs.Table.{or-false}
+use Rattle.stil.specs.Answers.{shapedOf, afterwards}
+use Rattle.stil.specs.Waveforms.{eventsOf, Shows, Outlines, Shapes}
+use Rattle.stil.specs.declared.Outline.{Outline}
+use Rattle.stil.specs.declared.Shaped.{Shaped}
+use Rattle.stil.specs.declared.Shaped.the-variants.{Events, Refused}
+use Rattle.stil.proofs.Outlining.{waveform-events}
+
+-- one of two buffers is too short, or none is
+room : (a b n : ℕ) {y : Bool} → (ltb a n || ltb b n) ≡ y → (leb n a && leb n b) ≡ not y
+room a b n {y} e = by (ltb a n) (ltb b n) refl refl ∙ ap not e
+  where
+    by : (x z : Bool) → ltb a n ≡ x → ltb b n ≡ z → (leb n a && leb n b) ≡ not (x || z)
+    by true z p q = rw (lt-leb n a (ltb-true a n p))
+    by false true p q = rw (le-leb n a (ltb-false a n p), lt-leb n b (ltb-true b n q))
+    by false false p q = rw (le-leb n a (ltb-false a n p), le-leb n b (ltb-false b n q))
+
+pub roomy : (a b n : ℕ) → (ltb a n || ltb b n) ≡ false → (n ≤ a) × (n ≤ b)
+roomy a b n e = let k = or-false (ltb a n) (ltb b n) e in (ltb-false a n (k .0), ltb-false b n (k .1))
+
+-- no more than an entry has
+pub outline-few : {text : List ℕ} {k s c : ℕ} {ts ls : List ℕ} {o : Outline} → Outlines text k s c ts ls o → o .no ≡ 0 → o .count ≤ entryMost
+outline-few h on = h .finds on .2 .few
+
+module _ {text : List ℕ} {k s c : ℕ} {ts ls : List ℕ} {o : Outline} (h : Outlines text k s c ts ls o) (times letters : List ℕ) where
+  abbrev answer : Answer Waveform
+  answer = waveform text k s c times letters
+
+  pub waveform-refused : (o .no ≡ 0 → ⊥) → answer ≡ refused (o .no) (o .place)
+  unfolding answering
+  waveform-refused z = waveform-events text k s c times letters ∙ ap (λ (a : Answer (List Event)). answering a (λ es. eventsOut es times letters)) (h .refuses z)
+
+  module _ (on : o .no ≡ 0) where
+    shows : Shows ts ls (o .count) (h .finds on .0)
+    shows = h .finds on .2
+
+    handed : answer ≡ eventsOut (h .finds on .0) times letters
+    unfolding answering
+    handed = waveform-events text k s c times letters ∙ ap (λ (a : Answer (List Event)). answering a (λ es. eventsOut es times letters)) (h .finds on .1)
+
+    module _ {y : Bool} (e : (ltb (length times) (o .count) || ltb (length letters) (o .count)) ≡ y) where
+      tested : (leb (length (h .finds on .0)) (length times) && leb (length (h .finds on .0)) (length letters)) ≡ not y
+      tested = ap (λ (n : ℕ). leb n (length times) && leb n (length letters)) (sym (shows .count-is)) ∙ room (length times) (length letters) (o .count) e
+
+      pub waveform-full : y ≡ true → answer ≡ refused noRoom 0
+      unfolding eventsOut
+      waveform-full z = handed ∙ rw (tested ∙ ap not z, eventsOut)
+
+      pub waveform-given : {times′ letters′ : List ℕ} → y ≡ false
+          → (times′ ≡ take (o .count) ts ++ drop (o .count) times) × (letters′ ≡ take (o .count) ls ++ drop (o .count) letters)
+          → answer ≡ given (record { count = o .count; times = times′; letters = letters′ })
+      unfolding eventsOut
+      waveform-given z p = handed ∙ rw (tested ∙ ap not z, eventsOut) (rw (p .0, p .1, shows .times-are, shows .letters-are, shows .count-is))
+
+-- ---- as the service answers it
+
+module _ {a : Answer Waveform} {times letters : List ℕ} where
+  pub shapes-refused : {n p : ℕ} → a ≡ refused n p → Shapes a times times letters letters (Refused n p)
+  unfolding afterwards
+  shapes-refused e = rw e (record { answers = refl; times-are = refl; letters-are = refl })
+
+  pub shapes-given : {n : ℕ} {times′ letters′ : List ℕ} → a ≡ given (record { count = n; times = times′; letters = letters′ })
+      → Shapes a times times′ letters letters′ (Events n)
+  unfolding afterwards
+  shapes-given e = rw e (record { answers = refl; times-are = refl; letters-are = refl })

@@ -1,0 +1,76 @@
+-- `put` meets its contract. The invariant: the first i of both arrays stand at the front of both buffers.
+use Prim.Native.Nat.{_-_, _≤_}
+use native.Mathlib.Omega.{arith}
+use Rattle.stil.proofs.Fronts.{Fronted, fronted-none, fronted-more, fronted-length, fronted-all}
+use Rattle.stil.proofs.put.Statement.{statement}
+use Rattle.stil.proofs.put.Tie as tie
+
+abbrev Inv-loop : tie.InvT-loop
+Inv-loop ts ls n times₀ letters₀ i₀ times letters i = (i ≤ n) × Fronted ts times₀ i times × Fronted ls letters₀ i letters
+
+abbrev μ-loop : tie.MeasureT-loop
+μ-loop ts ls n times₀ letters₀ i₀ times letters i = n - i
+
+loop-holds : tie.Need-loop-holds Inv-loop μ-loop
+loop-holds c = (omega arith, fronted-none, fronted-none)
+
+mul-times : tie.Need-mul-times Inv-loop μ-loop
+mul-times c = omega arith
+
+shared-slice-read-times : tie.Need-shared-slice-read-times Inv-loop μ-loop
+shared-slice-read-times c = omega arith
+
+mul-times-2 : tie.Need-mul-times-2 Inv-loop μ-loop
+mul-times-2 c = omega arith
+
+slice-write-times : tie.Need-slice-write-times Inv-loop μ-loop
+slice-write-times c = omega (arith, fronted-length (c .before .before .loop .inv .1))
+
+shared-slice-read-letters : tie.Need-shared-slice-read-letters Inv-loop μ-loop
+shared-slice-read-letters c = omega arith
+
+slice-write-letters : tie.Need-slice-write-letters Inv-loop μ-loop
+slice-write-letters c = omega (arith, fronted-length (c .before .before .before .loop .inv .2))
+
+add-i : tie.Need-add-i Inv-loop μ-loop
+add-i c = omega arith
+
+loop-less : tie.Need-loop-less Inv-loop μ-loop
+loop-less c = omega arith
+
+loop-again : tie.Need-loop-again Inv-loop μ-loop
+loop-again c =
+    let inv = c .before .before .before .loop .inv in
+    (omega arith, fronted-more (inv .1) (omega arith), fronted-more (inv .2) (omega arith))
+
+same-length : tie.Need-same-length Inv-loop μ-loop
+same-length c = fronted-length (c .before .loop .inv .1)
+
+same-length-2 : tie.Need-same-length-2 Inv-loop μ-loop
+same-length-2 c = fronted-length (c .before .loop .inv .2)
+
+returns : tie.Need-returns Inv-loop μ-loop
+returns c =
+    let inv = c .before .loop .inv in
+    let n = c .before .before .args .n in
+    (fronted-all (inv .1) n (omega arith) (omega arith) (omega arith), fronted-all (inv .2) n (omega arith) (omega arith) (omega arith))
+
+pub put-spec : {M : Type 1} → statement M
+put-spec =
+    tie.close
+    (tie.spec
+    Inv-loop
+    μ-loop
+    loop-holds
+    mul-times
+    shared-slice-read-times
+    mul-times-2
+    slice-write-times
+    shared-slice-read-letters
+    slice-write-letters
+    add-i
+    loop-less
+    loop-again
+    same-length
+    same-length-2
+    returns)

@@ -1,0 +1,488 @@
+// The services that need no rows: Check, Name and Waveform, for any text, any numbers and any buffers.
+ghost use mathlib.Core.Path.{_≡_};
+ghost use mathlib.Core.List.{_∷_, [], _++_};
+ghost use mathlib.Core.Bool.{false, not};
+ghost use Prim.Native.Nat.{_≤_};
+ghost use lib.ListN.{length, take, drop};
+ghost use lib.Dec.{eqb};
+ghost use Rattle.meaning.specs.Bounds.{signalsMost, tablesMost, entryMost};
+ghost use Rattle.meaning.specs.Meaning.{firsts};
+ghost use Rattle.meaning.specs.Services.{check as checkOf, nameAt, nameOf, waveform as waveformOf};
+ghost use Rattle.words.specs.Table.{names};
+ghost use Rattle.texts.specs.Tables.{Found};
+ghost use Rattle.texts.specs.Told.{packedRefusal};
+ghost use Rattle.stil.specs.Answers.{checkedOf, whichOf, locatedOf};
+ghost use Rattle.stil.specs.Judged.{namedOf, numbered, Judges, Copies};
+ghost use Rattle.stil.specs.Waveforms.{Outlines, Shapes};
+ghost use Rattle.stil.specs.Interface.{Hands, fiveOf, twoOf, Draws};
+use texts::Verdict;
+use timing::Watch;
+
+const TEXT_MOST: usize = 65_536;
+
+// Refusals.
+const NOT_PLAYABLE: u8 = 17;
+
+const NO_SUCH: u8 = 18;
+
+const NO_ROOM: u8 = 19;
+
+// What is wanted of a text beside its counts: a name by its number, and where a waveform stands.
+struct Wanted {
+    table: bool,
+    number: usize,
+    watch: Watch,
+}
+
+// A name by its number, if there is one (`named`): its place in the text, and its length.
+struct Named {
+    named: bool,
+    at: usize,
+    length: usize,
+}
+
+// The refusal's number, 0 for none, and its place; or else the counts, the name that is wanted, and where the waveform's entry stands (`found`: there is
+// one).
+struct Judged {
+    no: u8,
+    place: usize,
+    signals: usize,
+    tables: usize,
+    listed: usize,
+    cycles: usize,
+    size: usize,
+    name: Named,
+    found: bool,
+    entry: usize,
+}
+
+// The refusal's number, 0 for none, and its place; or else how many events there are.
+struct Outline {
+    no: u8,
+    place: usize,
+    count: usize,
+}
+
+pub enum Checked {
+    // signals, tables, listed patterns, cycles, size of the run
+    Counted(usize, usize, usize, usize, usize),
+    // the number of the refusal, and the place
+    Refused(u8, usize),
+}
+
+pub enum Located {
+    // the name's place in the text, and its length
+    Found(usize, usize),
+    Refused(u8, usize),
+}
+
+pub enum Shaped {
+    // how many events were written
+    Events(usize),
+    Refused(u8, usize),
+}
+
+// ---- a name by its number
+
+fn nameless() -> Named
+    ensures { λ r. ⌜ r .named ≡ false ⌝ }
+{
+    Named {
+        named: false,
+        at: 0,
+        length: 0,
+    }
+}
+
+// Of `count` names.
+fn name_at<'a>(text: &'a [u8], places: &'a [usize], count: usize, number: usize) -> Named
+    requires { ⌜ count ≤ signalsMost ⌝ }
+    ensures { λ r. ⌜ nameAt (firsts (names (now (text .entry)) (now (places .entry)) count)) number ≡ namedOf r ⌝ }
+{
+    if count <= number {
+        return nameless();
+    }
+    let word = words::name_bytes(text, places, number);
+    Named {
+        named: true,
+        at: words::number_at(places, number * 2),
+        length: word.len(),
+    }
+}
+
+// Of the tables, or of the signals.
+fn name_of<'a>(
+    text: &'a [u8],
+    places: &'a [usize],
+    tplaces: &'a [usize],
+    signals: usize,
+    tables: usize,
+    table: bool,
+    number: usize,
+) -> Named
+    requires { ⌜ (signals ≤ signalsMost) × (tables ≤ tablesMost) ⌝ }
+    ensures { λ r. ⌜ nameAt (numbered table (now (text .entry)) (now (places .entry)) (now (tplaces .entry)) signals tables) number ≡ namedOf r ⌝ }
+{
+    if table {
+        return name_at(text, tplaces, tables, number);
+    }
+    name_at(text, places, signals, number)
+}
+
+// ---- any text, judged once: 1 to 17
+
+fn refused(no: u8, place: usize) -> Judged
+    ensures { λ r. ⌜ (r .no ≡ no) × (r .place ≡ place) ⌝ }
+{
+    Judged {
+        no,
+        place,
+        signals: 0,
+        tables: 0,
+        listed: 0,
+        cycles: 0,
+        size: 0,
+        name: nameless(),
+        found: false,
+        entry: 0,
+    }
+}
+
+// What is told of a text that is not refused.
+fn told<'a>(
+    text: &'a [u8],
+    places: &'a [usize],
+    tplaces: &'a [usize],
+    v: Verdict,
+    wanted: Wanted,
+) -> Judged
+    requires { ⌜ (v .parts .signals ≤ signalsMost) × (v .parts .known .tables ≤ tablesMost) ⌝ }
+    ensures { λ r. ⌜ Copies (now (text .entry)) (now (places .entry)) (now (tplaces .entry)) v wanted r ⌝ }
+{
+    let parts = v.parts;
+    let total = v.total;
+    let known = parts.known;
+    let signals = parts.signals;
+    let tables = known.tables;
+    let name = name_of(
+        text,
+        places,
+        tplaces,
+        signals,
+        tables,
+        wanted.table,
+        wanted.number,
+    );
+    Judged {
+        no: 0,
+        place: 0,
+        signals,
+        tables,
+        listed: parts.listed,
+        cycles: total.cycles,
+        size: total.size,
+        name,
+        found: parts.found,
+        entry: parts.place,
+    }
+}
+
+// A text that 1 to 16 leave: 17, or what is wanted of it.
+fn play<'a>(
+    text: &'a [u8],
+    places: &'a [usize],
+    lists: &'a [u16],
+    tplaces: &'a [usize],
+    waves: &'a [u8],
+    book: &'a [usize],
+    rows: &'a [u16],
+    list: &'a [usize],
+    v: Verdict,
+    wanted: Wanted,
+) -> Judged
+    requires { ⌜ Found (now text) (wanted .watch) (now places) (now lists) (now tplaces) (now waves) (now book) (now rows) (now list) v ⌝ }
+    ensures { λ r. ⌜ Judges (now (text .entry)) wanted r ⌝ }
+{
+    let parts = v.parts;
+    let known = parts.known;
+    let f = plays::first_failing(
+        text,
+        places,
+        lists,
+        tplaces,
+        book,
+        rows,
+        waves,
+        list,
+        known,
+        parts.signals,
+        parts.listed,
+        parts.patterns,
+    );
+    if f.failed {
+        return refused(NOT_PLAYABLE, f.place);
+    }
+    told(text, places, tplaces, v, wanted)
+}
+
+fn judge(text: &[u8], wanted: Wanted) -> Judged
+    ensures { λ r. ⌜ Judges (now (text .entry)) wanted r ⌝ }
+{
+    let mut places = [0usize; signals::PLACES];
+    let mut lists = [0u16; signals::LISTS];
+    let mut tplaces = [0usize; timing::PLACES];
+    let mut waves = [0u8; timing::WAVES];
+    let mut book = [0usize; measures::BOOK];
+    let mut rows = [0u16; measures::ROWS];
+    let mut list = [0usize; bursts::LISTED];
+    let v = texts::decide(
+        text,
+        &mut places,
+        &mut lists,
+        &mut tplaces,
+        &mut waves,
+        &mut book,
+        &mut rows,
+        &mut list,
+        wanted.watch,
+    );
+    if v.no != 0 {
+        return refused(v.no, v.place);
+    }
+    play(
+        text,
+        &places,
+        &lists,
+        &tplaces,
+        &waves,
+        &book,
+        &rows,
+        &list,
+        v,
+        wanted,
+    )
+}
+
+// ---- Check
+
+// A waveform that no text has.
+fn nowhere() -> Watch {
+    Watch {
+        table: timing::TABLES,
+        signal: 0,
+        char: 0,
+    }
+}
+
+pub fn check(text: &[u8]) -> Checked
+    ensures { λ r. ⌜ checkedOf r ≡ checkOf (now (text .entry)) ⌝ }
+{
+    let watch = nowhere();
+    let j = judge(
+        text,
+        Wanted {
+            table: false,
+            number: 0,
+            watch,
+        },
+    );
+    if j.no != 0 {
+        return Checked::Refused(j.no, j.place);
+    }
+    Checked::Counted(j.signals, j.tables, j.listed, j.cycles, j.size)
+}
+
+// ---- Name
+
+// The name of a signal, or of a table, by its number.
+pub fn name(text: &[u8], table: bool, number: usize) -> Located
+    ensures { λ r. ⌜ locatedOf r ≡ nameOf (now (text .entry)) (whichOf table) number ⌝ }
+{
+    let watch = nowhere();
+    let j = judge(
+        text,
+        Wanted {
+            table,
+            number,
+            watch,
+        },
+    );
+    if j.no != 0 {
+        return Located::Refused(j.no, j.place);
+    }
+    let name = j.name;
+    if name.named {
+        return Located::Found(name.at, name.length);
+    }
+    Located::Refused(NO_SUCH, 0)
+}
+
+// ---- Waveform
+
+// The events of a table, signal and character, to the front of two arrays: 1 to 18, or how many there are.
+fn events(
+    text: &[u8],
+    table: usize,
+    signal: usize,
+    char: u8,
+    ts: &mut [u64],
+    ls: &mut [u8],
+) -> Outline
+    requires { ⌜ (length (now ts) ≡ entryMost) × (length (now ls) ≡ entryMost) ⌝ }
+    ensures { λ r. ⌜ Outlines (now (text .entry)) table signal char (now (ts .exit)) (now (ls .exit)) r ⌝ }
+{
+    let watch = Watch {
+        table,
+        signal,
+        char,
+    };
+    let j = judge(
+        text,
+        Wanted {
+            table: false,
+            number: 0,
+            watch,
+        },
+    );
+    if j.no != 0 {
+        return Outline {
+            no: j.no,
+            place: j.place,
+            count: 0,
+        };
+    }
+    if j.found {
+        let count = waves::read(text, j.entry, char, ts, ls);
+        return Outline {
+            no: 0,
+            place: 0,
+            count,
+        };
+    }
+    Outline {
+        no: NO_SUCH,
+        place: 0,
+        count: 0,
+    }
+}
+
+// The first n of two arrays, to the front of two others.
+fn put(ts: &[u64], ls: &[u8], n: usize, times: &mut [u64], letters: &mut [u8])
+    requires { ⌜ (n ≤ length (now ts)) × (n ≤ length (now ls)) ⌝ }
+    requires { ⌜ (n ≤ length (now times)) × (n ≤ length (now letters)) ⌝ }
+    ensures { λ _. ⌜ (now (times .exit) ≡ take n (now (ts .entry)) ++ drop n (now (times .entry))) × (now (letters .exit) ≡ take n (now (ls .entry)) ++ drop n (now (letters .entry))) ⌝ }
+{
+    let mut i = 0;
+    while i < n {
+        times[i] = ts[i];
+        letters[i] = ls[i];
+        i += 1;
+    }
+}
+
+// The waveform of a table, signal and character: its events' times in ps and their letters, to the front of both buffers.
+pub fn waveform(
+    text: &[u8],
+    table: usize,
+    signal: usize,
+    char: u8,
+    times: &mut [u64],
+    letters: &mut [u8],
+) -> Shaped
+    ensures { λ r. ⌜ Shapes (waveformOf (now (text .entry)) table signal char (now (times .entry)) (now (letters .entry))) (now (times .entry)) (now (times .exit)) (now (letters .entry)) (now (letters .exit)) r ⌝ }
+{
+    let mut ts = [0u64; waves::EVENTS];
+    let mut ls = [0u8; waves::EVENTS];
+    let e = events(text, table, signal, char, &mut ts, &mut ls);
+    if e.no != 0 {
+        return Shaped::Refused(e.no, e.place);
+    }
+    let n = e.count;
+    if (times.len() < n) | (letters.len() < n) {
+        return Shaped::Refused(NO_ROOM, 0);
+    }
+    put(&ts, &ls, n, times, letters);
+    Shaped::Events(n)
+}
+
+// ---- for callers in C or Rust: the answer is 0, with what it holds at the front of buffers, or a refusal, and all buffers are as they were
+
+// A refusal as one number: 32 times its place and its number.
+fn pack(no: u8, place: usize) -> u64
+    ensures { λ r. ⌜ r ≡ packedRefusal no place ⌝ }
+{
+    if place <= TEXT_MOST {
+        return place as u64 * 32 + no as u64;
+    }
+    no as u64
+}
+
+// Check: signals, tables, listed patterns, cycles and the size of the run. A buffer of less than five numbers is 19.
+#[no_mangle]
+pub extern "C" fn lutemeteor_check(text: &[u8], numbers: &mut [u64]) -> u64
+    ensures { λ r. ⌜ Hands 5 fiveOf (checkOf (now (text .entry))) (now (numbers .entry)) r (now (numbers .exit)) ⌝ }
+{
+    match check(text) {
+        Checked::Refused(n, p) => pack(n, p),
+        Checked::Counted(a, b, c, d, e) => {
+            if numbers.len() < 5 {
+                return pack(NO_ROOM, 0);
+            }
+            numbers[0] = a as u64;
+            numbers[1] = b as u64;
+            numbers[2] = c as u64;
+            numbers[3] = d as u64;
+            numbers[4] = e as u64;
+            0
+        }
+    }
+}
+
+// Name: place and length of a table's name, or where `table` is 0 of a signal's. A buffer of less than two numbers is 19.
+#[no_mangle]
+pub extern "C" fn lutemeteor_name(text: &[u8], table: u8, number: usize, numbers: &mut [u64]) -> u64
+    ensures { λ r. ⌜ Hands 2 twoOf (nameOf (now (text .entry)) (whichOf (not (eqb table 0))) number) (now (numbers .entry)) r (now (numbers .exit)) ⌝ }
+{
+    match name(text, table != 0, number) {
+        Located::Refused(n, p) => pack(n, p),
+        Located::Found(at, length) => {
+            if numbers.len() < 2 {
+                return pack(NO_ROOM, 0);
+            }
+            numbers[0] = at as u64;
+            numbers[1] = length as u64;
+            0
+        }
+    }
+}
+
+// Waveform: times in ps and letters, and how many events there are. A buffer without room for its part is 19.
+#[no_mangle]
+pub extern "C" fn lutemeteor_waveform(
+    text: &[u8],
+    table: usize,
+    signal: usize,
+    char: u8,
+    times: &mut [u64],
+    letters: &mut [u8],
+    count: &mut [u64],
+) -> u64
+    ensures { λ r. ⌜ Draws (waveformOf (now (text .entry)) table signal char (now (times .entry)) (now (letters .entry))) (now (times .entry)) (now (times .exit)) (now (letters .entry)) (now (letters .exit)) (now (count .entry)) r (now (count .exit)) ⌝ }
+{
+    let mut ts = [0u64; waves::EVENTS];
+    let mut ls = [0u8; waves::EVENTS];
+    let e = events(text, table, signal, char, &mut ts, &mut ls);
+    if e.no != 0 {
+        return pack(e.no, e.place);
+    }
+    if count.len() < 1 {
+        return pack(NO_ROOM, 0);
+    }
+    let n = e.count;
+    if (times.len() < n) | (letters.len() < n) {
+        return pack(NO_ROOM, 0);
+    }
+    put(&ts, &ls, n, times, letters);
+    count[0] = n as u64;
+    0
+}
