@@ -2,12 +2,12 @@
 
 mod proved;
 
-use second::{Document, Refusal, Summary};
+use second::{Refusal, Summary};
 use std::process::ExitCode;
 
-/// What the two readers say of one text, 1 to 16, where they differ.
+/// What Check of the two readers says of one text, where they differ.
 fn difference(text: &[u8], ours: &Result<Summary, Refusal>) -> Option<String> {
-    let theirs = Document::read_unplayed(text).map(|document| document.summary());
+    let theirs = second::check(text);
     if *ours == theirs {
         None
     } else {
@@ -32,13 +32,13 @@ fn main() -> ExitCode {
     let mut different = 0;
     for seed in first..first.saturating_add(count) {
         let text = second::generate::text(seed);
-        let ours = proved::sound(&text);
+        let ours = proved::check(&text);
         refused[ours.as_ref().err().map_or(0, |refusal| usize::from(refusal.number).min(19))] += 1;
         if let Some(what) = difference(&text, &ours) {
             different += 1;
             println!("seed {seed}: {what}");
         }
     }
-    println!("whole texts, 1 to 16: {count} texts, {different} different; by number (0: none) {refused:?}");
+    println!("Check: {count} texts, {different} different; by number (0: none) {refused:?}");
     ExitCode::from(u8::from(different > 0))
 }

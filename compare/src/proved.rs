@@ -3,14 +3,14 @@
 use second::{Refusal, Summary};
 
 extern "C" {
-    fn lutemeteor_sound(text: *const u8, length: usize, numbers: *mut u64, room: usize) -> u64;
+    fn lutemeteor_check(text: *const u8, length: usize, numbers: *mut u64, room: usize) -> u64;
 }
 
-/// Refusals 1 to 16, or the five numbers.
-pub fn sound(text: &[u8]) -> Result<Summary, Refusal> {
+/// Check: refusals 1 to 17, or the five numbers.
+pub fn check(text: &[u8]) -> Result<Summary, Refusal> {
     let mut numbers = [0u64; 5];
     // SAFETY: both slices live through the call, and the function is proved for any bytes and any lengths.
-    let answer = unsafe { lutemeteor_sound(text.as_ptr(), text.len(), numbers.as_mut_ptr(), numbers.len()) };
+    let answer = unsafe { lutemeteor_check(text.as_ptr(), text.len(), numbers.as_mut_ptr(), numbers.len()) };
     if answer == 0 {
         let [signals, tables, patterns, cycles, size] = numbers;
         Ok(Summary { signals, tables, patterns, cycles, size })
