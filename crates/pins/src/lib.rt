@@ -35,7 +35,7 @@ pub const NONE: usize = TABLES;
 // ---- arguments
 
 // What is left of signal s's argument, at a level.
-fn feed_at(feeds: &[usize], level: usize, s: usize) -> Feed
+pub fn feed_at(feeds: &[usize], level: usize, s: usize) -> Feed
     requires { ⌜ (length (now feeds) ≡ feedsLength) × (level < levels) × (s < signalsMost) ⌝ }
     ensures { λ r. ⌜ r ≡ feedAt (now (feeds .entry)) level s ⌝ }
 {
@@ -47,7 +47,7 @@ fn feed_at(feeds: &[usize], level: usize, s: usize) -> Feed
     }
 }
 
-fn put_feed(feeds: &mut [usize], level: usize, s: usize, f: Feed)
+pub fn put_feed(feeds: &mut [usize], level: usize, s: usize, f: Feed)
     requires { ⌜ (length (now feeds) ≡ feedsLength) × (level < levels) × (s < signalsMost) ⌝ }
     ensures { λ _. ⌜ Fills (now (feeds .entry)) level s f (now (feeds .exit)) ⌝ }
 {

@@ -29,7 +29,7 @@ use Rattle.plays.proofs.Heading.{went, head-token, vector-place, end-du
 use Rattle.plays.proofs.Stepping.{vec-playable}
 
 -- a V's head tells what it gives
-tells-given : (text book rows given args : List ℕ) (tables : ℕ) (w : What) (p : ℕ) (a : Assigns) → Tells text book rows given args tables w (vecs p a) → Given a given
+pub tells-given : (text book rows given args : List ℕ) (tables : ℕ) (w : What) (p : ℕ) (a : Assigns) → Tells text book rows given args tables w (vecs p a) → Given a given
 unfolding Tells
 tells-given text book rows given args tables Ends p a h = let z : _≡_ {A = ℕ} 0 1 = cc in absurd (omega arith)
 tells-given text book rows given args tables (Vector q) p a h = let e = h .1 in let i : h .0 ≡ a = cc in subst (λ (z : Assigns). Given z given) i (h .2)

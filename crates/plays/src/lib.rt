@@ -45,7 +45,7 @@ pub struct Failing {
 // ---- one statement
 
 // Shift { V { .. } }: the V as often as the frame says, and the `}` behind it.
-fn shift<'a>(
+pub fn shift<'a>(
     text: &'a [u8],
     c: Cursor,
     places: &'a [usize],
@@ -104,7 +104,7 @@ fn shift<'a>(
 }
 
 // Loop N { .. }: its first turn, and its second where there is one and a second turn may be open.
-fn turns<'a>(
+pub fn turns<'a>(
     text: &'a [u8],
     c: Cursor,
     places: &'a [usize],
@@ -178,7 +178,7 @@ fn turns<'a>(
 
 // Macro or Call: the body of number i, its Shift played t times, from its own first byte. A macro runs in place; from a procedure the caller's pins and
 // table come back.
-fn enter<'a>(
+pub fn enter<'a>(
     text: &'a [u8],
     places: &'a [usize],
     lists: &'a [u16],

@@ -1,0 +1,4 @@
+pub mod Going
+mod Showing
+mod Spending
+mod Placing

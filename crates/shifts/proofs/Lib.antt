@@ -1,0 +1,2 @@
+mod Skipping
+mod Turning
