@@ -1,0 +1,3 @@
+mod Owned
+pub mod Laws
+mod Samples
