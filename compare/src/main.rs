@@ -1,44 +1,54 @@
-//! `compare FIRST COUNT`: both readers on COUNT seeded texts from seed FIRST on; every difference is printed and counted.
+//! `compare FIRST COUNT`: both readers, all services, on COUNT seeded texts from seed FIRST on and on those without a seed;
+//! every difference is printed, then a line for each service.
+//! `compare one SERVICE READER FILE ..`: one call of one reader, to be measured.
 
+mod call;
+mod check;
+mod comparison;
+mod lent;
+mod name;
+mod one;
 mod proved;
+mod reader;
+#[cfg(test)]
+mod slips;
+mod special;
+mod tally;
+mod texts;
+mod waveform;
+mod window;
 
-use second::{Refusal, Summary};
 use std::process::ExitCode;
 
-/// What Check of the two readers says of one text, where they differ.
-fn difference(text: &[u8], ours: &Result<Summary, Refusal>) -> Option<String> {
-    let theirs = second::check(text);
-    if *ours == theirs {
-        None
-    } else {
-        Some(format!("proved {ours:?}, second {theirs:?}"))
-    }
-}
-
-fn number(word: Option<String>) -> Option<u64> {
-    word?.parse().ok()
-}
+const USAGE: &str = "compare FIRST COUNT
+compare one check READER FILE
+compare one name READER FILE signal|table N
+compare one waveform READER FILE TABLE SIGNAL CHARACTER
+compare one window READER FILE FIRST WANTED";
 
 fn main() -> ExitCode {
-    let mut words = std::env::args().skip(1);
-    let (first, count) = match (number(words.next()), number(words.next())) {
-        (Some(first), Some(count)) => (first, count),
-        _ => {
-            eprintln!("compare FIRST COUNT: both are numbers");
-            return ExitCode::from(2);
-        }
+    let words: Vec<String> = std::env::args().skip(1).collect();
+    let words: Vec<&str> = words.iter().map(String::as_str).collect();
+    let done = match *words {
+        ["one", service, reader, file, ref numbers @ ..] => one::one(service, reader, file, numbers),
+        [first, count] => compare(first, count),
+        _ => Err(USAGE.into()),
     };
-    let mut refused = [0u64; 20];
-    let mut different = 0;
-    for seed in first..first.saturating_add(count) {
-        let text = second::generate::text(seed);
-        let ours = proved::check(&text);
-        refused[ours.as_ref().err().map_or(0, |refusal| usize::from(refusal.number).min(19))] += 1;
-        if let Some(what) = difference(&text, &ours) {
-            different += 1;
-            println!("seed {seed}: {what}");
-        }
-    }
-    println!("Check: {count} texts, {different} different; by number (0: none) {refused:?}");
-    ExitCode::from(u8::from(different > 0))
+    done.unwrap_or_else(|line| {
+        eprintln!("{line}");
+        ExitCode::from(2)
+    })
+}
+
+fn number(word: &str) -> Result<u64, String> {
+    word.parse().map_err(|_| format!("not a number: {word}"))
+}
+
+fn compare(first: &str, count: &str) -> Result<ExitCode, String> {
+    let (first, count) = (number(first)?, number(count)?);
+    let mut comparison = comparison::Comparison::new();
+    texts::fixed(&mut comparison);
+    (first..first.saturating_add(count)).for_each(|seed| texts::seeded(seed, &mut comparison));
+    print!("{}", comparison.lines());
+    Ok(ExitCode::from(u8::from(comparison.differs())))
 }

@@ -1,20 +1,90 @@
-//! The proved reader, behind its C interface.
+//! The proved reader, behind its C interface: a slice is a pointer and a length.
 
-use second::{Refusal, Summary};
+use crate::reader::Reader;
+use second::timing::Asked;
 
 extern "C" {
     fn lutemeteor_check(text: *const u8, length: usize, numbers: *mut u64, room: usize) -> u64;
+    fn lutemeteor_name(
+        text: *const u8,
+        length: usize,
+        table: u8,
+        number: usize,
+        numbers: *mut u64,
+        numbers_room: usize,
+    ) -> u64;
+    fn lutemeteor_waveform(
+        text: *const u8,
+        length: usize,
+        table: usize,
+        signal: usize,
+        character: u8,
+        times: *mut u64,
+        times_room: usize,
+        letters: *mut u8,
+        letters_room: usize,
+        count: *mut u64,
+        count_room: usize,
+    ) -> u64;
+    fn lutemeteor_window(
+        text: *const u8,
+        length: usize,
+        first: usize,
+        wanted: usize,
+        rows: *mut u8,
+        rows_room: usize,
+        numbers: *mut u64,
+        numbers_room: usize,
+    ) -> u64;
 }
 
-/// Check: refusals 1 to 17, or the five numbers.
-pub fn check(text: &[u8]) -> Result<Summary, Refusal> {
-    let mut numbers = [0u64; 5];
-    // SAFETY: both slices live through the call, and the function is proved for any bytes and any lengths.
-    let answer = unsafe { lutemeteor_check(text.as_ptr(), text.len(), numbers.as_mut_ptr(), numbers.len()) };
-    if answer == 0 {
-        let [signals, tables, patterns, cycles, size] = numbers;
-        Ok(Summary { signals, tables, patterns, cycles, size })
-    } else {
-        Err(Refusal::new((answer % 32) as u8, (answer / 32) as usize))
+/// The proved reader with one text, which it reads at each call.
+pub struct Proved<'t>(pub &'t [u8]);
+
+// SAFETY, for every call: all slices live through it and are lent to it alone, and the function is proved for any bytes,
+// numbers and lengths.
+impl Reader for Proved<'_> {
+    fn check(&self, numbers: &mut [u64]) -> u64 {
+        unsafe { lutemeteor_check(self.0.as_ptr(), self.0.len(), numbers.as_mut_ptr(), numbers.len()) }
+    }
+
+    fn name(&self, table: u8, number: u64, numbers: &mut [u64]) -> u64 {
+        let text = self.0;
+        unsafe {
+            lutemeteor_name(text.as_ptr(), text.len(), table, number as usize, numbers.as_mut_ptr(), numbers.len())
+        }
+    }
+
+    fn waveform(&self, asked: Asked, times: &mut [u64], letters: &mut [u8], count: &mut [u64]) -> u64 {
+        unsafe {
+            lutemeteor_waveform(
+                self.0.as_ptr(),
+                self.0.len(),
+                asked.table as usize,
+                asked.signal as usize,
+                asked.character,
+                times.as_mut_ptr(),
+                times.len(),
+                letters.as_mut_ptr(),
+                letters.len(),
+                count.as_mut_ptr(),
+                count.len(),
+            )
+        }
+    }
+
+    fn window(&self, first: u64, wanted: u64, rows: &mut [u8], numbers: &mut [u64]) -> u64 {
+        unsafe {
+            lutemeteor_window(
+                self.0.as_ptr(),
+                self.0.len(),
+                first as usize,
+                wanted as usize,
+                rows.as_mut_ptr(),
+                rows.len(),
+                numbers.as_mut_ptr(),
+                numbers.len(),
+            )
+        }
     }
 }

@@ -3,12 +3,14 @@
 mod blocks;
 mod damage;
 mod large;
+mod nested;
 mod plan;
 pub mod random;
 mod statements;
 mod tokens;
 
 pub use large::{large, LARGE_KINDS};
+pub use nested::nested;
 use plan::{Plan, Slip};
 use random::Random;
 use tokens::Tokens;

@@ -4,6 +4,7 @@ pub mod bodies;
 pub mod bounds;
 pub mod data;
 pub mod document;
+pub mod edges;
 pub mod frame;
 pub mod generate;
 pub mod groups;

@@ -2,7 +2,10 @@
 
 mod common;
 use common::{build, judge, No, Ok5, SAMPLE};
-use second::{check, listing, name, token, waveform, window, Declared, Located, Refusal};
+use second::edges::edge;
+use second::generate::random::Random;
+use second::{check, listing, name, token, waveform, window, Declared, Document, Located, Refusal};
+use std::collections::BTreeSet;
 
 fn many(count: usize, item: impl Fn(usize) -> String) -> String {
     (0..count).map(item).collect()
@@ -201,4 +204,21 @@ fn listings_at_their_bound() {
     assert_eq!(listed.len(), "SIGNALS 3\nA\nB\nD\nTABLES 2\nt0\nt1\nCYCLES 1000000\n".len() + 5_000_000);
     let unlisted = cycles("Loop 1000000 { V { A = 1; } } V { }");
     assert_eq!(unlisted, b"SIGNALS 3\nA\nB\nD\nTABLES 2\nt0\nt1\nCYCLES 1000001\nNOT LISTED\n");
+}
+
+/// Drawn often enough, the edges are those of the first two, a middle and the last turn of each Loop and Shift, and all others.
+#[test]
+fn edges_of_statements() {
+    let edges = |text: &str| {
+        let document = Document::read(text.as_bytes()).expect("accepted");
+        let mut random = Random::new(1);
+        (0..2_000).map(|_| edge(&document, &mut random)).collect::<BTreeSet<u64>>()
+    };
+    let text =
+        build("pattern", "W t0; Loop 100 { V { } } Macro s { A = \\r9 1; B = \\r8 0; } Loop 1 { Loop 5 { } V { } }");
+    // The Loop is 0 to 100, the macro's Shift 100 to 108, its V up to 109, the last Loop up to 110.
+    let due = [0, 1, 2, 50, 51, 99, 100, 101, 104, 107, 108, 109, 110];
+    assert_eq!(edges(&text), BTreeSet::from(due));
+    assert_eq!(edges(&SAMPLE.replace("PatList { p; }", "PatList { }")), BTreeSet::from([0]));
+    assert_eq!(edges(&SAMPLE.replace("PatList { p; }", "PatList { p; p; }")), (0..=14).collect());
 }

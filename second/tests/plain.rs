@@ -2,8 +2,7 @@
 
 use second::data::Cursor;
 use second::document::Document;
-use second::generate::random::Random;
-use second::generate::text;
+use second::generate::{nested, text};
 use second::run::check_cycles;
 use second::statements::{Act, Range, Statement, Use};
 use second::Refusal;
@@ -200,74 +199,18 @@ fn rows_visits_and_faults_are_the_plain_ones() {
     assert!(accepted > 1_000 && failing > 50);
 }
 
-/// Few signals, many Loops, tables that lack a character here and there: made for refusal 17.
-struct Faults(Random);
-
-impl Faults {
-    fn text(&mut self) -> String {
-        let mut tables = String::new();
-        for table in 0..3 {
-            let mut pins = String::new();
-            for pin in ["A", "B", "D"] {
-                let chars = self.0.pick(&["01xy", "01xy", "01x", "10y", "01"]);
-                pins += &format!("{pin} {{ {chars} {{ '0ns' D; }} }} ");
-            }
-            tables += &format!("WaveformTable t{table} {{ Period '1ns'; Waveforms {{ {pins}}} }} ");
-        }
-        // Their depths are at most 1, 3, 4 and 8.
-        let m = self.body(1, &[]);
-        let n = self.body(1, &["Macro m { A = 01y; B = 1; }"]);
-        let q = self.body(0, &["Macro n;"]);
-        let p = self.body(3, &["Macro n;", "Call q;", "Macro m { A = 10; B = 0; }", "Macro m { A = x001; B = y; }"]);
-        format!(
-            "STIL 1.0; Signals {{ A In; B In; D In; }} SignalGroups {{ ab = 'A+B'; all = 'D+ab'; }} Timing {{ {tables} }}
-            MacroDefs {{ m {{ {m} Shift {{ V {{ A = #; }} }} V {{ ab = ##; }} }} n {{ {n} }} }} Procedures {{ q {{ {q} }} }}
-            PatternBurst b {{ PatList {{ p; p; }} }} PatternExec {{ PatternBurst b; }} Pattern p {{ {} {p} }}",
-            self.0.pick(&["W t0;", "W t1;", "W t2;", "W t0;", "W t1;", "W t2;", ""])
-        )
-    }
-
-    fn body(&mut self, level: usize, uses: &[&str]) -> String {
-        let mut text = String::new();
-        for _ in 0..self.0.between(1, 4) {
-            text += &match self.0.below(12) {
-                0 => format!("W t{}; ", self.0.below(3)),
-                1 | 2 => format!("C {{ {} }} ", self.data()),
-                3..=5 if level > 0 => format!("Loop {} {{ {} }} ", self.0.between(1, 3), self.body(level - 1, uses)),
-                6 | 7 if !uses.is_empty() => format!("{} ", self.0.pick(uses)),
-                _ => format!("V {{ {} }} ", self.data()),
-            };
-        }
-        text
-    }
-
-    fn data(&mut self) -> String {
-        let mut character = || ["0", "1", "0", "1", "0", "1", "0", "1", "x", "y"][self.0.below(10)];
-        let (one, two, three) = (character(), character(), character());
-        match self.0.below(5) {
-            0 => format!("A = {one};"),
-            1 => format!("D = {one};"),
-            2 => format!("ab = {one}{two};"),
-            3 => format!("all = {one}{two}{three};"),
-            _ => String::new(),
-        }
-    }
-}
-
 #[test]
 fn faults_in_nested_loops_are_the_plain_ones() {
-    let mut faults = Faults(Random::new(17));
     let (mut accepted, mut failing) = (0, 0);
     for seed in 0..20_000 {
-        let text = faults.text();
-        let document =
-            Document::read_unplayed(text.as_bytes()).unwrap_or_else(|refusal| panic!("{refusal:?} in {text}"));
+        let text = nested(seed);
+        let document = Document::read_unplayed(&text).unwrap_or_else(|refusal| panic!("text {seed}: {refusal:?}"));
         if document.extent.cycles > MOST_CYCLES {
             continue;
         }
         let plain = Plain::run(&document);
         let due = plain.fault.map_or(Ok(()), |place| Err(Refusal { number: 17, place }));
-        assert_eq!(check_cycles(&document), due, "text {seed}: {text}");
+        assert_eq!(check_cycles(&document), due, "text {seed}");
         accepted += u32::from(due.is_ok());
         failing += u32::from(due.is_err());
     }

@@ -79,7 +79,7 @@ pub vec-playable : {n more level p : ℕ} {args : Args} {a : Assigns} {r : Body}
 unfolding outside
 vec-playable {n} {more} {level} {p} {args} {a} {r} h f = record { below = tidy-below h; fed = inside-parts (marked a) (outside r) (supplied args) (f .fed) .0 }
 
-set-playable : {n : ℕ} {args : Args} {a : Assigns} → TidyBelow n (assigned a) → marked a ≡ [] → Playable n a args
+pub set-playable : {n : ℕ} {args : Args} {a : Assigns} → TidyBelow n (assigned a) → marked a ≡ [] → Playable n a args
 unfolding inside
 set-playable h e = record { below = tidy-below h; fed = rw e }
 
@@ -92,10 +92,10 @@ once p a s = refl
 
 module _ {g : Ground} {c r : Cursor} {more level table : ℕ} {x : Arrays} {E : Env} {b : Body} {us : Toks} {s : State} (st : Standing g (stream (g .text) c) more level table x E b us s)
     (on : alive c ≡ true) (given args : List ℕ) (what : What) (m : Makes (g .text) c (freeHead E) r (Tells (g .text) (g .book) (g .rows) given args (g .known .tables) what)) where
-  abbrev Meets : What → Type 0
+  abbrev pub Meets : What → Type 0
   Meets w = Met (g .text) E (g .signals) b us c r (Tells (g .text) (g .book) (g .rows) given args (g .known .tables) w)
 
-  meets : (w : What) → what ≡ w → Meets w
+  pub meets : (w : What) → what ≡ w → Meets w
   meets w q = subst Meets q (met (st .holding .tidy) (st .holds) on m)
 
   module _ {y : Arrays} {k t : ℕ} where

@@ -1,11 +1,11 @@
 -- The services' answers, from what is told of any text.
 use Prim.Native.Nat.{ℕ}
-use mathlib.Core.Path.{_≡_, refl, sym, ap, _∙_}
-use mathlib.Core.Bool.{Bool, true, false}
+use mathlib.Core.Path.{_≡_, sym, ap, _∙_}
+use mathlib.Core.Bool.{true, false}
 use mathlib.Core.List.{List}
 use Rattle.meaning.specs.Refusals.{noSuch}
 use Rattle.meaning.specs.Meaning.{Answer, given, refused, answering, Meaning, meaning}
-use Rattle.meaning.specs.Services.{counts, check, nameAt, namesOf, nameOf}
+use Rattle.meaning.specs.Services.{check, nameOf}
 use Rattle.stil.specs.Answers.{whichOf}
 use Rattle.stil.specs.Judged.{namedOf, countsIn, Tells, Judges}
 use Rattle.stil.specs.declared.Wanted.{Wanted}

@@ -1,11 +1,10 @@
 -- An answer as a caller in C has it: one number, and the answer's numbers at the front of a buffer.
 use Prim.Native.Nat.{ℕ, _+_, _*_, _≤_, _<_}
-use native.Mathlib.Omega.{arith}
-use mathlib.Core.Path.{_≡_, refl, sym, ap, _∙_}
+use mathlib.Core.Path.{_≡_, refl, ap, _∙_}
 use mathlib.Core.Bool.{Bool, true, false, _||_}
-use mathlib.Core.List.{List, [], _∷_, _++_}
-use lib.Dec.{leb, ltb}
-use lib.ListN.{length, set, drop}
+use mathlib.Core.List.{List, [], _∷_}
+use lib.Dec.{ltb}
+use lib.ListN.{length, set}
 use borrow.Author.Tests.{le-leb, lt-leb}
 use Rattle.tokens.specs.Refusals.{textMost}
 use Rattle.meaning.specs.Refusals.{noRoom}
@@ -15,7 +14,7 @@ use Rattle.data.specs.Filled.{over}
 use Rattle.data.proofs.Over.{over-set}
 use Rattle.texts.specs.Told.{packedRefusal}
 use Rattle.stil.specs.Answers.{afterwards}
-use Rattle.stil.specs.Interface.{withRoom, packed, fronted, Hands, oneOf, Draws}
+use Rattle.stil.specs.Interface.{withRoom, packed, fronted, Hands, Draws}
 use Rattle.stil.specs.Waveforms.{Outlines}
 use Rattle.stil.specs.declared.Outline.{Outline}
 use Rattle.stil.proofs.Fronts.{over-all}

@@ -1,7 +1,11 @@
 mod Naming
+mod Found
 mod Judging
+mod Viewing
 mod Answering
 mod Outlining
 mod Fronts
 mod Shaping
 mod Handing
+mod Opening
+pub mod Theorems

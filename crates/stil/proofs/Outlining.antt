@@ -1,8 +1,8 @@
 -- The events of a waveform by its numbers: refused as the text is, none there, or read again where they stand.
-use Prim.Native.Nat.{ℕ, _≤_}
+use Prim.Native.Nat.{ℕ}
 use native.Mathlib.Omega.{arith}
-use mathlib.Core.Path.{_≡_, refl, sym, ap, _∙_}
-use mathlib.Core.Bool.{Bool, true, false, _&&_}
+use mathlib.Core.Path.{_≡_, refl, sym, _∙_}
+use mathlib.Core.Bool.{true, false}
 use mathlib.Core.Option.{Option, none, some}
 use mathlib.Core.List.{List}
 use lib.ListN.{length}
@@ -10,16 +10,14 @@ use Rattle.meaning.specs.Refusals.{noSuch}
 use Rattle.meaning.specs.Bounds.{entryMost}
 use Rattle.meaning.specs.Timing.{Event}
 use Rattle.meaning.specs.Meaning.{Answer, given, refused, answering, tableAt, Meaning, meaning}
-use Rattle.meaning.specs.Services.{waveOf, eventsOut, Waveform, waveform}
-use Rattle.timing.specs.Watch.{Watched}
+use Rattle.meaning.specs.Services.{waveOf, eventsOut, waveform}
 use Rattle.waves.specs.Waves.{EntryAt, Reads}
 use Rattle.waves.proofs.Entries.{entry-found}
 use Rattle.waves.proofs.Fronts.{times-front, letters-front}
 use Rattle.stil.specs.Judged.{Judges}
-use Rattle.stil.specs.Waveforms.{eventsOf, Shows, Outlines}
+use Rattle.stil.specs.Waveforms.{eventsOf, Outlines}
 use Rattle.stil.specs.declared.Wanted.{Wanted}
 use Rattle.stil.specs.declared.Judged.{Judged}
-use Rattle.stil.specs.declared.Outline.{Outline}
 use Rattle.stil.proofs.Answering.{answer-refused, answer-given, tells}
 
 -- the service is the events, and then 19

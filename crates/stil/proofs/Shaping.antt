@@ -1,6 +1,5 @@
 -- The waveform service from the events: refused with them, without room for them, or the events at the front of both buffers.
 use Prim.Native.Nat.{ℕ, _≤_}
-use native.Mathlib.Omega.{arith}
 use mathlib.Core.Path.{_≡_, refl, sym, ap, _∙_}
 use mathlib.Core.Bool.{Bool, true, false, not, _&&_, _||_}
 use mathlib.Core.List.{List, _++_}
@@ -11,12 +10,11 @@ use Rattle.meaning.specs.Refusals.{noRoom}
 use Rattle.meaning.specs.Bounds.{entryMost}
 use Rattle.meaning.specs.Timing.{Event}
 use Rattle.meaning.specs.Meaning.{Answer, given, refused, answering}
-use Rattle.meaning.specs.Services.{timesOf, lettersOf, eventsOut, Waveform, waveform}
+use Rattle.meaning.specs.Services.{eventsOut, Waveform, waveform}
 use Rattle.assigns.proofs.Table.{or-false}
-use Rattle.stil.specs.Answers.{shapedOf, afterwards}
-use Rattle.stil.specs.Waveforms.{eventsOf, Shows, Outlines, Shapes}
+use Rattle.stil.specs.Answers.{afterwards}
+use Rattle.stil.specs.Waveforms.{Shows, Outlines, Shapes}
 use Rattle.stil.specs.declared.Outline.{Outline}
-use Rattle.stil.specs.declared.Shaped.{Shaped}
 use Rattle.stil.specs.declared.Shaped.the-variants.{Events, Refused}
 use Rattle.stil.proofs.Outlining.{waveform-events}
 

@@ -3,11 +3,13 @@ use Prim.Native.Nat.{ℕ}
 use mathlib.Core.Bool.{Bool, true, false}
 use mathlib.Core.List.{List}
 use Rattle.meaning.specs.Meaning.{Answer, given, refused}
-use Rattle.meaning.specs.Services.{Counts, Which, signal, table, Waveform}
+use Rattle.meaning.specs.Services.{Counts, Which, signal, table, Window, Waveform}
 use Rattle.stil.specs.declared.Checked.{Checked}
 use Rattle.stil.specs.declared.Checked.the-variants.{Counted, Refused as CheckRefused}
 use Rattle.stil.specs.declared.Located.{Located}
 use Rattle.stil.specs.declared.Located.the-variants.{Found, Refused as NameRefused}
+use Rattle.stil.specs.declared.Shown.{Shown}
+use Rattle.stil.specs.declared.Shown.the-variants.{Rows, Refused as WindowRefused}
 use Rattle.stil.specs.declared.Shaped.{Shaped}
 use Rattle.stil.specs.declared.Shaped.the-variants.{Events, Refused as WaveformRefused}
 
@@ -24,6 +26,11 @@ whichOf false = signal
 abbrev pub locatedOf : Located → Answer (ℕ × ℕ)
 locatedOf (Found at length) = given (at, length)
 locatedOf (NameRefused n p) = refused n p
+
+-- Window, with the buffer as it is afterwards
+abbrev pub shownOf : Shown → List ℕ → Answer Window
+shownOf (Rows n v) buffer = given (record { count = n; visits = v; buffer = buffer })
+shownOf (WindowRefused n p) buffer = refused n p
 
 -- Waveform, with the two buffers as they are afterwards
 abbrev pub shapedOf : Shaped → List ℕ → List ℕ → Answer Waveform

@@ -7,7 +7,7 @@ use lib.ListN.{length, drop}
 use lib.Dec.{leb}
 use Rattle.meaning.specs.Refusals.{noRoom}
 use Rattle.meaning.specs.Meaning.{Answer, given, refused, answering}
-use Rattle.meaning.specs.Services.{Counts, Waveform}
+use Rattle.meaning.specs.Services.{Counts, Window, Waveform}
 use Rattle.texts.specs.Told.{packedRefusal}
 use Rattle.stil.specs.Answers.{afterwards}
 
@@ -36,6 +36,14 @@ fiveOf x = x .signals ∷ x .tables ∷ x .listed ∷ x .cycles ∷ x .size ∷ 
 -- Name: place and length
 abbrev pub twoOf : ℕ × ℕ → List ℕ
 twoOf x = x .0 ∷ x .1 ∷ []
+
+-- Window: how many rows, and the visits; and the rows
+abbrev pub shownTwo : Window → List ℕ
+shownTwo x = x .count ∷ x .visits ∷ []
+
+pub record Opens (a : Answer Window) (rows rows′ numbers : List ℕ) (r : ℕ) (numbers′ : List ℕ) : Type 0 where
+  pub counted : Hands 2 shownTwo a numbers r numbers′
+  pub rows-are : rows′ ≡ afterwards (λ w. w .buffer) (withRoom 2 numbers a) rows
 
 -- Waveform: how many events; and their times and letters
 abbrev pub oneOf : Waveform → List ℕ

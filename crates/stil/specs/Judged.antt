@@ -8,7 +8,6 @@ use Rattle.meaning.specs.Refusals.{noSuch}
 use Rattle.meaning.specs.Meaning.{Answer, given, refused, tableAt, firsts, Meaning, meaning}
 use Rattle.meaning.specs.Services.{Counts, counts, nameAt, namesOf}
 use Rattle.words.specs.Table.{names}
-use Rattle.timing.specs.declared.Watch.{Watch}
 use Rattle.timing.specs.Watch.{Watched}
 use Rattle.texts.specs.declared.Verdict.{Verdict}
 use Rattle.stil.specs.declared.Wanted.{Wanted}

@@ -1,20 +1,23 @@
-// The services that need no rows: Check, Name and Waveform, for any text, any numbers and any buffers.
+// The services: Check, Name, Window and Waveform, for any text, any numbers and any buffers.
 ghost use mathlib.Core.Path.{_≡_};
 ghost use mathlib.Core.List.{_∷_, [], _++_};
 ghost use mathlib.Core.Bool.{false, not};
-ghost use Prim.Native.Nat.{_≤_};
+ghost use Prim.Native.Nat.{_-_, _≤_, min};
 ghost use lib.ListN.{length, take, drop};
 ghost use lib.Dec.{eqb};
 ghost use Rattle.meaning.specs.Bounds.{signalsMost, tablesMost, entryMost};
 ghost use Rattle.meaning.specs.Meaning.{firsts};
-ghost use Rattle.meaning.specs.Services.{check as checkOf, nameAt, nameOf, waveform as waveformOf};
+ghost use Rattle.meaning.specs.Services.{check as checkOf, nameAt, nameOf, window as windowOf, waveform as waveformOf};
 ghost use Rattle.words.specs.Table.{names};
 ghost use Rattle.texts.specs.Tables.{Found};
 ghost use Rattle.texts.specs.Told.{packedRefusal};
 ghost use Rattle.stil.specs.Answers.{checkedOf, whichOf, locatedOf};
 ghost use Rattle.stil.specs.Judged.{namedOf, numbered, Judges, Copies};
+ghost use Rattle.stil.specs.Found.{SomeFound, Plays};
+ghost use Rattle.stil.specs.Views.{spared, Views};
 ghost use Rattle.stil.specs.Waveforms.{Outlines, Shapes};
-ghost use Rattle.stil.specs.Interface.{Hands, fiveOf, twoOf, Draws};
+ghost use Rattle.stil.specs.Interface.{Hands, fiveOf, twoOf, Opens, Draws};
+use plays::Failing;
 use texts::Verdict;
 use timing::Watch;
 
@@ -73,6 +76,12 @@ pub enum Checked {
 pub enum Located {
     // the name's place in the text, and its length
     Found(usize, usize),
+    Refused(u8, usize),
+}
+
+pub enum Shown {
+    // how many rows were written, and the visits
+    Rows(usize, usize),
     Refused(u8, usize),
 }
 
@@ -187,6 +196,39 @@ fn told<'a>(
     }
 }
 
+// The first cycle of a text's run that fails, where 1 to 16 leave the text.
+fn failing<'a>(
+    text: &'a [u8],
+    places: &'a [usize],
+    lists: &'a [u16],
+    tplaces: &'a [usize],
+    waves: &'a [u8],
+    book: &'a [usize],
+    rows: &'a [u16],
+    list: &'a [usize],
+    v: Verdict,
+) -> Failing
+    requires { ⌜ SomeFound (now text) (now places) (now lists) (now tplaces) (now waves) (now book) (now rows) (now list) v ⌝ }
+    ensures { λ r. ⌜ Plays (now (text .entry)) (now (places .entry)) (now (lists .entry)) (now (tplaces .entry)) (now (waves .entry)) (now (book .entry)) (now (rows .entry)) (now (list .entry)) v r ⌝ }
+{
+    let parts = v.parts;
+    let known = parts.known;
+    plays::first_failing(
+        text,
+        places,
+        lists,
+        tplaces,
+        book,
+        rows,
+        waves,
+        list,
+        known,
+        parts.signals,
+        parts.listed,
+        parts.patterns,
+    )
+}
+
 // A text that 1 to 16 leave: 17, or what is wanted of it.
 fn play<'a>(
     text: &'a [u8],
@@ -203,22 +245,7 @@ fn play<'a>(
     requires { ⌜ Found (now text) (wanted .watch) (now places) (now lists) (now tplaces) (now waves) (now book) (now rows) (now list) v ⌝ }
     ensures { λ r. ⌜ Judges (now (text .entry)) wanted r ⌝ }
 {
-    let parts = v.parts;
-    let known = parts.known;
-    let f = plays::first_failing(
-        text,
-        places,
-        lists,
-        tplaces,
-        book,
-        rows,
-        waves,
-        list,
-        known,
-        parts.signals,
-        parts.listed,
-        parts.patterns,
-    );
+    let f = failing(text, places, lists, tplaces, waves, book, rows, list, v);
     if f.failed {
         return refused(NOT_PLAYABLE, f.place);
     }
@@ -315,6 +342,121 @@ pub fn name(text: &[u8], table: bool, number: usize) -> Located
         return Located::Found(name.at, name.length);
     }
     Located::Refused(NO_SUCH, 0)
+}
+
+// ---- Window
+
+// min(wanted, cycles left).
+fn rows_due(cycles: usize, first: usize, wanted: usize) -> usize
+    ensures { λ r. ⌜ r ≡ min wanted (cycles - first) ⌝ }
+{
+    if cycles <= first {
+        return 0;
+    }
+    let left = cycles - first;
+    if wanted < left {
+        return wanted;
+    }
+    left
+}
+
+// A text that 1 to 16 leave: 17, 19, or the rows. There is room for what else is handed out (`spare`), or that is 19 too.
+fn view<'a>(
+    text: &'a [u8],
+    places: &'a [usize],
+    lists: &'a [u16],
+    tplaces: &'a [usize],
+    waves: &'a [u8],
+    book: &'a [usize],
+    rows: &'a [u16],
+    list: &'a [usize],
+    v: Verdict,
+    first: usize,
+    wanted: usize,
+    spare: bool,
+    buffer: &mut [u8],
+) -> Shown
+    requires { ⌜ SomeFound (now text) (now places) (now lists) (now tplaces) (now waves) (now book) (now rows) (now list) v ⌝ }
+    ensures { λ r. ⌜ Views (spared spare (windowOf (now (text .entry)) first wanted (now (buffer .entry)))) (now (buffer .entry)) (now (buffer .exit)) r ⌝ }
+{
+    let parts = v.parts;
+    let total = v.total;
+    let f = failing(text, places, lists, tplaces, waves, book, rows, list, v);
+    if f.failed {
+        return Shown::Refused(NOT_PLAYABLE, f.place);
+    }
+    let due = rows_due(total.cycles, first, wanted);
+    if !spare | (buffer.len() < due * (parts.signals + 2)) {
+        return Shown::Refused(NO_ROOM, 0);
+    }
+    let visits = windows::window(
+        text,
+        places,
+        lists,
+        tplaces,
+        book,
+        rows,
+        waves,
+        list,
+        parts.known,
+        parts.signals,
+        parts.listed,
+        parts.patterns,
+        total.size,
+        first,
+        due,
+        buffer,
+    );
+    Shown::Rows(due, visits)
+}
+
+// Any text.
+fn viewed(text: &[u8], first: usize, wanted: usize, spare: bool, buffer: &mut [u8]) -> Shown
+    ensures { λ r. ⌜ Views (spared spare (windowOf (now (text .entry)) first wanted (now (buffer .entry)))) (now (buffer .entry)) (now (buffer .exit)) r ⌝ }
+{
+    let mut places = [0usize; signals::PLACES];
+    let mut lists = [0u16; signals::LISTS];
+    let mut tplaces = [0usize; timing::PLACES];
+    let mut waves = [0u8; timing::WAVES];
+    let mut book = [0usize; measures::BOOK];
+    let mut rows = [0u16; measures::ROWS];
+    let mut list = [0usize; bursts::LISTED];
+    let v = texts::decide(
+        text,
+        &mut places,
+        &mut lists,
+        &mut tplaces,
+        &mut waves,
+        &mut book,
+        &mut rows,
+        &mut list,
+        nowhere(),
+    );
+    if v.no != 0 {
+        return Shown::Refused(v.no, v.place);
+    }
+    view(
+        text,
+        &places,
+        &lists,
+        &tplaces,
+        &waves,
+        &book,
+        &rows,
+        &list,
+        v,
+        first,
+        wanted,
+        spare,
+        buffer,
+    )
+}
+
+// The rows of so many cycles from the cycle `first` on, as far as there are so many, to the front of the buffer.
+pub fn window(text: &[u8], first: usize, wanted: usize, buffer: &mut [u8]) -> Shown
+    ensures { λ r. ⌜ Views (windowOf (now (text .entry)) first wanted (now (buffer .entry))) (now (buffer .entry)) (now (buffer .exit)) r ⌝ }
+{
+    viewed(text, first, wanted, true, buffer)
 }
 
 // ---- Waveform
@@ -456,6 +598,27 @@ pub extern "C" fn lutemeteor_name(text: &[u8], table: u8, number: usize, numbers
     }
 }
 
+// Window: the rows, and how many there are, and the visits. A buffer without room for its part is 19.
+#[no_mangle]
+pub extern "C" fn lutemeteor_window(
+    text: &[u8],
+    first: usize,
+    wanted: usize,
+    buffer: &mut [u8],
+    numbers: &mut [u64],
+) -> u64
+    ensures { λ r. ⌜ Opens (windowOf (now (text .entry)) first wanted (now (buffer .entry))) (now (buffer .entry)) (now (buffer .exit)) (now (numbers .entry)) r (now (numbers .exit)) ⌝ }
+{
+    match viewed(text, first, wanted, 2 <= numbers.len(), buffer) {
+        Shown::Refused(n, p) => pack(n, p),
+        Shown::Rows(count, visits) => {
+            numbers[0] = count as u64;
+            numbers[1] = visits as u64;
+            0
+        }
+    }
+}
+
 // Waveform: times in ps and letters, and how many events there are. A buffer without room for its part is 19.
 #[no_mangle]
 pub extern "C" fn lutemeteor_waveform(
@@ -478,11 +641,11 @@ pub extern "C" fn lutemeteor_waveform(
     if count.len() < 1 {
         return pack(NO_ROOM, 0);
     }
-    let n = e.count;
-    if (times.len() < n) | (letters.len() < n) {
+    let due = e.count;
+    if (times.len() < due) | (letters.len() < due) {
         return pack(NO_ROOM, 0);
     }
-    put(&ts, &ls, n, times, letters);
-    count[0] = n as u64;
+    put(&ts, &ls, due, times, letters);
+    count[0] = due as u64;
     0
 }

@@ -1,6 +1,6 @@
-//! Writes generated texts: `generate SEED`, `generate DIR FIRST COUNT`, `generate big KIND`.
+//! Writes generated texts: `generate SEED`, `generate nested SEED`, `generate DIR FIRST COUNT`, `generate big KIND`.
 
-use second::generate::{large, text, LARGE_KINDS};
+use second::generate::{large, nested, text, LARGE_KINDS};
 use std::io::{self, Write};
 use std::path::Path;
 use std::process::ExitCode;
@@ -22,12 +22,17 @@ fn run(words: &[&str]) -> Result<(), String> {
         ["big", kind] => {
             let made =
                 large(kind).ok_or_else(|| format!("no such kind: {kind}; there are {}", LARGE_KINDS.join(" ")))?;
-            io::stdout().write_all(&made).map_err(|error| error.to_string())
+            write_out(&made)
         }
-        [seed] => io::stdout().write_all(&text(number(seed)?)).map_err(|error| error.to_string()),
+        ["nested", seed] => write_out(&nested(number(seed)?)),
+        [seed] => write_out(&text(number(seed)?)),
         [dir, first, count] => write_files(Path::new(dir), number(first)?, number(count)?),
-        _ => Err("generate SEED | generate DIR FIRST COUNT | generate big KIND".into()),
+        _ => Err("generate SEED | generate nested SEED | generate DIR FIRST COUNT | generate big KIND".into()),
     }
+}
+
+fn write_out(made: &[u8]) -> Result<(), String> {
+    io::stdout().write_all(made).map_err(|error| error.to_string())
 }
 
 fn number(word: &str) -> Result<u64, String> {

@@ -1,4 +1,5 @@
 -- `name_at` meets its contract: the name of that number is there, or there are fewer.
+use native.Mathlib.Omega.{arith}
 use borrow.Author.Needs.{needs}
 use Rattle.stil.proofs.Naming.{name-there, name-missing}
 use Rattle.stil.proofs.name_at.Statement.{statement}
@@ -8,7 +9,9 @@ nameless-requires : tie.Need-nameless-requires
 nameless-requires c κs = search needs
 
 returns : tie.Need-returns
-returns c = rw (c .nameless .ensures) (name-missing _ _ (c .before .if1 .taken))
+returns c =
+    let args = c .before .before .before .before .args in
+    rw (c .nameless .ensures) (name-missing _ _ {count = args .count} {n = args .number} (omega arith))
 
 name-bytes-requires : tie.Need-name-bytes-requires
 name-bytes-requires c κs = search needs
@@ -20,7 +23,9 @@ number-at-requires : tie.Need-number-at-requires
 number-at-requires c κs = search needs
 
 returns-2 : tie.Need-returns-2
-returns-2 c = name-there _ _ (c .before .before .if1 .left) (c .number-at .ensures) (c .before .name-bytes .ensures)
+returns-2 c =
+    let args = c .before .before .before .before .before .args in
+    name-there _ _ {count = args .count} {n = args .number} (omega arith) (c .number-at .ensures) (c .before .name-bytes .ensures)
 
 pub name-at-spec : {M : Type 1} → statement M
 name-at-spec =

@@ -1,0 +1,97 @@
+//! Both readers with one text after another, and what was seen of each service.
+
+use crate::check::Check;
+use crate::name::Name;
+use crate::proved::Proved;
+use crate::reader::{Reader, Second};
+use crate::tally::Tally;
+use crate::waveform::Waveform;
+use crate::{call::outcome, tally::say, window::Window};
+use second::generate::random::Random;
+
+/// Calls of one text, besides one of Check; a refused text has one of each.
+#[derive(Clone, Copy)]
+pub struct Often {
+    pub names: usize,
+    pub waveforms: usize,
+    pub windows: usize,
+    /// Up to this many cycles, windows are asked for at each of them.
+    pub every: u64,
+}
+
+pub struct Comparison {
+    pub check: Tally,
+    name: Tally,
+    waveform: Tally,
+    window: Tally,
+}
+
+impl Comparison {
+    pub fn new() -> Comparison {
+        Comparison {
+            check: Tally::new("Check"),
+            name: Tally::new("Name"),
+            waveform: Tally::new("Waveform"),
+            window: Tally::new("Window"),
+        }
+    }
+
+    pub fn text(&mut self, named: &str, text: &[u8], often: Often, random: &mut Random) {
+        self.readers(named, &Proved(text), &Second::new(text), often, random);
+    }
+
+    pub fn readers(&mut self, named: &str, proved: &dyn Reader, second: &Second, often: Often, random: &mut Random) {
+        self.check.compare(named, &Check { room: Check::DUE }, proved, second);
+        let document = second.document().ok();
+        let times = |wanted: usize| if document.is_some() { wanted } else { wanted.min(1) };
+        if random.percent(20) {
+            self.check.compare(named, &Check::draw(random), proved, second);
+        }
+        for _ in 0..times(often.names) {
+            self.name.compare(named, &Name::draw(document, random), proved, second);
+        }
+        for _ in 0..times(often.waveforms) {
+            self.waveform.compare(named, &Waveform::draw(document, random), proved, second);
+        }
+        for _ in 0..times(often.windows) {
+            self.window.compare(named, &Window::draw(document, random), proved, second);
+        }
+        if let Some(document) = document.filter(|document| document.extent.cycles <= often.every) {
+            let calls = Window::every(document);
+            calls.iter().for_each(|call| self.window.compare(named, call, proved, second));
+        }
+    }
+
+    /// All waveforms of one text, and all that it lacks.
+    pub fn waveforms(&mut self, named: &str, text: &[u8]) {
+        let (proved, second) = (Proved(text), Second::new(text));
+        let calls = second.document().map_or(Vec::new(), Waveform::every);
+        calls.iter().for_each(|call| self.waveform.compare(named, call, &proved, &second));
+    }
+
+    /// Windows of which rows and visits are known: first, wanted, rows, visits.
+    pub fn windows(&mut self, named: &str, text: &[u8], due: &[(u64, u64, &str, u64)]) {
+        for &(first, wanted, rows, visits) in due {
+            let call = Window { first, wanted, rows: rows.len(), room: Window::DUE };
+            let (answer, mut lent) = outcome(&call, &Proved(text));
+            let left = lent.slices();
+            let numbers = [rows.lines().count() as u64, visits];
+            if answer != 0 || left.bytes != rows.as_bytes() || left.numbers != numbers {
+                self.window.report(&format!("{named}: {call:?}: proved {}, not {numbers:?} {rows:?}", say(answer)));
+            }
+        }
+    }
+
+    fn tallies(&self) -> Vec<&Tally> {
+        vec![&self.check, &self.name, &self.waveform, &self.window]
+    }
+
+    pub fn differs(&self) -> bool {
+        self.tallies().iter().any(|tally| tally.differs())
+    }
+
+    /// A line for each service.
+    pub fn lines(&self) -> String {
+        self.tallies().iter().map(|tally| tally.line() + "\n").collect()
+    }
+}

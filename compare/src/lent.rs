@@ -1,0 +1,62 @@
+//! What is lent to a call, with a margin around each slice, so that a write outside of it shows too.
+
+/// Items before and behind each slice.
+const MARGIN: usize = 16;
+
+/// The lengths of the slices that a call lends.
+#[derive(Clone, Copy, Debug, Default)]
+pub struct Rooms {
+    pub numbers: usize,
+    pub times: usize,
+    pub bytes: usize,
+}
+
+#[derive(Clone, PartialEq, Eq)]
+pub struct Lent {
+    numbers: Vec<u64>,
+    times: Vec<u64>,
+    bytes: Vec<u8>,
+}
+
+/// The slices alone, without their margins.
+pub struct Slices<'l> {
+    pub numbers: &'l mut [u64],
+    pub times: &'l mut [u64],
+    pub bytes: &'l mut [u8],
+}
+
+impl Lent {
+    /// Filled with what is in no answer: numbers and bytes in the upper half.
+    pub fn new(rooms: Rooms) -> Lent {
+        let fill = |room: usize| (0..room + 2 * MARGIN).map(|at| u64::MAX - at as u64);
+        Lent {
+            numbers: fill(rooms.numbers).collect(),
+            times: fill(rooms.times).collect(),
+            bytes: fill(rooms.bytes).map(|fill| fill as u8 | 128).collect(),
+        }
+    }
+
+    pub fn slices(&mut self) -> Slices<'_> {
+        Slices { numbers: within(&mut self.numbers), times: within(&mut self.times), bytes: within(&mut self.bytes) }
+    }
+
+    /// The first item at which the two are not the same, and what each holds there.
+    pub fn difference(&self, other: &Lent) -> Option<String> {
+        differ("number", &self.numbers, &other.numbers)
+            .or_else(|| differ("time", &self.times, &other.times))
+            .or_else(|| differ("byte", &self.bytes, &other.bytes))
+    }
+}
+
+fn within<T>(all: &mut [T]) -> &mut [T] {
+    let end = all.len() - MARGIN;
+    &mut all[MARGIN..end]
+}
+
+/// An item of the margin before the slice has a negative number.
+fn differ<T: PartialEq + std::fmt::Display>(what: &str, ours: &[T], theirs: &[T]) -> Option<String> {
+    let at = ours.iter().zip(theirs).position(|(ours, theirs)| ours != theirs)?;
+    let number = at as i64 - MARGIN as i64;
+    let room = ours.len() - 2 * MARGIN;
+    Some(format!("{what} {number} of {room}: {} against {}", ours[at], theirs[at]))
+}

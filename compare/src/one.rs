@@ -1,0 +1,68 @@
+//! Exactly one call of one reader, in a function of its own, so that what it costs can be counted.
+
+use crate::call::Call;
+use crate::check::Check;
+use crate::lent::{Lent, Slices};
+use crate::name::Name;
+use crate::number;
+use crate::proved::Proved;
+use crate::reader::Second;
+use crate::tally::say;
+use crate::waveform::Waveform;
+use second::timing::Asked;
+use std::process::ExitCode;
+
+/// What is counted. The second reader reads the text here too, as the proved one does at each call.
+#[inline(never)]
+#[no_mangle]
+fn measured_call(of_second: bool, text: &[u8], call: &dyn Call, lent: Slices) -> u64 {
+    if of_second {
+        call.make(&Second::new(text), lent)
+    } else {
+        call.make(&Proved(text), lent)
+    }
+}
+
+pub fn one(service: &str, reader: &str, file: &str, numbers: &[&str]) -> Result<ExitCode, String> {
+    let of_second = match reader {
+        "proved" => false,
+        "second" => true,
+        _ => return Err(format!("neither proved nor second: {reader}")),
+    };
+    let text = std::fs::read(file).map_err(|error| format!("{file}: {error}"))?;
+    let call = call_of(service, &text, numbers)?;
+    let mut lent = Lent::new(call.rooms());
+    let answer = measured_call(of_second, &text, &*call, lent.slices());
+    println!("{}; numbers {:?}", say(answer), lent.slices().numbers);
+    Ok(ExitCode::SUCCESS)
+}
+
+fn call_of(service: &str, text: &[u8], numbers: &[&str]) -> Result<Box<dyn Call>, String> {
+    match (service, numbers) {
+        ("check", []) => Ok(Box::new(Check { room: Check::DUE })),
+        ("name", [declared, which]) => {
+            let table = match *declared {
+                "signal" => 0,
+                "table" => 1,
+                _ => return Err(format!("neither signal nor table: {declared}")),
+            };
+            Ok(Box::new(Name { table, number: number(which)?, room: Name::DUE }))
+        }
+        ("waveform", [table, signal, character]) => {
+            let character = *character.as_bytes().first().unwrap_or(&0);
+            let asked = Asked { table: number(table)?, signal: number(signal)?, character };
+            Ok(Box::new(Waveform::with_room(asked)))
+        }
+        ("window", [first, wanted]) => window(text, number(first)?, number(wanted)?),
+        _ => Err(format!("no such service, or not its numbers: {service} {}", numbers.join(" "))),
+    }
+}
+
+fn window(text: &[u8], first: u64, wanted: u64) -> Result<Box<dyn Call>, String> {
+    use crate::window::Window;
+    let due = second::check(text).map_or(0, |sum| wanted.min(sum.cycles.saturating_sub(first)) * (sum.signals + 2));
+    if due > 1 << 30 {
+        return Err(format!("too many rows to be lent room for: {wanted}"));
+    }
+    Ok(Box::new(Window { first, wanted, rows: due as usize, room: Window::DUE }))
+}

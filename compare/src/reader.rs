@@ -1,0 +1,80 @@
+//! What a reader answers of one text, in the form of the C interface; and the second reader in that form.
+
+use second::refusal::{Answer, BUFFER_TOO_SHORT, NO_SUCH_ITEM};
+use second::services::Summary;
+use second::timing::Asked;
+use second::{Declared, Document, Refusal};
+
+/// Each service gives 0 for an answer, else 32 times the place plus the number of the refusal; then every lent slice is as it was.
+pub trait Reader {
+    /// Five numbers: signals, tables, listed patterns, cycles, size.
+    fn check(&self, numbers: &mut [u64]) -> u64;
+    /// Two numbers: place and length.
+    fn name(&self, table: u8, number: u64, numbers: &mut [u64]) -> u64;
+    /// One number: the count of events.
+    fn waveform(&self, asked: Asked, times: &mut [u64], letters: &mut [u8], count: &mut [u64]) -> u64;
+    /// Two numbers: rows and visits.
+    fn window(&self, first: u64, wanted: u64, rows: &mut [u8], numbers: &mut [u64]) -> u64;
+}
+
+/// The second reader, which reads its text once.
+pub struct Second<'t>(Answer<Document<'t>>);
+
+impl<'t> Second<'t> {
+    pub fn new(text: &'t [u8]) -> Second<'t> {
+        Second(Document::read(text))
+    }
+
+    pub fn document(&self) -> Answer<&Document<'t>> {
+        self.0.as_ref().map_err(|&refusal| refusal)
+    }
+}
+
+pub fn told(answer: Answer<()>) -> u64 {
+    answer.map_or_else(|refusal| 32 * refusal.place + u64::from(refusal.number), |()| 0)
+}
+
+fn too_short() -> Refusal {
+    Refusal::new(BUFFER_TOO_SHORT, 0)
+}
+
+/// Writes the numbers to the front; the rest stays.
+fn write_front<const N: usize>(room: &mut [u64], numbers: [u64; N]) -> Answer<()> {
+    room.get_mut(..N).ok_or_else(too_short)?.copy_from_slice(&numbers);
+    Ok(())
+}
+
+impl Reader for Second<'_> {
+    fn check(&self, numbers: &mut [u64]) -> u64 {
+        told(self.document().and_then(|document| {
+            let Summary { signals, tables, patterns, cycles, size } = document.summary();
+            write_front(numbers, [signals, tables, patterns, cycles, size])
+        }))
+    }
+
+    fn name(&self, table: u8, number: u64, numbers: &mut [u64]) -> u64 {
+        let declared = if table == 0 { Declared::Signal } else { Declared::Table };
+        told(self.document().and_then(|document| {
+            let number = usize::try_from(number).unwrap_or(usize::MAX);
+            let name = document.name(declared, number).ok_or_else(|| Refusal::new(NO_SUCH_ITEM, 0))?;
+            write_front(numbers, [name.place.into(), name.length.into()])
+        }))
+    }
+
+    fn waveform(&self, asked: Asked, times: &mut [u64], letters: &mut [u8], count: &mut [u64]) -> u64 {
+        told(self.document().and_then(|document| match count.first_mut() {
+            Some(count) => document.waveform(asked, times, letters).map(|events| *count = events),
+            // Every waveform has an event, so without any room the answer is 18 or 19 as well.
+            None => document.waveform(asked, &mut [], &mut []).map(|_| ()),
+        }))
+    }
+
+    fn window(&self, first: u64, wanted: u64, rows: &mut [u8], numbers: &mut [u64]) -> u64 {
+        told(self.document().and_then(|document| {
+            let numbers = numbers.get_mut(..2).ok_or_else(too_short)?;
+            let window = document.window(first, wanted, rows)?;
+            numbers.copy_from_slice(&[window.rows, window.visits]);
+            Ok(())
+        }))
+    }
+}

@@ -1,0 +1,64 @@
+//! What was seen of one service: calls, differences, and how often each number was the answer.
+
+use crate::call::{outcome, Call};
+use crate::lent::Lent;
+use crate::reader::Reader;
+use second::refusal::BUFFER_TOO_SHORT;
+
+const NUMBERS: usize = BUFFER_TOO_SHORT as usize + 1;
+
+pub struct Tally {
+    service: &'static str,
+    calls: u64,
+    different: u64,
+    /// By the second reader's number; 0 for an answer.
+    by_number: [u64; NUMBERS],
+}
+
+impl Tally {
+    pub fn new(service: &'static str) -> Tally {
+        Tally { service, calls: 0, different: 0, by_number: [0; NUMBERS] }
+    }
+
+    /// Makes one call of both readers; all that is left by it must be the same.
+    pub fn compare(&mut self, named: &str, call: &dyn Call, proved: &dyn Reader, second: &dyn Reader) {
+        let (ours, theirs) = (outcome(call, proved), outcome(call, second));
+        self.calls += 1;
+        self.by_number[(theirs.0 % 32) as usize] += 1;
+        if let Some(what) = difference(call, &ours, &theirs) {
+            self.report(&format!("{named}: {call:?}: {what}"));
+        }
+    }
+
+    pub fn report(&mut self, line: &str) {
+        self.different += 1;
+        println!("{line}");
+    }
+
+    pub fn differs(&self) -> bool {
+        self.different > 0
+    }
+
+    pub fn line(&self) -> String {
+        let Tally { service, calls, different, by_number } = self;
+        format!("{service}: {calls} calls, {different} different; by number (0: an answer) {by_number:?}")
+    }
+}
+
+fn difference(call: &dyn Call, ours: &(u64, Lent), theirs: &(u64, Lent)) -> Option<String> {
+    if ours.0 != theirs.0 {
+        return Some(format!("proved {}, second {}", say(ours.0), say(theirs.0)));
+    }
+    if let Some(what) = ours.1.difference(&theirs.1) {
+        return Some(format!("both {}; proved against second, {what}", say(ours.0)));
+    }
+    let kept = ours.0 == 0 || ours.1 == Lent::new(call.rooms());
+    (!kept).then(|| format!("both {}, and both wrote", say(ours.0)))
+}
+
+pub fn say(answer: u64) -> String {
+    match answer {
+        0 => "an answer".into(),
+        refused => format!("{} at {}", refused % 32, refused / 32),
+    }
+}

@@ -1,0 +1,55 @@
+//! The texts both readers are given: seeded ones, and in each run the special, the hurt and the large ones.
+
+use crate::comparison::{Comparison, Often};
+use crate::special;
+use second::bounds::MAX_TEXT;
+use second::generate::random::Random;
+use second::generate::{large, nested, text, LARGE_KINDS};
+
+const SEEDED: Often = Often { names: 2, waveforms: 3, windows: 4, every: 0 };
+const SPECIAL: Often = Often { names: 100, waveforms: 200, windows: 200, every: 200 };
+const LARGE: Often = Often { names: 0, waveforms: 0, windows: 1, every: 0 };
+
+/// One seed in so many has a text made for 17 as well, and one in so many a window at each cycle.
+const NESTED: u64 = 2;
+const EVERY: u64 = 64;
+
+pub fn seeded(seed: u64, comparison: &mut Comparison) {
+    let mut random = Random::new(!seed);
+    let every = if seed % EVERY == 0 { 200 } else { 0 };
+    comparison.text(&format!("seed {seed}"), &text(seed), Often { every, ..SEEDED }, &mut random);
+    if seed % NESTED == 0 {
+        comparison.text(&format!("nested {seed}"), &nested(seed), Often { every, ..SEEDED }, &mut random);
+    }
+}
+
+/// All texts without a seed.
+pub fn fixed(comparison: &mut Comparison) {
+    let mut random = Random::new(0);
+    special::compare(comparison, SPECIAL, &mut random);
+    hurt(comparison, &mut random);
+    for kind in LARGE_KINDS {
+        if let Some(text) = large(kind) {
+            comparison.text(&format!("big {kind}"), &text, LARGE, &mut random);
+        }
+    }
+}
+
+/// Document 01's text, cut at each byte, without it, and with another in its place; and texts of one byte or a single kind.
+fn hurt(comparison: &mut Comparison, random: &mut Random) {
+    let whole = special::SAMPLE.as_bytes();
+    for at in 0..whole.len() {
+        let (before, after) = (&whole[..at], &whole[at + 1..]);
+        comparison.text(&format!("cut at {at}"), before, SEEDED, random);
+        comparison.text(&format!("without {at}"), &[before, after].concat(), SEEDED, random);
+        for &byte in b"\0\x80 ;{}'#/*\\.0AV" {
+            comparison.text(&format!("{byte} at {at}"), &[before, &[byte], after].concat(), SEEDED, random);
+        }
+    }
+    for byte in 0..=255 {
+        comparison.text(&format!("byte {byte}"), &[byte], SEEDED, random);
+    }
+    for (byte, length) in [(b' ', MAX_TEXT), (b' ', MAX_TEXT + 1), (b'S', MAX_TEXT), (b'/', MAX_TEXT), (0, MAX_TEXT)] {
+        comparison.text(&format!("{length} times byte {byte}"), &vec![byte; length], SEEDED, random);
+    }
+}

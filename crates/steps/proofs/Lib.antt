@@ -1,0 +1,11 @@
+pub mod Passing
+pub mod Alone
+pub mod Parting
+pub mod Shifting
+pub mod Turning
+pub mod Looping
+pub mod Repeating
+pub mod Stepping
+pub mod Inside
+pub mod Going
+pub mod Entering

@@ -1,0 +1,183 @@
+-- What follows from the promises of the services, whatever keeps them: the visits, windows laid end to end, one answer only, and nothing written where a call is refused.
+use Prim.Native.Nat.{ℕ, _+_, _*_, _≤_}
+use native.Mathlib.Nat.{zero-add, add-zero}
+use native.Mathlib.Omega.{arith}
+use mathlib.Core.Path.{_≡_, refl, sym, ap, ap₂, _∙_}
+use mathlib.Core.Bool.{Bool, true, false}
+use mathlib.Core.List.{List, [], _∷_, _++_, append-nil, append-cancel-left}
+use lib.Dec.{leb}
+use lib.ListN.{length, take, drop, replicate, length-replicate}
+use lib.Seq.{take-add}
+use Rattle.meaning.specs.Refusals.{noRoom}
+use Rattle.meaning.specs.Run.{Cycle, size, visits, cyclesOf}
+use Rattle.meaning.specs.Meaning.{Answer, given, refused, answering, Meaning, meaning}
+use Rattle.meaning.specs.Services.{Counts, rows, Window, rowsDue, widthOf, windowOf, window, Waveform}
+use Rattle.meaning.specs.Windows.{Lent, rowsGiven, joined, Roomy, reach}
+use Rattle.meaning.proofs.Accepted.{visits-bounded}
+use Rattle.meaning.proofs.Windows.{rows-++, windows-join}
+use Rattle.stil.specs.Answers.{checkedOf, locatedOf, shownOf, shapedOf, afterwards}
+use Rattle.stil.specs.Calls.{Call, lent, Kept, fronts}
+use Rattle.stil.specs.Interface.{withRoom, packed, Hands, Opens, Draws}
+use Rattle.stil.specs.Views.{Views}
+use Rattle.stil.specs.Waveforms.{Shapes}
+use Rattle.stil.specs.declared.Checked.{Checked}
+use Rattle.stil.specs.declared.Checked.the-variants.{Counted, Refused as CheckRefused}
+use Rattle.stil.specs.declared.Located.{Located}
+use Rattle.stil.specs.declared.Located.the-variants.{Found, Refused as NameRefused}
+use Rattle.stil.specs.declared.Shown.{Shown}
+use Rattle.stil.specs.declared.Shown.the-variants.{Rows, Refused as WindowRefused}
+use Rattle.stil.specs.declared.Shaped.{Shaped}
+use Rattle.stil.specs.declared.Shaped.the-variants.{Events, Refused as WaveformRefused}
+
+-- ---- Window: as many rows as are due, and the visits, at most ten times the run's size
+
+pub record Costs (m : Meaning) (first wanted n v : ℕ) : Type 0 where
+  pub rows-are : n ≡ rowsDue m first wanted
+  pub visits-are : v ≡ visits 0 (m .run) first
+  pub visits-few : v ≤ 10 * size (m .run)
+
+-- where something is given there was room
+room-given : {A : Type 0} (enough : Bool) (x y : A) → _≡_ {A = Answer A} (given x) (elim enough [ false ↦ refused noRoom 0 | true ↦ given y ]) → x ≡ y
+room-given true x y e = cc
+room-given false x y e = let z : _≡_ {A = ℕ} 0 1 = cc in absurd (omega arith)
+
+pub visits-told : (text : List ℕ) (m : Meaning) → meaning text ≡ given m → (first wanted : ℕ) {before after : List ℕ} {n v : ℕ}
+    → Views (window text first wanted before) before after (Rows n v) → Costs m first wanted n v
+unfolding window answering windowOf
+visits-told text m e first wanted {before} {after} {n} {v} h =
+    let w = room-given (leb (rowsDue m first wanted * widthOf m) (length before)) (record { count = n; visits = v; buffer = after }) _
+    (h .answers ∙ ap (λ (a : Answer Meaning). answering a (λ m. windowOf m first wanted before)) e) in
+    let k : v ≡ visits 0 (m .run) first = ap (λ (w : Window). w .visits) w in
+    record { rows-are = ap (λ (w : Window). w .count) w; visits-are = k; visits-few = rw k (visits-bounded text m e first) }
+
+-- ---- windows laid end to end give the run's rows from their first cycle on, as far as they reach
+
+-- what is in the buffers is what the definition gives
+fronts-joined : (text : List ℕ) (width first : ℕ) (cs : List Call) → Kept text first cs → fronts width cs ≡ joined text width first (lent cs)
+unfolding fronts Kept joined lent
+fronts-joined text width first [] h = refl
+fronts-joined text width first (c ∷ cs) h =
+    ap₂ (λ (a b : List ℕ). a ++ b) (ap (rowsGiven width) (h .0 .answers)) (fronts-joined text width (first + c .wanted) cs (h .1))
+
+-- what stands behind the same front
+behind : (g a b c : List ℕ) → g ++ [] ≡ a → g ++ b ≡ a ++ c → b ≡ c
+behind g a b c p q = append-cancel-left g b c (q ∙ ap (λ (l : List ℕ). l ++ c) (sym p ∙ append-nil g))
+
+module _ (text : List ℕ) (m : Meaning) (e : meaning text ≡ given m) where
+  abbrev all : List Cycle
+  all = cyclesOf (length (m .signals)) (m .run)
+
+  -- from any cycle: as if one window more had gone before, from cycle 0
+  joined-from : (first : ℕ) (ls : List Lent) → Roomy m first ls → joined text (widthOf m) first ls ≡ rows (take (reach ls) (drop first all))
+  unfolding joined Roomy reach
+  joined-from first ls h =
+      let bytes = rowsDue m 0 first * widthOf m in
+      let before : Lent = record { wanted = first; buffer = replicate bytes 0 } in
+      let room : bytes ≤ length (before .buffer) = omega (arith, length-replicate {A = ℕ} bytes 0) in
+      let front = rowsGiven (widthOf m) (window text 0 first (before .buffer)) in
+      let one : front ++ [] ≡ rows (take (first + 0) all) = windows-join m text e (before ∷ []) (room, tt) in
+      let more : front ++ joined text (widthOf m) (0 + first) ls ≡ rows (take (first + reach ls) all) =
+      windows-join m text e (before ∷ ls) (room, rw zero-add h) in
+      behind front (rows (take first all)) _ _ (one ∙ ap (λ (k : ℕ). rows (take k all)) (add-zero first))
+      (ap (λ (k : ℕ). front ++ joined text (widthOf m) k ls) (sym (zero-add first))
+      ∙ more
+      ∙ ap rows (take-add first (reach ls) all)
+      ∙ rows-++ (take first all) (take (reach ls) (drop first all)))
+
+  -- THE LAW
+  pub calls-join : (first : ℕ) (cs : List Call) → Kept text first cs → Roomy m first (lent cs)
+      → fronts (widthOf m) cs ≡ rows (take (reach (lent cs)) (drop first all))
+  calls-join first cs h room = fronts-joined text (widthOf m) first cs h ∙ joined-from first (lent cs) room
+
+-- ---- one answer only, and one content of each buffer afterwards
+
+pub check-determined : {a : Answer Counts} (r s : Checked) → checkedOf r ≡ a → checkedOf s ≡ a → r ≡ s
+check-determined {a} r s h k = told r h ∙ sym (told s k)
+  where
+    back : Answer Counts → Checked
+    back (given x) = Counted (x .signals) (x .tables) (x .listed) (x .cycles) (x .size)
+    back (refused n p) = CheckRefused n p
+
+    told : (r : Checked) → checkedOf r ≡ a → r ≡ back a
+    told (Counted s t l c z) e = ap back e
+    told (CheckRefused n p) e = ap back e
+
+pub name-determined : {a : Answer (ℕ × ℕ)} (r s : Located) → locatedOf r ≡ a → locatedOf s ≡ a → r ≡ s
+name-determined {a} r s h k = told r h ∙ sym (told s k)
+  where
+    back : Answer (ℕ × ℕ) → Located
+    back (given x) = Found (x .0) (x .1)
+    back (refused n p) = NameRefused n p
+
+    told : (r : Located) → locatedOf r ≡ a → r ≡ back a
+    told (Found at length) e = ap back e
+    told (NameRefused n p) e = ap back e
+
+pub window-determined : {a : Answer Window} {before x y : List ℕ} {r s : Shown} → Views a before x r → Views a before y s → (r ≡ s) × (x ≡ y)
+window-determined {a} {before} {x} {y} {r} {s} h k = (told r x (h .answers) ∙ sym (told s y (k .answers)), h .buffer-is ∙ sym (k .buffer-is))
+  where
+    back : Answer Window → Shown
+    back (given w) = Rows (w .count) (w .visits)
+    back (refused n p) = WindowRefused n p
+
+    told : (r : Shown) (after : List ℕ) → shownOf r after ≡ a → r ≡ back a
+    told (Rows n v) after e = ap back e
+    told (WindowRefused n p) after e = ap back e
+
+pub waveform-determined : {a : Answer Waveform} {times t u letters l k : List ℕ} {r s : Shaped}
+    → Shapes a times t letters l r → Shapes a times u letters k s → (r ≡ s) × (t ≡ u) × (l ≡ k)
+waveform-determined {a} {times} {t} {u} {letters} {l} {k} {r} {s} h j =
+    (told r t l (h .answers) ∙ sym (told s u k (j .answers)), h .times-are ∙ sym (j .times-are), h .letters-are ∙ sym (j .letters-are))
+  where
+    back : Answer Waveform → Shaped
+    back (given w) = Events (w .count)
+    back (refused n p) = WaveformRefused n p
+
+    told : (r : Shaped) (times letters : List ℕ) → shapedOf r times letters ≡ a → r ≡ back a
+    told (Events n) times letters e = ap back e
+    told (WaveformRefused n p) times letters e = ap back e
+
+-- for callers in C: Check and Name; Window; Waveform
+pub hands-determined : {A : Type 0} {k : ℕ} {f : A → List ℕ} {a : Answer A} {before x y : List ℕ} {r s : ℕ}
+    → Hands k f a before r x → Hands k f a before s y → (r ≡ s) × (x ≡ y)
+hands-determined h j = (h .number ∙ sym (j .number), h .buffer ∙ sym (j .buffer))
+
+pub opens-determined : {a : Answer Window} {rows x y numbers n m : List ℕ} {r s : ℕ}
+    → Opens a rows x numbers r n → Opens a rows y numbers s m → ((r ≡ s) × (n ≡ m)) × (x ≡ y)
+opens-determined h j = (hands-determined (h .counted) (j .counted), h .rows-are ∙ sym (j .rows-are))
+
+pub draws-determined : {a : Answer Waveform} {times t u letters l k count n m : List ℕ} {r s : ℕ}
+    → Draws a times t letters l count r n → Draws a times u letters k count s m → ((r ≡ s) × (n ≡ m)) × (t ≡ u) × (l ≡ k)
+draws-determined h j = (hands-determined (h .counted) (j .counted), h .times-are ∙ sym (j .times-are), h .letters-are ∙ sym (j .letters-are))
+
+-- ---- a refused call leaves every buffer as it was
+
+pub window-untouched : {a : Answer Window} {before after : List ℕ} {n p : ℕ} → Views a before after (WindowRefused n p) → after ≡ before
+unfolding afterwards
+window-untouched {a} {before} h = h .buffer-is ∙ ap (λ (x : Answer Window). afterwards (λ w. w .buffer) x before) (sym (h .answers))
+
+pub waveform-untouched : {a : Answer Waveform} {times t letters l : List ℕ} {n p : ℕ} → Shapes a times t letters l (WaveformRefused n p) → (t ≡ times) × (l ≡ letters)
+unfolding afterwards
+waveform-untouched {a} {times} {t} {letters} h = (
+  h .times-are ∙ ap (λ (x : Answer Waveform). afterwards (λ w. w .times) x times) (sym (h .answers)),
+  h .letters-are ∙ ap (λ (x : Answer Waveform). afterwards (λ w. w .letters) x letters) (sym (h .answers)),
+)
+
+-- for callers in C: any number but 0 is a refusal
+not-given : {A : Type 0} (a : Answer A) (f : A → List ℕ) (before : List ℕ) → (packed a ≡ 0 → ⊥) → afterwards f a before ≡ before
+unfolding packed afterwards
+not-given (given x) f before h = absurd (h refl)
+not-given (refused n p) f before h = refl
+
+pub hands-untouched : {A : Type 0} {k : ℕ} {f : A → List ℕ} {a : Answer A} {before after : List ℕ} {r : ℕ} → Hands k f a before r after → (r ≡ 0 → ⊥) → after ≡ before
+hands-untouched {A} {k} {f} {a} {before} h z = h .buffer ∙ not-given (withRoom k before a) _ before (λ e. z (h .number ∙ e))
+
+pub opens-untouched : {a : Answer Window} {rows x numbers n : List ℕ} {r : ℕ} → Opens a rows x numbers r n → (r ≡ 0 → ⊥) → (n ≡ numbers) × (x ≡ rows)
+opens-untouched {a} {rows} {x} {numbers} h z =
+    (hands-untouched (h .counted) z, h .rows-are ∙ not-given (withRoom 2 numbers a) _ rows (λ e. z (h .counted .number ∙ e)))
+
+pub draws-untouched : {a : Answer Waveform} {times t letters l count n : List ℕ} {r : ℕ} → Draws a times t letters l count r n → (r ≡ 0 → ⊥)
+    → (n ≡ count) × (t ≡ times) × (l ≡ letters)
+draws-untouched {a} {times} {t} {letters} {l} {count} h z =
+    let off = not-given (withRoom 1 count a) in
+    (hands-untouched (h .counted) z, h .times-are ∙ off _ times (λ e. z (h .counted .number ∙ e)), h .letters-are ∙ off _ letters (λ e. z (h .counted .number ∙ e)))

@@ -1,0 +1,17 @@
+-- A text that 1 to 16 leave, with the tables that hold it; and 17.
+use Prim.Native.Nat.{ℕ}
+use mathlib.Core.List.{List}
+use Rattle.timing.specs.declared.Watch.{Watch}
+use Rattle.texts.specs.declared.Verdict.{Verdict}
+use Rattle.texts.specs.Tables.{Found}
+use Rattle.plays.specs.Run.{Decides}
+use Rattle.plays.specs.declared.Failing.{Failing}
+
+-- whatever waveform was watched for
+pub record SomeFound (text places lists tplaces waves book rows list : List ℕ) (v : Verdict) : Type 0 where
+  pub watch : Watch
+  pub found : Found text watch places lists tplaces waves book rows list v
+
+-- the first cycle of its run that fails, or that there is none
+pub record Plays (text places lists tplaces waves book rows list : List ℕ) (v : Verdict) (r : Failing) : Type 0 where
+  pub decides : {w : Watch} (f : Found text w places lists tplaces waves book rows list v) → Decides (f .it .read) (f .it .run) r
