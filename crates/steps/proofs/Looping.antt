@@ -1,6 +1,6 @@
 -- A Loop: passed with all its turns; or entered in the turn that has the cycle looked for, in the state that one turn leaves.
 use Prim.Native.Nat.{ℕ, zero, suc, _+_, _*_, _-_, _/_, _%_, _≤_, _<_}
-use native.Mathlib.Nat.{one-mul, mul-le-mul-right, mod-lt, mod-eq-of-lt, mod-eq-sub-div-mul, div-mul-le-self}
+use native.Mathlib.Nat.{one-mul, le-mul-of-pos-right, mul-le-mul-right, mod-lt, mod-eq-of-lt, mod-eq-sub-div-mul, div-mul-le-self}
 use native.Mathlib.Omega.{arith}
 use mathlib.Core.Path.{_≡_, refl, sym, ap, _∙_, subst}
 use mathlib.Core.Bool.{false}
@@ -147,6 +147,9 @@ module _ {g : Ground} {ts us : Toks} {more level table t n k : ℕ} {x : Arrays}
 
   pub turn-among : w .pass / k < n
   turn-among = turn-below n k (w .pass) (turning .within)
+
+  pub few-turns : n ≤ cyclesMost
+  few-turns = omega (arith, le-mul-of-pos-right n some-in-turn, turning .few-cycles)
 
   pub pass-within : past w (w .pass / k * k) .pass < k
   pass-within = omega (arith, mod-lt (w .pass) some-in-turn, mod-eq-sub-div-mul (w .pass) k)

@@ -211,11 +211,13 @@ fn turns<'a>(
         }
         j += 1;
     }
+    // the `}` of its turns is not that of the body around it
+    let ends = false;
     Walked {
         cursor,
         table: chosen,
         walk: w,
-        ends: false,
+        ends,
     }
 }
 

@@ -18,7 +18,7 @@ use Rattle.plays.proofs.Keeping.{kept-none, kept-then, kept-others, kept-args, 
 use Rattle.plays.proofs.Stepping.{in-loop, in-shift, called, one-vector, loop-standing, shift-standing, called-using}
 use Rattle.plays.proofs.Entering.{kind-macro, kind-procedure, kept-below, kept-returned, sized-left, macro-standing, procedure-standing, part-within, part-begins}
 use Rattle.rows.proofs.Going.{going-spent, going-past}
-use Rattle.steps.proofs.Looping.{some-in-turn, turn-among}
+use Rattle.steps.proofs.Looping.{some-in-turn, turn-among, few-turns}
 use Rattle.steps.proofs.Repeating.{Begun, begun-first, begun-later, Repeats, repeats-begin, turned-all, turn-stood, turn-long, turned-over, turned-once, loop-stood, repeat-small, repeat-few, repeat-pays, repeat-played, repeat-passed, repeat-stood, repeat-entered}
 use Rattle.steps.proofs.Stepping.{vector-pays, assigns-pays, chooses-pays, ends-step, vector-step, assigns-step, chooses-step}
 use Rattle.steps.proofs.Inside.{inside-ready, inside-step, loop-plain, shift-ready, shift-step, called-measured, called-use, called-step}
@@ -1031,7 +1031,7 @@ turns-begun : (t : ℕ) (c : turns-lts.Joined1 (turns-calls t) (turns-at t) turn
     (c .if1 .chosen) (arrays (c .if1 .values) (c .if1 .feeds) (c .if1 .args))
 turns-begun t c =
     ⊎-elim
-    (λ w. rw (w .12, w .13, w .14, w .15) (begun-later (w .0 .taken) (rw (w .1 .ensures) at (w .5 .ensures))))
+    (λ w. rw (w .12, w .13, w .14, w .15) (begun-later (omega (arith, w .0 .taken)) (rw (w .1 .ensures) at (w .5 .ensures))))
     (λ w. rw (w .1, w .2, w .3, w .4) (begun-first (omega (arith, w .0 .left))))
     (c .if1 .came)
 
@@ -1095,9 +1095,9 @@ turns-over-requires t c κs = search needs
 
 turns-add-j : (t : ℕ) → turns-lts.Need-add-j (turns-calls t) (turns-at t) turns.Post turns-Inv-loop turns-μ-loop
 turns-add-j t c =
-    let fits′ = c .before .before .before .before .before .before .before .before .before .before .before .before .before .before .before .before .before .before .before .before .before .before .before .before .before .before .before .before .before .before .before .before .before .before .fits in
+    let pre′ = c .before .before .before .before .before .before .before .before .before .before .before .before .before .before .before .before .before .before .before .before .before .before .before .before .before .before .before .before .before .before .before .before .before .before .pre in
     let loop-test′ = c .before .before .before .before .before .before .before .before .before .before .before .before .before .before .before .before .before .loop-test in
-    omega (arith, loop-test′ .taken, fits′ .n)
+    omega (arith, loop-test′ .taken, few-turns (pre′ .1 .2 .turning))
 
 turns-loop-less : (t : ℕ) → turns-lts.Need-loop-less (turns-calls t) (turns-at t) turns.Post turns-Inv-loop turns-μ-loop
 turns-loop-less t c =
