@@ -1,5 +1,5 @@
 mod Naming
-mod Found
+pub mod Found
 mod Judging
 mod Viewing
 mod Answering

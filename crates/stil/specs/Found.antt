@@ -1,11 +1,16 @@
 -- A text that 1 to 16 leave, with the tables that hold it; and 17.
 use Prim.Native.Nat.{ℕ}
 use mathlib.Core.List.{List}
+use Rattle.meaning.specs.Bounds.{tablesMost}
 use Rattle.timing.specs.declared.Watch.{Watch}
 use Rattle.texts.specs.declared.Verdict.{Verdict}
 use Rattle.texts.specs.Tables.{Found}
 use Rattle.plays.specs.Run.{Decides}
 use Rattle.plays.specs.declared.Failing.{Failing}
+
+-- a waveform that no text has
+abbrev pub noWaveform : Watch
+noWaveform = record { table = tablesMost; signal = 0; char = 0 }
 
 -- whatever waveform was watched for
 pub record SomeFound (text places lists tplaces waves book rows list : List ℕ) (v : Verdict) : Type 0 where

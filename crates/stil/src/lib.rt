@@ -13,7 +13,7 @@ ghost use Rattle.texts.specs.Tables.{Found};
 ghost use Rattle.texts.specs.Told.{packedRefusal};
 ghost use Rattle.stil.specs.Answers.{checkedOf, whichOf, locatedOf};
 ghost use Rattle.stil.specs.Judged.{namedOf, numbered, Judges, Copies};
-ghost use Rattle.stil.specs.Found.{SomeFound, Plays};
+ghost use Rattle.stil.specs.Found.{noWaveform, SomeFound, Plays};
 ghost use Rattle.stil.specs.Views.{spared, Views};
 ghost use Rattle.stil.specs.Waveforms.{Outlines, Shapes};
 ghost use Rattle.stil.specs.Interface.{Hands, fiveOf, twoOf, Opens, Draws};
@@ -197,7 +197,7 @@ fn told<'a>(
 }
 
 // The first cycle of a text's run that fails, where 1 to 16 leave the text.
-fn failing<'a>(
+pub fn failing<'a>(
     text: &'a [u8],
     places: &'a [usize],
     lists: &'a [u16],
@@ -293,7 +293,9 @@ fn judge(text: &[u8], wanted: Wanted) -> Judged
 // ---- Check
 
 // A waveform that no text has.
-fn nowhere() -> Watch {
+pub fn nowhere() -> Watch
+    ensures { λ r. ⌜ r ≡ noWaveform ⌝ }
+{
     Watch {
         table: timing::TABLES,
         signal: 0,

@@ -1,0 +1,4 @@
+mod Names
+mod Beginning
+mod Going
+pub mod Whole

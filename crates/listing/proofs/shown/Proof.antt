@@ -1,0 +1,55 @@
+-- `shown` meets its contract: 17, or the sections of the text that the tables hold.
+use Rattle.stil.proofs.Found.{meaning-failing, meaning-given}
+use Rattle.listing.proofs.Beginning.{begins-refused, begins-sections, signals-short, tables-short}
+use native.Mathlib.Omega.{arith}
+use borrow.Author.Needs.{needs}
+use Rattle.listing.proofs.shown.Statement.{statement}
+use Rattle.listing.proofs.shown.Tie as tie
+
+failing-requires : tie.Need-failing-requires
+failing-requires c κs = search needs
+
+refused-requires : tie.Need-refused-requires
+refused-requires c κs = search needs
+
+same-length : tie.Need-same-length
+same-length c = search needs
+
+returns : tie.Need-returns
+returns c =
+    let called = c .before .before in
+    let test = called .before .before in
+    let played = test .before in
+    let start = played .before .before .before .before .before .before .before .before .before .before in
+    let found = start .pre .1 .found in
+    begins-refused (start .pre .0) (meaning-failing found (played .failing .ensures) (test .if1 .taken)) (called .refused .ensures)
+
+sections-requires : tie.Need-sections-requires
+sections-requires c κs =
+    let pre = c .before .before .before .before .before .before .before .before .before .before .before .before .before .before .before .pre in
+    let found = pre .1 .found in
+    (pre .0, found .tabled .few-signals, omega (arith, found .tabled .held), signals-short found, tables-short found)
+
+same-length-2 : tie.Need-same-length-2
+same-length-2 c = search needs
+
+returns-2 : tie.Need-returns-2
+returns-2 c =
+    let called = c .before .before in
+    let test = called .before .before .before .before .before in
+    let played = test .before in
+    let start = played .before .before .before .before .before .before .before .before .before .before in
+    let found = start .pre .1 .found in
+    begins-sections found (start .pre .0) (meaning-given found (played .failing .ensures) (test .if1 .left)) (called .sections .ensures)
+
+pub shown-spec : {M : Type 1} → statement M
+shown-spec =
+    tie.close
+    (tie.spec
+    failing-requires
+    refused-requires
+    same-length
+    returns
+    sections-requires
+    same-length-2
+    returns-2)

@@ -1,0 +1,129 @@
+// A text's listing, page by page: the sections, then the rows.
+ghost use mathlib.Core.Path.{_≡_};
+ghost use Prim.Native.Nat.{_≤_};
+ghost use lib.ListN.{length};
+ghost use Rattle.stil.specs.Found.{SomeFound};
+ghost use Rattle.sections.specs.Listing.{frontMost};
+ghost use Rattle.listing.specs.Pages.{fitting as fittingOf, Begins, GoesOn};
+use sections::Page;
+use texts::Verdict;
+
+const NOT_PLAYABLE: u8 = 17;
+
+// ---- the first page
+
+// A text that 1 to 16 leave: 17, or its sections.
+fn shown<'a>(
+    text: &'a [u8],
+    places: &'a [usize],
+    lists: &'a [u16],
+    tplaces: &'a [usize],
+    waves: &'a [u8],
+    book: &'a [usize],
+    rows: &'a [u16],
+    list: &'a [usize],
+    v: Verdict,
+    page: &mut [u8],
+) -> Page
+    requires { ⌜ (frontMost ≤ length (now page)) × SomeFound (now text) (now places) (now lists) (now tplaces) (now waves) (now book) (now rows) (now list) v ⌝ }
+    ensures { λ r. ⌜ Begins (now (text .entry)) (now (page .entry)) r (now (page .exit)) ⌝ }
+{
+    let f = stil::failing(text, places, lists, tplaces, waves, book, rows, list, v);
+    if f.failed {
+        return sections::refused(page, NOT_PLAYABLE, f.place);
+    }
+    let parts = v.parts;
+    let total = v.total;
+    let known = parts.known;
+    sections::sections(
+        page,
+        text,
+        places,
+        tplaces,
+        parts.signals,
+        known.tables,
+        total.cycles,
+    )
+}
+
+// All but the rows: the sections, or the refusal. A page of less than FRONT bytes has no room for it, and stays as it is.
+pub fn begin(text: &[u8], page: &mut [u8]) -> Page
+    ensures { λ r. ⌜ Begins (now (text .entry)) (now (page .entry)) r (now (page .exit)) ⌝ }
+{
+    if page.len() < sections::FRONT {
+        return Page {
+            room: false,
+            length: 0,
+            first: 0,
+            left: 0,
+            width: 0,
+        };
+    }
+    let mut places = [0usize; signals::PLACES];
+    let mut lists = [0u16; signals::LISTS];
+    let mut tplaces = [0usize; timing::PLACES];
+    let mut waves = [0u8; timing::WAVES];
+    let mut book = [0usize; measures::BOOK];
+    let mut rows = [0u16; measures::ROWS];
+    let mut list = [0usize; bursts::LISTED];
+    let v = texts::decide(
+        text,
+        &mut places,
+        &mut lists,
+        &mut tplaces,
+        &mut waves,
+        &mut book,
+        &mut rows,
+        &mut list,
+        stil::nowhere(),
+    );
+    if v.no != 0 {
+        return sections::refused(page, v.no, v.place);
+    }
+    shown(
+        text,
+        &places,
+        &lists,
+        &tplaces,
+        &waves,
+        &book,
+        &rows,
+        &list,
+        v,
+        page,
+    )
+}
+
+// ---- the pages behind it
+
+// As many rows as are left, and fit.
+fn fitting(p: Page, room: usize) -> usize
+    ensures { λ r. ⌜ r ≡ fittingOf p room ⌝ }
+{
+    let width = p.width;
+    if width == 0 {
+        return 0;
+    }
+    let n = room / width;
+    if p.left < n {
+        return p.left;
+    }
+    n
+}
+
+// The next rows. A page behind the last has none.
+pub fn go_on(text: &[u8], p: Page, page: &mut [u8]) -> Page
+    ensures { λ r. ⌜ GoesOn (now (text .entry)) (now (page .entry)) p r (now (page .exit)) ⌝ }
+{
+    let n = fitting(p, page.len());
+    match stil::window(text, p.first, n, page) {
+        stil::Shown::Refused(a, b) => sections::last(0),
+        stil::Shown::Rows(count, visits) => Page {
+            room: true,
+            length: count * p.width,
+            first: p.first + count,
+            left: p.left - count,
+            width: p.width,
+        },
+    }
+}

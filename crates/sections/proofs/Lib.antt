@@ -1,0 +1,3 @@
+mod Laws
+pub mod Determined
+pub mod Sample
