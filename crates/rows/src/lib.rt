@@ -1,14 +1,15 @@
 // How far a window is, and its rows in the lent buffer.
 ghost use mathlib.Core.Path.{_≡_};
-ghost use mathlib.Core.Bool.{true};
+ghost use mathlib.Core.Bool.{true, false};
 ghost use mathlib.Core.List.{[], _∷_, _++_};
-ghost use Prim.Native.Nat.{_≤_};
+ghost use Prim.Native.Nat.{_+_, _*_, _<_, _≤_};
 ghost use lib.ListN.{length, drop};
-ghost use Rattle.meaning.specs.Bounds.{signalsMost};
+ghost use Rattle.meaning.specs.Bounds.{signalsMost, cyclesMost};
 ghost use Rattle.meaning.specs.Run.{Cycle};
 ghost use Rattle.meaning.specs.Services.{row as rowOf, rowWidth};
 ghost use Rattle.pins.specs.Shown.{valuesLength};
 ghost use Rattle.rows.specs.Went.{over as isOver, Going, spent, past as passed, Went, Cycled};
+ghost use Rattle.rows.specs.Again.{Copies, Extends, Again};
 
 // How far a window is: cycles still to pass; rows written, and rows still to show; what may still be spent on the way; and is the cycle that it begins with
 // still to be reached?
@@ -106,6 +107,56 @@ pub fn cycle(values: &[u8], signals: usize, table: usize, w: Walk, buffer: &mut 
         row: w.row + 1,
         show: w.show - 1,
         budget: x.budget,
+        walking: false,
+    }
+}
+
+// ---- rows that repeat
+
+// Bytes, to a place behind them.
+fn copy(buffer: &mut [u8], from: usize, to: usize, count: usize)
+    requires { ⌜ (from + count ≤ to) × (to + count ≤ length (now buffer)) ⌝ }
+    ensures { λ _. ⌜ Copies (now (buffer .entry)) from to count (now (buffer .exit)) ⌝ }
+{
+    let mut i = 0;
+    while i < count {
+        buffer[to + i] = buffer[from + i];
+        i += 1;
+    }
+}
+
+// The last `step` bytes before a place, again and again behind it. All that is there already is copied at once, so that the length of a run doubles.
+fn extend(buffer: &mut [u8], at: usize, step: usize, count: usize)
+    requires { ⌜ (0 < step) × (step ≤ at) × (at + count ≤ length (now buffer)) ⌝ }
+    ensures { λ _. ⌜ Extends (now (buffer .entry)) at step count (now (buffer .exit)) ⌝ }
+{
+    let mut done = 0;
+    while done < count {
+        let mut run = step + done;
+        if count - done < run {
+            run = count - done;
+        }
+        copy(buffer, at - step, at + done, run);
+        done += run;
+    }
+}
+
+// So many turns of a Loop behind one whose rows, one for each of its cycles, are the last ones: each gives those rows again.
+pub fn again(w: Walk, cycles: usize, turns: usize, signals: usize, buffer: &mut [u8]) -> Walk
+    requires { ⌜ (w .walking ≡ false) × (w .pass ≡ 0) × (0 < cycles) × (cycles ≤ w .row) × (turns * cycles ≤ cyclesMost) × ((w .row + w .show) * rowWidth signals ≤ length (now buffer)) ⌝ }
+    ensures { λ r. ⌜ Again signals cycles turns w r (now (buffer .entry)) (now (buffer .exit)) ⌝ }
+{
+    let width = signals + 2;
+    let mut count = turns * cycles;
+    if w.show < count {
+        count = w.show;
+    }
+    extend(buffer, w.row * width, cycles * width, count * width);
+    Walk {
+        pass: 0,
+        row: w.row + count,
+        show: w.show - count,
+        budget: w.budget,
         walking: false,
     }
 }

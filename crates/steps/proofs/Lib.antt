@@ -2,6 +2,8 @@ pub mod Passing
 pub mod Alone
 pub mod Parting
 pub mod Shifting
+pub mod Wide
+pub mod Copying
 pub mod Turning
 pub mod Looping
 pub mod Repeating

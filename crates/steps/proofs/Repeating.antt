@@ -1,5 +1,6 @@
 -- The functions `turns` and `repeat`, whatever body is held: what the walk through a Loop's turns keeps from turn to turn, and what it gives at its end.
 use Prim.Native.Nat.{ℕ, _+_, _-_, _*_, _/_, _%_, _≤_, _<_}
+use native.Mathlib.Nat.{mul-le-mul-right}
 use native.Mathlib.Omega.{arith}
 use mathlib.Core.Path.{_≡_, refl, sym, ap, _∙_, subst}
 use mathlib.Core.Bool.{true, false}
@@ -8,8 +9,10 @@ use lib.ListN.{length}
 use Rattle.tokens.specs.Tokens.{Toks}
 use Rattle.meaning.specs.Bounds.{signalsMost, sizeMost, cyclesMost}
 use Rattle.meaning.specs.Body.{looped, Body}
-use Rattle.meaning.specs.Run.{State, visits, play}
+use Rattle.meaning.specs.Run.{State, Cycle, visits, play}
+use Rattle.meaning.specs.Services.{rowWidth}
 use Rattle.meaning.specs.Statements.{Env}
+use Rattle.meaning.proofs.Rows.{length-play}
 use Rattle.turns.specs.Few.{loopFew, playFew}
 use Rattle.walks.specs.Statement.{playedIn}
 use Rattle.walks.specs.Turns.{begins}
@@ -17,19 +20,21 @@ use Rattle.walks.proofs.Passing.{begins-first}
 use Rattle.words.specs.declared.Cursor.{Cursor}
 use Rattle.measures.specs.Measures.{Measures as MeasureOf}
 use Rattle.plays.specs.declared.Played.{Played}
-use Rattle.plays.specs.Plays.{Ground, Arrays, arrays, Standing, Stood as PlayStood, Kept, Promised as PlaysAll}
+use Rattle.plays.specs.Plays.{Ground, Arrays, arrays, Sized, Standing, Stood as PlayStood, Kept, Promised as PlaysAll}
 use Rattle.plays.proofs.Keeping.{kept-none, kept-then, kept-args, sized-kept}
 use Rattle.loops.specs.declared.Measured.{Measured}
 use Rattle.loops.specs.Held.{tables, Stood as MeasureStood, Promised as MeasuresAll}
 use Rattle.rows.specs.declared.Walk.{Walk}
-use Rattle.rows.specs.Went.{over, Going, spent, past}
+use Rattle.rows.specs.Went.{over, Going, spent, past, Went}
+use Rattle.rows.specs.Again.{Again}
 use Rattle.rows.proofs.Going.{going-on, going-spent}
 use Rattle.steps.specs.declared.Walked.{Walked}
 use Rattle.steps.specs.Walks.{Ready, Stood, Walks, Promised, LoopStood, Looped, Turning, TurnStood, Turned}
 use Rattle.steps.proofs.Passing.{loop-told}
 use Rattle.steps.proofs.Alone.{only-pays}
-use Rattle.steps.proofs.Turning.{Turns, turns-begin, turns-ready, turns-next, turns-over, turns-all}
-use Rattle.steps.proofs.Looping.{loop-measurable, standing-args, loop-size, loop-small, loop-few, loop-passed, loop-turning, loop-entered, turn-among, pass-within, first-left, turn-turning, turn-whole}
+use Rattle.steps.proofs.Turning.{Turns, turns-begin, turns-ready, turns-next, turns-over, turns-copied, turns-all}
+use Rattle.steps.proofs.Copying.{turn-steady, whole-reached}
+use Rattle.steps.proofs.Looping.{loop-measurable, standing-args, loop-size, loop-small, loop-few, loop-passed, loop-turning, loop-entered, some-in-turn, turn-among, pass-within, first-left, turn-turning, turn-whole}
 
 -- ---- before the first of them
 
@@ -101,6 +106,11 @@ module _ {g : Ground} {ts : Toks} {more level t m k table₀ : ℕ} {x₀ : Arra
         → Walks g level y us (playedIn t (looped m) b s) (visits t b (w₀ .pass % k)) w₀ before after (record { cursor = r .cursor; table = r .table; walk = r .walk; ends = false })
     repeats-over = turns-over turning first turns (left .going .more) h walked
 
+    repeats-copied : play t b (begins t b i s) .0 ≡ begins t b i s → Sized g level x → over (r .walk) ≡ false → r .walk .row ≡ w .row + k → {w′ : Walk} {last : List ℕ}
+        → Again (g .signals) k (m - (i + 1)) (r .walk) w′ after last
+        → Walks g level y us (playedIn t (looped m) b s) (visits t b (w₀ .pass % k)) w₀ before last (record { cursor = r .cursor; table = r .table; walk = w′; ends = false })
+    repeats-copied = turns-copied turning first turns (left .going .more) h walked
+
 -- ---- the function `turns`: turn j of a Loop of n, entered in the one that has the cycle looked for
 
 module _ {g : Ground} {ts : Toks} {more level table t n k : ℕ} {x : Arrays} {w : Walk} {before : List ℕ} (stood : TurnStood g ts more level table t n k x w before)
@@ -142,8 +152,15 @@ module _ {g : Ground} {ts : Toks} {more level table t n k : ℕ} {x : Arrays} {w
         }
 
     module _ {z : Arrays} {after : List ℕ} {r : Walked} (p : Promised g ts more level table′ t y z w′ now after r) where
+      -- its cycles
+      abbrev turn : List Cycle
+      turn = play t (stood .body) (begins t (stood .body) (j - w .pass / k) (begins t (stood .body) (w .pass / k) (stood .state))) .1
+
+      turn-went : Went (g .signals) turn (visits t (stood .body) (w′ .pass)) w′ (r .walk) now after
+      turn-went = walked left (entered (stood .turning)) (within (stood .turning)) (omega arith) p .tells .went
+
       pub turn-long : length after ≡ length before
-      turn-long = walked left (entered (stood .turning)) (within (stood .turning)) (omega arith) p .tells .went .long ∙ left .long
+      turn-long = turn-went .long ∙ left .long
 
       -- it was the last that there was something to do in
       pub turned-over : over (r .walk) ≡ true → Turned g ts more level table t n k x z w before after (record { cursor = r .cursor; table = r .table; walk = r .walk; ends = false })
@@ -160,9 +177,39 @@ module _ {g : Ground} {ts : Toks} {more level table t n k : ℕ} {x : Arrays} {w
           record {
             kept = kept-then (left .kept) (p .kept);
             long = turn-long;
-            going = going-on (left .going) (walked left (entered (stood .turning)) (within (stood .turning)) (omega arith) p .tells .went) q;
+            going = going-on (left .going) turn-went q;
             turns = λ E b us s turning first. rw (← e) (repeats-next left turning first (omega arith) p q);
           }
+
+      pub turn-rows : w′ .row ≤ r .walk .row
+      turn-rows = omega (arith, turn-went .rows)
+
+      -- it was shown whole: its rows are the last
+      module _ (q : over (r .walk) ≡ false) (whole : r .walk .row - w′ .row ≡ k) where
+        even : length turn ≡ k
+        even = length-play t (stood .body) _ ∙ stood .turning .cycles-are
+
+        pub copied-requires : (r .walk .walking ≡ false) × (r .walk .pass ≡ 0) × (0 < k) × (k ≤ r .walk .row) × ((n - (j + 1)) * k ≤ cyclesMost)
+            × ((r .walk .row + r .walk .show) * rowWidth (g .signals) ≤ length after)
+        copied-requires =
+            let some = some-in-turn (stood .turning) in
+            let reached = whole-reached turn-went (omega (arith, even)) (omega (arith, even)) in
+            let on = going-on (left .going) turn-went q in
+            let fewer : (n - (j + 1)) * k ≤ n * k = mul-le-mul-right k (omega arith) in
+            (reached, on .reached reached, some, omega arith, omega (arith, stood .turning .few-cycles), on .room)
+
+        -- it is not the Loop's first: they are those of every turn left
+        pub turned-copied : 0 < j → {w″ : Walk} {last : List ℕ} → Again (g .signals) k (n - (j + 1)) (r .walk) w″ after last
+            → Turned g ts more level table t n k x z w before last (record { cursor = r .cursor; table = r .table; walk = w″; ends = false })
+        turned-copied later copied =
+            let e : n - (j + 1) ≡ n - w .pass / k - (j - w .pass / k + 1) = omega arith in
+            record {
+              kept = kept-then kept-all (p .kept);
+              goes-on = refl;
+              walks = λ E b us s turning. turn-whole turning (repeats-copied left (entered turning) (within turning) (omega arith) p
+                  (turn-steady t b (turning .plain) s (w .pass / k) (j - w .pass / k) (omega arith)) (sized-kept (stood .sized) kept-all) q
+                  (omega (arith, some-in-turn turning)) (rw e at copied));
+            }
 
 -- ---- the function `repeat`
 

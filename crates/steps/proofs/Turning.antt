@@ -1,5 +1,5 @@
 -- Turns of a Loop one by one, the cycle looked for being in the first of them: each is gone through as a body, and begins where the one before ended.
-use Prim.Native.Nat.{ℕ, _+_, _*_, _-_, _%_, _≤_, _<_}
+use Prim.Native.Nat.{ℕ, suc, _+_, _*_, _-_, _%_, _≤_, _<_}
 use native.Mathlib.Nat.{eq-zero-or-pos, zero-add, add-zero, zero-mul, one-mul, mul-le-mul-right, mod-eq-of-lt}
 use native.Mathlib.Omega.{arith}
 use mathlib.Core.Path.{_≡_, sym, ap, _∙_, subst}
@@ -16,21 +16,24 @@ use Rattle.meaning.specs.Body.{looped, Body, supplied}
 use Rattle.meaning.specs.Run.{State, Cycle, Played as Play, shiftOf, visits, follow, again, playing, play}
 use Rattle.meaning.specs.Meaning.{firstFailing}
 use Rattle.meaning.specs.Statements.{Env}
-use Rattle.meaning.proofs.Turns.{Plain, keeps}
+use Rattle.meaning.proofs.Turns.{Plain, keeps, copies, steady}
 use Rattle.meaning.proofs.Rows.{length-play, length-again}
 use Rattle.walks.specs.Statement.{playedIn}
 use Rattle.walks.specs.Turns.{begins}
-use Rattle.walks.proofs.Loops.{again-add, loop-begins}
+use Rattle.walks.proofs.Loops.{again-add, loop-begins, loop-behind}
 use Rattle.words.specs.Cursor.{alive, stream}
 use Rattle.words.specs.declared.Cursor.{Cursor}
-use Rattle.plays.specs.Plays.{Ground, Arrays, Showing, Standing}
+use Rattle.plays.specs.Plays.{Ground, Arrays, Sized, Showing, Standing}
 use Rattle.plays.proofs.Fitting.{both, fits-again}
 use Rattle.rows.specs.declared.Walk.{Walk}
 use Rattle.rows.specs.Went.{over, spends, Went}
+use Rattle.rows.specs.Again.{Again}
 use Rattle.rows.proofs.Going.{went-both, went-over}
 use Rattle.steps.specs.declared.Walked.{Walked}
 use Rattle.steps.specs.Walks.{Ready, Walks, Turning}
 use Rattle.steps.proofs.Parting.{sound-parts, spends-none, went-none}
+use Rattle.steps.proofs.Wide.{play-wide}
+use Rattle.steps.proofs.Copying.{went-again}
 
 -- ---- turns of any kind
 
@@ -171,6 +174,39 @@ module _ {g : Ground} {ts us : Toks} {more level table₀ t m k : ℕ} {x₀ : A
             where
               never : over (r .walk) ≡ false → ⊥
               never q = let z : _≡_ {A = ℕ} 0 1 = cc in omega arith
+
+          -- it was shown whole, and leaves the state that it began in: its rows are those of the turns behind it
+          module _ (same : play t b (begins t b i s) .0 ≡ begins t b i s) where
+            again-left : again (m - i) (play t b) (begins t b i s) ≡ (begins t b i s, copies (suc (m - (i + 1))) (play t b (begins t b i s) .1))
+            again-left =
+                let e : m - i ≡ suc (m - (i + 1)) = omega arith in
+                ap (λ (n : ℕ). again n (play t b) (begins t b i s)) e ∙ steady (play t b) (begins t b i s) same (suc (m - (i + 1)))
+
+            cycles-left : again m (play t b) s .1 ≡ again i (play t b) s .1 ++ copies (suc (m - (i + 1))) (play t b (begins t b i s) .1)
+            cycles-left =
+                turns-split (play t b) s i m (omega arith)
+                ∙ ap (λ (u : State). again i (play t b) s .1 ++ again (m - i) (play t b) u .1) (loop-begins t b (turning .plain) s i)
+                ∙ ap (λ (y : Play). again i (play t b) s .1 ++ y .1) again-left
+
+            state-left : play t b (begins t b i s) .0 ≡ again m (play t b) s .0
+            state-left = same ∙ sym (ap (λ (y : Play). y .0) again-left) ∙ loop-behind t b (turning .plain) s i m (omega arith)
+
+            pub turns-copied : Sized g level x → over (r .walk) ≡ false → r .walk .row ≡ w .row + k → {w′ : Walk} {last : List ℕ}
+                → Again (g .signals) k (m - (i + 1)) (r .walk) w′ after last
+                → Walks g level y us (playedIn t (looped m) b s) (visits t b (w₀ .pass % k)) w₀ before last (record { cursor = r .cursor; table = r .table; walk = w′; ends = false })
+            unfolding playing shiftOf
+            turns-copied sized h whole copied =
+                let even = length-play t b (begins t b i s) ∙ turning .cycles-are in
+                let wide = play-wide sized (left .standing .shows) t b in
+                let cost : spends (ltb 0 (i + 1)) (visits t b (w₀ .pass)) ≡ visits t b (w₀ .pass) = rw (lt-ltb 0 (i + 1) (omega arith)) in
+                record {
+                  tells = record {
+                    went = rw (mod-eq-of-lt first, cycles-left, ← cost, ← cost-next)
+                        (went-both (left .went) going (went-again (p .tells .went) (omega (arith, even)) (omega (arith, even)) even wide copied));
+                    shows = λ q. rw (← state-left) (p .tells .shows h);
+                  };
+                  behind = λ q. p .behind h;
+                }
 
       -- all turns are gone through
       pub turns-all : i ≡ m → 0 < m

@@ -1,6 +1,6 @@
-// The walk to a window's first cycle, in single steps under a budget, and from there the rows one by one. A step goes past a statement whose cycles all lie
-// before the cycle, or into the one that has it, and spends what that costs; a statement that is passed is played once, as a check without second turns
-// plays it, so that pins and table are what its cycles would have left.
+// The walk to a window's first cycle, in single steps under a budget, and from there the rows: one by one, or copied from the turn of a Loop before. A step
+// goes past a statement whose cycles all lie before the cycle, or into the one that has it, and spends what that costs; a statement that is passed is played
+// once, as a check without second turns plays it, so that pins and table are what its cycles would have left.
 ghost use mathlib.Core.Path.{_≡_};
 ghost use mathlib.Core.Bool.{true};
 ghost use Prim.Native.Nat.{_-_, _<_, _≤_};
@@ -127,7 +127,8 @@ fn shift<'a>(
     }
 }
 
-// A Loop of n turns, entered in the one that has the cycle: every turn behind the first begins where the first ended. The body has so many cycles.
+// A Loop of n turns, entered in the one that has the cycle: every turn behind the first begins where the first ended. The body has so many cycles. Once one
+// such turn was shown whole, its rows are those of every turn left.
 fn turns<'a>(
     text: &'a [u8],
     c: Cursor,
@@ -184,6 +185,7 @@ fn turns<'a>(
     }
     let mut cursor = c;
     while j < n {
+        let shown = w.row;
         let r = statements(
             text,
             c,
@@ -210,6 +212,10 @@ fn turns<'a>(
             break;
         }
         j += 1;
+        if (1 < j) & (w.row - shown == cycles) {
+            w = rows::again(w, cycles, n - j, signals, buffer);
+            break;
+        }
     }
     // the `}` of its turns is not that of the body around it
     let ends = false;

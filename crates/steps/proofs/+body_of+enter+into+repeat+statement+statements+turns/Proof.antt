@@ -19,7 +19,8 @@ use Rattle.plays.proofs.Stepping.{in-loop, in-shift, called, one-vector, loop-s
 use Rattle.plays.proofs.Entering.{kind-macro, kind-procedure, kept-below, kept-returned, sized-left, macro-standing, procedure-standing, part-within, part-begins}
 use Rattle.rows.proofs.Going.{going-spent, going-past}
 use Rattle.steps.proofs.Looping.{some-in-turn, turn-among, few-turns}
-use Rattle.steps.proofs.Repeating.{Begun, begun-first, begun-later, Repeats, repeats-begin, turned-all, turn-stood, turn-long, turned-over, turned-once, loop-stood, repeat-small, repeat-few, repeat-pays, repeat-played, repeat-passed, repeat-stood, repeat-entered}
+use Rattle.steps.proofs.Copying.{both-told}
+use Rattle.steps.proofs.Repeating.{Begun, begun-first, begun-later, Repeats, repeats-begin, turned-all, turn-stood, turn-long, turned-over, turned-once, turn-rows, copied-requires, turned-copied, loop-stood, repeat-small, repeat-few, repeat-pays, repeat-played, repeat-passed, repeat-stood, repeat-entered}
 use Rattle.steps.proofs.Stepping.{vector-pays, assigns-pays, chooses-pays, ends-step, vector-step, assigns-step, chooses-step}
 use Rattle.steps.proofs.Inside.{inside-ready, inside-step, loop-plain, shift-ready, shift-step, called-measured, called-use, called-step}
 use Rattle.steps.proofs.Going.{starts, onward-next, fewer, going-next, long-next, gone, Underway}
@@ -57,6 +58,7 @@ use Rattle.pins.proofs.put.Reads as put-reads
 use Rattle.pins.proofs.supply.Reads as supply-reads
 use Rattle.plays.proofs.enter.Reads as enter-reads
 use Rattle.plays.proofs.turns.Reads as turns-reads
+use Rattle.rows.proofs.again.Reads as again-reads
 use Rattle.rows.proofs.cycle.Reads as cycle-reads
 use Rattle.rows.proofs.over.Reads as over-reads
 use Rattle.rows.proofs.past.Reads as past-reads
@@ -152,7 +154,7 @@ abbrev statements-calls : ℕ → statements-lts.Claims
 statements-calls t = (statement-below t, statement′.Post, over-reads.Asked, over-reads.Learnt)
 
 abbrev turns-calls : ℕ → turns-lts.Claims
-turns-calls t = (past-reads.Asked, past-reads.Learnt, once-reads.Asked, once-reads.Learnt, turns-reads.Asked, turns-reads.Learnt, statements-below t, statements.Post, over-reads.Asked, over-reads.Learnt)
+turns-calls t = (past-reads.Asked, past-reads.Learnt, once-reads.Asked, once-reads.Learnt, turns-reads.Asked, turns-reads.Learnt, statements-below t, statements.Post, over-reads.Asked, over-reads.Learnt, again-reads.Asked, again-reads.Learnt)
 
 body-of-sub-cursor-at : (t : ℕ) → body-of-lts.Need-sub-cursor-at (body-of-calls t) (body-of-at t) body-of.Post
 body-of-sub-cursor-at t c =
@@ -1099,22 +1101,46 @@ turns-add-j t c =
     let loop-test′ = c .before .before .before .before .before .before .before .before .before .before .before .before .before .before .before .before .before .loop-test in
     omega (arith, loop-test′ .taken, few-turns (pre′ .1 .2 .turning))
 
+turns-sub-if3 : (t : ℕ) → turns-lts.Need-sub-if3 (turns-calls t) (turns-at t) turns.Post turns-Inv-loop turns-μ-loop
+turns-sub-if3 t c =
+    let pre′ = c .before .before .before .before .before .before .before .before .before .before .before .before .before .before .before .before .before .before .before .before .before .before .before .before .before .before .before .before .before .before .before .before .before .before .before .pre in
+    let past′ = c .before .before .before .before .before .before .before .before .before .before .before .before .before .before .before .before .before .before .before .before .before .past in
+    let loop′ = c .before .before .before .before .before .before .before .before .before .before .before .before .before .before .before .before .before .before .before .loop in
+    let loop-test′ = c .before .before .before .before .before .before .before .before .before .before .before .before .before .before .before .before .before .before .loop-test in
+    let statements′ = c .before .before .before .before .before .before .before .before .before .before .before .before .before .statements in
+    omega (arith, turn-rows (pre′ .1 .2) (turns-begun t (c .before .before .before .before .before .before .before .before .before .before .before .before .before .before .before .before .before .before .before .before)) (loop′ .inv .0) (rw (past′ .ensures) at (loop′ .inv .2)) (loop-test′ .taken) (statements′ .ensures))
+
+turns-sub-again : (t : ℕ) → turns-lts.Need-sub-again (turns-calls t) (turns-at t) turns.Post turns-Inv-loop turns-μ-loop
+turns-sub-again t c =
+    let loop-test′ = c .before .before .before .before .before .before .before .before .before .before .before .before .before .before .before .before .before .before .before .loop-test in
+    omega (arith, loop-test′ .taken)
+
+turns-again-requires : (t : ℕ) → turns-lts.Need-again-requires (turns-calls t) (turns-at t) turns.Post turns-Inv-loop turns-μ-loop
+turns-again-requires t c κs =
+    let pre′ = c .before .before .before .before .before .before .before .before .before .before .before .before .before .before .before .before .before .before .before .before .before .before .before .before .before .before .before .before .before .before .before .before .before .before .before .before .before .pre in
+    let past′ = c .before .before .before .before .before .before .before .before .before .before .before .before .before .before .before .before .before .before .before .before .before .before .before .past in
+    let loop′ = c .before .before .before .before .before .before .before .before .before .before .before .before .before .before .before .before .before .before .before .before .before .loop in
+    let loop-test′ = c .before .before .before .before .before .before .before .before .before .before .before .before .before .before .before .before .before .before .before .before .loop-test in
+    let statements′ = c .before .before .before .before .before .before .before .before .before .before .before .before .before .before .before .statements in
+    let over′ = c .before .before .before .before .over in
+    copied-requires (pre′ .1 .2) (turns-begun t (c .before .before .before .before .before .before .before .before .before .before .before .before .before .before .before .before .before .before .before .before .before .before)) (loop′ .inv .0) (rw (past′ .ensures) at (loop′ .inv .2)) (loop-test′ .taken) (statements′ .ensures) (sym (over′ .ensures) ∙ c .before .before .before .if2 .left) (both-told _ (loop′ .j + 1) _ _ (c .before .if3 .taken) .1)
+
 turns-loop-less : (t : ℕ) → turns-lts.Need-loop-less (turns-calls t) (turns-at t) turns.Post turns-Inv-loop turns-μ-loop
 turns-loop-less t c =
-    let loop-test′ = c .before .before .before .before .before .before .before .before .before .before .before .before .before .before .before .before .before .loop-test in
+    let loop-test′ = c .before .before .before .before .before .before .before .before .before .before .before .before .before .before .before .before .before .before .before .loop-test in
     omega (arith, loop-test′ .taken)
 
 turns-loop-again : (t : ℕ) → turns-lts.Need-loop-again (turns-calls t) (turns-at t) turns.Post turns-Inv-loop turns-μ-loop
 turns-loop-again t c =
-    let pre′ = c .before .before .before .before .before .before .before .before .before .before .before .before .before .before .before .before .before .before .before .before .before .before .before .before .before .before .before .before .before .before .before .before .before .before .pre in
-    let past′ = c .before .before .before .before .before .before .before .before .before .before .before .before .before .before .before .before .before .before .before .before .past in
-    let loop′ = c .before .before .before .before .before .before .before .before .before .before .before .before .before .before .before .before .before .before .loop in
-    let loop-test′ = c .before .before .before .before .before .before .before .before .before .before .before .before .before .before .before .before .before .loop-test in
-    let statements′ = c .before .before .before .before .before .before .before .before .before .before .before .before .statements in
-    let over′ = c .before .over in (
+    let pre′ = c .before .before .before .before .before .before .before .before .before .before .before .before .before .before .before .before .before .before .before .before .before .before .before .before .before .before .before .before .before .before .before .before .before .before .before .before .pre in
+    let past′ = c .before .before .before .before .before .before .before .before .before .before .before .before .before .before .before .before .before .before .before .before .before .before .past in
+    let loop′ = c .before .before .before .before .before .before .before .before .before .before .before .before .before .before .before .before .before .before .before .before .loop in
+    let loop-test′ = c .before .before .before .before .before .before .before .before .before .before .before .before .before .before .before .before .before .before .before .loop-test in
+    let statements′ = c .before .before .before .before .before .before .before .before .before .before .before .before .before .before .statements in
+    let over′ = c .before .before .before .over in (
       omega (arith, loop′ .inv .0),
       omega (arith, loop-test′ .taken),
-      rw (past′ .ensures) (turned-once (pre′ .1 .2) (turns-begun t (c .before .before .before .before .before .before .before .before .before .before .before .before .before .before .before .before .before .before .before)) (loop′ .inv .0) (rw (past′ .ensures) at (loop′ .inv .2)) (loop-test′ .taken) (statements′ .ensures) (sym (over′ .ensures) ∙ c .if2 .left)),
+      rw (past′ .ensures) (turned-once (pre′ .1 .2) (turns-begun t (c .before .before .before .before .before .before .before .before .before .before .before .before .before .before .before .before .before .before .before .before .before)) (loop′ .inv .0) (rw (past′ .ensures) at (loop′ .inv .2)) (loop-test′ .taken) (statements′ .ensures) (sym (over′ .ensures) ∙ c .before .before .if2 .left)),
     )
 
 turns-same-length : (t : ℕ) → turns-lts.Need-same-length (turns-calls t) (turns-at t) turns.Post turns-Inv-loop turns-μ-loop
@@ -1180,6 +1206,46 @@ turns-returns-2 t c =
     let statements′ = c .before .before .before .before .before .before .before .before .before .before .before .before .statements in
     let over′ = c .before .over in
     turned-over (pre′ .1 .2) (turns-begun t (c .before .before .before .before .before .before .before .before .before .before .before .before .before .before .before .before .before .before .before)) (loop′ .inv .0) (rw (past′ .ensures) at (loop′ .inv .2)) (loop-test′ .taken) (statements′ .ensures) (sym (over′ .ensures) ∙ c .if2 .taken)
+
+turns-same-length-9 : (t : ℕ) → turns-lts.Need-same-length-9 (turns-calls t) (turns-at t) turns.Post turns-Inv-loop turns-μ-loop
+turns-same-length-9 t c =
+    let loop′ = c .before .before .before .before .before .before .before .before .before .before .before .before .before .before .before .before .before .before .before .before .before .before .before .before .loop in
+    let statements′ = c .before .before .before .before .before .before .before .before .before .before .before .before .before .before .before .before .before .before .statements in
+    statements′ .ensures .kept .values-long ∙ loop′ .inv .2 .kept .values-long ∙ turns-begun t (c .before .before .before .before .before .before .before .before .before .before .before .before .before .before .before .before .before .before .before .before .before .before .before .before .before) .kept .values-long
+
+turns-same-length-10 : (t : ℕ) → turns-lts.Need-same-length-10 (turns-calls t) (turns-at t) turns.Post turns-Inv-loop turns-μ-loop
+turns-same-length-10 t c =
+    let loop′ = c .before .before .before .before .before .before .before .before .before .before .before .before .before .before .before .before .before .before .before .before .before .before .before .before .loop in
+    let statements′ = c .before .before .before .before .before .before .before .before .before .before .before .before .before .before .before .before .before .before .statements in
+    statements′ .ensures .kept .feeds-long ∙ loop′ .inv .2 .kept .feeds-long ∙ turns-begun t (c .before .before .before .before .before .before .before .before .before .before .before .before .before .before .before .before .before .before .before .before .before .before .before .before .before) .kept .feeds-long
+
+turns-same-length-11 : (t : ℕ) → turns-lts.Need-same-length-11 (turns-calls t) (turns-at t) turns.Post turns-Inv-loop turns-μ-loop
+turns-same-length-11 t c =
+    let loop′ = c .before .before .before .before .before .before .before .before .before .before .before .before .before .before .before .before .before .before .before .before .before .before .before .before .loop in
+    let statements′ = c .before .before .before .before .before .before .before .before .before .before .before .before .before .before .before .before .before .before .statements in
+    statements′ .ensures .kept .args-long ∙ loop′ .inv .2 .kept .args-long ∙ turns-begun t (c .before .before .before .before .before .before .before .before .before .before .before .before .before .before .before .before .before .before .before .before .before .before .before .before .before) .kept .args-long
+
+turns-same-length-12 : (t : ℕ) → turns-lts.Need-same-length-12 (turns-calls t) (turns-at t) turns.Post turns-Inv-loop turns-μ-loop
+turns-same-length-12 t c =
+    let pre′ = c .before .before .before .before .before .before .before .before .before .before .before .before .before .before .before .before .before .before .before .before .before .before .before .before .before .before .before .before .before .before .before .before .before .before .before .before .before .before .before .before .pre in
+    let past′ = c .before .before .before .before .before .before .before .before .before .before .before .before .before .before .before .before .before .before .before .before .before .before .before .before .before .before .past in
+    let loop′ = c .before .before .before .before .before .before .before .before .before .before .before .before .before .before .before .before .before .before .before .before .before .before .before .before .loop in
+    let loop-test′ = c .before .before .before .before .before .before .before .before .before .before .before .before .before .before .before .before .before .before .before .before .before .before .before .loop-test in
+    let statements′ = c .before .before .before .before .before .before .before .before .before .before .before .before .before .before .before .before .before .before .statements in
+    let again′ = c .before .before .again in
+    again′ .ensures .long ∙ turn-long (pre′ .1 .2) (turns-begun t (c .before .before .before .before .before .before .before .before .before .before .before .before .before .before .before .before .before .before .before .before .before .before .before .before .before)) (loop′ .inv .0) (rw (past′ .ensures) at (loop′ .inv .2)) (loop-test′ .taken) (statements′ .ensures)
+
+turns-returns-3 : (t : ℕ) → turns-lts.Need-returns-3 (turns-calls t) (turns-at t) turns.Post turns-Inv-loop turns-μ-loop
+turns-returns-3 t c =
+    let pre′ = c .before .before .before .before .before .before .before .before .before .before .before .before .before .before .before .before .before .before .before .before .before .before .before .before .before .before .before .before .before .before .before .before .before .before .before .before .before .before .before .before .pre in
+    let past′ = c .before .before .before .before .before .before .before .before .before .before .before .before .before .before .before .before .before .before .before .before .before .before .before .before .before .before .past in
+    let loop′ = c .before .before .before .before .before .before .before .before .before .before .before .before .before .before .before .before .before .before .before .before .before .before .before .before .loop in
+    let loop-test′ = c .before .before .before .before .before .before .before .before .before .before .before .before .before .before .before .before .before .before .before .before .before .before .before .loop-test in
+    let statements′ = c .before .before .before .before .before .before .before .before .before .before .before .before .before .before .before .before .before .before .statements in
+    let over′ = c .before .before .before .before .before .before .before .over in
+    let again′ = c .before .before .again in
+    let test = both-told _ (loop′ .j + 1) _ _ (c .before .before .before .before .if3 .taken) in
+    turned-copied (pre′ .1 .2) (turns-begun t (c .before .before .before .before .before .before .before .before .before .before .before .before .before .before .before .before .before .before .before .before .before .before .before .before .before)) (loop′ .inv .0) (rw (past′ .ensures) at (loop′ .inv .2)) (loop-test′ .taken) (statements′ .ensures) (sym (over′ .ensures) ∙ c .before .before .before .before .before .before .if2 .left) (test .1) (omega (arith, test .0)) (again′ .ensures)
 
 pub +body-of+enter+into+repeat+statement+statements+turns-spec : {M : Type 1} → statement M
 +body-of+enter+into+repeat+statement+statements+turns-spec =
@@ -1355,6 +1421,9 @@ pub +body-of+enter+into+repeat+statement+statements+turns-spec : {M : Type 1} �
     (turns-statements-requires t)
     (turns-over-requires t)
     (turns-add-j t)
+    (turns-sub-if3 t)
+    (turns-sub-again t)
+    (turns-again-requires t)
     (turns-loop-less t)
     (turns-loop-again t)
     (turns-same-length t)
@@ -1367,3 +1436,8 @@ pub +body-of+enter+into+repeat+statement+statements+turns-spec : {M : Type 1} �
     (turns-same-length-7 t)
     (turns-same-length-8 t)
     (turns-returns-2 t)
+    (turns-same-length-9 t)
+    (turns-same-length-10 t)
+    (turns-same-length-11 t)
+    (turns-same-length-12 t)
+    (turns-returns-3 t)
