@@ -1,0 +1,10 @@
+mod Taken
+mod Asked
+mod Left
+mod Cycles
+pub mod Exact
+mod Adds
+mod Free
+pub mod Statements
+pub mod Bodies
+pub mod Runs
