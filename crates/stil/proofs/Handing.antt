@@ -38,10 +38,15 @@ module _ (l : List ℕ) (a b : ℕ) where
   pub two-stored : 2 ≤ length l → set (set l 0 a) 1 b ≡ fronted (a ∷ b ∷ []) l
   two-stored h = over-two ∙ over-all (a ∷ b ∷ []) l h
 
+  over-three : (c : ℕ) → set (set (set l 0 a) 1 b) 2 c ≡ over (a ∷ b ∷ c ∷ []) l
+  over-three c = ap (λ (m : List ℕ). set m 2 c) over-two ∙ over-set (a ∷ b ∷ []) l c
+
+  pub three-stored : (c : ℕ) → 3 ≤ length l → set (set (set l 0 a) 1 b) 2 c ≡ fronted (a ∷ b ∷ c ∷ []) l
+  three-stored c h = over-three c ∙ over-all (a ∷ b ∷ c ∷ []) l h
+
   pub five-stored : (c d e : ℕ) → 5 ≤ length l → set (set (set (set (set l 0 a) 1 b) 2 c) 3 d) 4 e ≡ fronted (a ∷ b ∷ c ∷ d ∷ e ∷ []) l
   five-stored c d e h =
-      ap (λ (m : List ℕ). set (set (set m 2 c) 3 d) 4 e) over-two
-      ∙ ap (λ (m : List ℕ). set (set m 3 d) 4 e) (over-set (a ∷ b ∷ []) l c)
+      ap (λ (m : List ℕ). set (set m 3 d) 4 e) (over-three c)
       ∙ ap (λ (m : List ℕ). set m 4 e) (over-set (a ∷ b ∷ c ∷ []) l d)
       ∙ over-set (a ∷ b ∷ c ∷ d ∷ []) l e
       ∙ over-all (a ∷ b ∷ c ∷ d ∷ e ∷ []) l h
@@ -74,6 +79,9 @@ module _ {A : Type 0} {k : ℕ} {f : A → List ℕ} {a : Answer A} {l : List �
   pub hands-all : {x : A} {l′ : List ℕ} → withRoom k l a ≡ given x → l′ ≡ fronted (f x) l → Hands k f a l 0 l′
   unfolding packed afterwards
   hands-all e h = record { number = rw e; buffer = h ∙ rw e }
+
+  pub hands-alike : {b : Answer A} {r : ℕ} {l′ : List ℕ} → a ≡ b → Hands k f b l r l′ → Hands k f a l r l′
+  hands-alike e h = rw e h
 
 -- ---- a waveform
 

@@ -137,7 +137,7 @@ waveform-determined {a} {times} {t} {u} {letters} {l} {k} {r} {s} h j =
     told (Events n) times letters e = ap back e
     told (WaveformRefused n p) times letters e = ap back e
 
--- for callers in C: Check and Name; Window; Waveform
+-- for callers in C: Check, Name and the next token; Window; Waveform
 pub hands-determined : {A : Type 0} {k : ℕ} {f : A → List ℕ} {a : Answer A} {before x y : List ℕ} {r s : ℕ}
     → Hands k f a before r x → Hands k f a before s y → (r ≡ s) × (x ≡ y)
 hands-determined h j = (h .number ∙ sym (j .number), h .buffer ∙ sym (j .buffer))

@@ -5,6 +5,7 @@ use mathlib.Core.Bool.{true, false}
 use mathlib.Core.List.{List, [], _∷_, _++_}
 use lib.ListN.{length, drop}
 use lib.Dec.{leb}
+use Rattle.tokens.specs.Tokens.{Next, found, nothing, refused as tokenRefused}
 use Rattle.meaning.specs.Refusals.{noRoom}
 use Rattle.meaning.specs.Meaning.{Answer, given, refused, answering}
 use Rattle.meaning.specs.Services.{Counts, Window, Waveform}
@@ -36,6 +37,15 @@ fiveOf x = x .signals ∷ x .tables ∷ x .listed ∷ x .cycles ∷ x .size ∷ 
 -- Name: place and length
 abbrev pub twoOf : ℕ × ℕ → List ℕ
 twoOf x = x .0 ∷ x .1 ∷ []
+
+-- the next token: 1, its place and its length; or three times 0 where there is none
+unfoldable pub tokenOf : Next → Answer (ℕ × ℕ × ℕ)
+tokenOf (found p l) = given (1, p, l)
+tokenOf nothing = given (0, 0, 0)
+tokenOf (tokenRefused n p) = refused n p
+
+abbrev pub threeOf : ℕ × ℕ × ℕ → List ℕ
+threeOf x = x .0 ∷ x .1 ∷ x .2 ∷ []
 
 -- Window: how many rows, and the visits; and the rows
 abbrev pub shownTwo : Window → List ℕ

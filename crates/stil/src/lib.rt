@@ -1,12 +1,13 @@
-// The services: Check, Name, Window and Waveform, for any text, any numbers and any buffers.
+// The services: Check, Name, Window and Waveform, for any text, any numbers and any buffers; and these and the next token for callers in C.
 ghost use mathlib.Core.Path.{_≡_};
 ghost use mathlib.Core.List.{_∷_, [], _++_};
 ghost use mathlib.Core.Bool.{false, not};
 ghost use Prim.Native.Nat.{_-_, _≤_, min};
 ghost use lib.ListN.{length, take, drop};
 ghost use lib.Dec.{eqb};
+ghost use Rattle.tokens.specs.Tokens.{nextToken};
 ghost use Rattle.meaning.specs.Bounds.{signalsMost, tablesMost, entryMost};
-ghost use Rattle.meaning.specs.Meaning.{firsts};
+ghost use Rattle.meaning.specs.Meaning.{given, firsts};
 ghost use Rattle.meaning.specs.Services.{check as checkOf, nameAt, nameOf, window as windowOf, waveform as waveformOf};
 ghost use Rattle.words.specs.Table.{names};
 ghost use Rattle.texts.specs.Tables.{Found};
@@ -16,7 +17,7 @@ ghost use Rattle.stil.specs.Judged.{namedOf, numbered, Judges, Copies};
 ghost use Rattle.stil.specs.Found.{noWaveform, SomeFound, Plays};
 ghost use Rattle.stil.specs.Views.{spared, Views};
 ghost use Rattle.stil.specs.Waveforms.{Outlines, Shapes};
-ghost use Rattle.stil.specs.Interface.{Hands, fiveOf, twoOf, Opens, Draws};
+ghost use Rattle.stil.specs.Interface.{Hands, fiveOf, twoOf, threeOf, tokenOf, Opens, Draws};
 use plays::Failing;
 use texts::Verdict;
 use timing::Watch;
@@ -650,4 +651,30 @@ pub extern "C" fn lutemeteor_waveform(
     put(&ts, &ls, due, times, letters);
     count[0] = due as u64;
     0
+}
+
+// Three numbers, where there is room for them.
+fn hand_three(first: usize, second: usize, third: usize, numbers: &mut [u64]) -> u64
+    ensures { λ r. ⌜ Hands 3 threeOf (given (first, second, third)) (now (numbers .entry)) r (now (numbers .exit)) ⌝ }
+{
+    if numbers.len() < 3 {
+        return pack(NO_ROOM, 0);
+    }
+    numbers[0] = first as u64;
+    numbers[1] = second as u64;
+    numbers[2] = third as u64;
+    0
+}
+
+// The next token from a place on, by the token rules alone: 1, its place and its length, or three times 0 where there is none. A buffer of less than three
+// numbers is 19.
+#[no_mangle]
+pub extern "C" fn lutemeteor_token(text: &[u8], at: usize, numbers: &mut [u64]) -> u64
+    ensures { λ r. ⌜ Hands 3 threeOf (tokenOf (nextToken (now (text .entry)) at)) (now (numbers .entry)) r (now (numbers .exit)) ⌝ }
+{
+    match tokens::next_token(text, at) {
+        tokens::Step::Refused(n, p) => pack(n, p),
+        tokens::Step::Nothing => hand_three(0, 0, 0, numbers),
+        tokens::Step::Token(p, l) => hand_three(1, p, l, numbers),
+    }
 }

@@ -1,0 +1,37 @@
+//! The functions of `include/stil.h`: a slice is a pointer and a length, and the answer is one number.
+
+extern "C" {
+    pub fn lutemeteor_check(text: *const u8, length: usize, numbers: *mut u64, room: usize) -> u64;
+    pub fn lutemeteor_name(
+        text: *const u8,
+        length: usize,
+        table: u8,
+        number: u64,
+        numbers: *mut u64,
+        room: usize,
+    ) -> u64;
+    pub fn lutemeteor_window(
+        text: *const u8,
+        length: usize,
+        first: u64,
+        wanted: u64,
+        rows: *mut u8,
+        rows_room: usize,
+        numbers: *mut u64,
+        room: usize,
+    ) -> u64;
+    pub fn lutemeteor_waveform(
+        text: *const u8,
+        length: usize,
+        table: u64,
+        signal: u64,
+        character: u8,
+        times: *mut u64,
+        times_room: usize,
+        letters: *mut u8,
+        letters_room: usize,
+        count: *mut u64,
+        count_room: usize,
+    ) -> u64;
+    pub fn lutemeteor_token(text: *const u8, length: usize, at: u64, numbers: *mut u64, room: usize) -> u64;
+}

@@ -1,0 +1,162 @@
+/*
+ * A reader of STIL test patterns (IEEE 1450) whose answers are proved, for programs in C and C++.
+ *
+ * `rt staticlib stil` writes the library, target/staticlib/libstil.a, for x86-64 Linux. It wants memcpy and
+ * memset, and nothing else.
+ *
+ * A text is all the bytes of a STIL file, as they are. There is nothing to open or to close: each call is handed
+ * the whole text and reads it anew. Every call ends, for any bytes, numbers and lengths, with one number:
+ *
+ *   0           The call has its answer, which stands at the front of the buffers that were lent. What stands
+ *               behind it there is left as it was.
+ *   any other   The call is refused, and all buffers are as they were. answer % 32 is the refusal's number, 1 to 19;
+ *               answer / 32 is its place, a byte of the text counted from 0, or the text's length for its end.
+ *
+ * Where several refusals fit, the first of these is given: 1, 2, 3; then, of 4 to 14, the one that stands first in
+ * the text; then 15, 16, 17, 18, 19. A text that lutemeteor_check accepts is refused by lutemeteor_name,
+ * lutemeteor_window and lutemeteor_waveform for 18 or 19 only.
+ *
+ * Pointers   Behind each pointer stands how many bytes or numbers are there; for a buffer, how many it has room
+ *            for. All of them must be there during the call, numbers must be aligned as uint64_t is, and no buffer
+ *            may overlap the text or another buffer. No pointer may be null, not even with a length of 0: hand over
+ *            the address of anything instead.
+ * Threads    The library has no state: no variable outlives a call, nothing is allocated, no file is touched. Any
+ *            number of threads may call it at once, also with one text, each with buffers of its own.
+ * Stack      A call keeps its tables on the stack, 100,000 bytes and more. The deepest texts that were measured took
+ *            155,000, and the frames of the deepest way of calls add up to less than 180,000: 256 KiB are enough for
+ *            every text. lutemeteor_token takes less than 1,000.
+ */
+#ifndef LUTEMETEOR_STIL_H
+#define LUTEMETEOR_STIL_H
+
+#include <stddef.h>
+#include <stdint.h>
+
+#ifdef __cplusplus
+extern "C" {
+#endif
+
+/* Bounds of every accepted text: buffers of these sizes are always enough. */
+enum {
+    LUTEMETEOR_TEXT_MOST = 65536, /* bytes of a text */
+    LUTEMETEOR_SIGNALS_MOST = 64,
+    LUTEMETEOR_TABLES_MOST = 8,
+    LUTEMETEOR_NAME_MOST = 32,   /* bytes of a name */
+    LUTEMETEOR_ROW_MOST = 66,    /* bytes of a row: a character for each signal, the table's digit, and LF */
+    LUTEMETEOR_EVENTS_MOST = 16  /* events of one waveform */
+};
+
+/* The refusals; behind the semicolon, their place. */
+enum {
+    LUTEMETEOR_TEXT_TOO_LONG = 1,    /* more than 65,536 bytes; 0 */
+    LUTEMETEOR_BYTE_NOT_ALLOWED = 2, /* neither tab, LF, CR nor 32 to 126; the first such byte */
+    LUTEMETEOR_COMMENT_OPEN = 3,     /* a comment is not closed; its first byte */
+    LUTEMETEOR_NOT_HERE = 4,         /* a token is not allowed here, or the text ended; the token, or the text's end */
+    LUTEMETEOR_NOT_A_NAME = 5,       /* a name is needed, and this word is none; the word */
+    LUTEMETEOR_NAME_UNKNOWN = 6,     /* nothing has this name; the name */
+    LUTEMETEOR_NAME_USED = 7,        /* something has this name already; the name */
+    LUTEMETEOR_TOO_MANY = 8,         /* one item, bracket, event, character or list entry too many; its first token */
+    LUTEMETEOR_BAD_NUMBER = 9,       /* a number or time is malformed or out of bounds; its word */
+    LUTEMETEOR_BAD_GROUP = 10,       /* a signal is added twice, or removed and absent; the term's last token.
+                                        Or the group is empty; the closing quote */
+    LUTEMETEOR_BAD_WAVEFORM = 11,    /* a character has its waveform already; the characters' word. Or there are too few
+                                        or too many letters, or a time does not rise; the event's semicolon */
+    LUTEMETEOR_BAD_DATA = 12,        /* no waveform character; the word. A signal assigned twice; its name. A wrong
+                                        length; the semicolon */
+    LUTEMETEOR_BAD_ARGUMENT = 13,    /* a `#` where none may stand; the `#`. An argument that no `#` takes, or of more
+                                        signals than one; its name. A Shift without `#`; its closing brace. Arguments
+                                        missing or of unfit lengths; the statement's last token */
+    LUTEMETEOR_TOO_DEEP = 14,        /* bodies nested more than 8 deep; the Loop, Shift or used name that makes it so */
+    LUTEMETEOR_NOT_DEFINED = 15,     /* a listed pattern is not defined; its name in the PatList */
+    LUTEMETEOR_RUN_TOO_LARGE = 16,   /* the run's size is above 65,536, or its cycles above 2 to the 40th; 0 */
+    LUTEMETEOR_NOT_PLAYABLE = 17,    /* a cycle has no table, or a character that has no waveform in it; its V */
+    LUTEMETEOR_NO_SUCH = 18,         /* the text has no such signal, table or waveform; 0 */
+    LUTEMETEOR_NO_ROOM = 19          /* a buffer is too short for what is due; 0 */
+};
+
+/* Of an answer that is not 0: the refusal's number, and its place. */
+static inline unsigned lutemeteor_refusal(uint64_t answer)
+{
+    return (unsigned)(answer % 32);
+}
+
+static inline size_t lutemeteor_place(uint64_t answer)
+{
+    return (size_t)(answer / 32);
+}
+
+/*
+ * Check: is the text sound, and how much is in it?
+ *
+ *   numbers[0]   signals, 1 to 64
+ *   numbers[1]   tables (WaveformTable blocks), 1 to 8
+ *   numbers[2]   listed patterns (entries of the PatList), 0 to 16
+ *   numbers[3]   cycles of the whole run, 0 to 2 to the 40th
+ *   numbers[4]   size of the run, 0 to 65,536: its statements, with a Loop's body counted once
+ *
+ * Refused 1 to 17; 19 where `room` is less than 5.
+ */
+uint64_t lutemeteor_check(const uint8_t *text, size_t length, uint64_t *numbers, size_t room);
+
+/*
+ * Name: where the text declares the name of a signal (`table` is 0) or of a table (`table` is any other). `number`
+ * counts from 0, in the order of the text.
+ *
+ *   numbers[0]   the name's place in the text
+ *   numbers[1]   its length, 1 to 32 bytes
+ *
+ * Refused 1 to 17; 18 where the text has no such number; 19 where `room` is less than 2.
+ */
+uint64_t lutemeteor_name(const uint8_t *text, size_t length, uint8_t table, uint64_t number, uint64_t *numbers,
+                         size_t room);
+
+/*
+ * Window: what the pins do in `wanted` cycles of the run from the cycle `first` on, counted from 0. There are fewer
+ * rows where the run ends before, and none at or past its end. The cycles before `first` are not played.
+ *
+ *   rows         a row for each cycle, one behind the other: each signal's character in the order of the text (`.`
+ *                where none is assigned yet), the number of the cycle's table as a digit, and LF
+ *   numbers[0]   how many rows there are: the lesser of `wanted` and the cycles from `first` on
+ *   numbers[1]   the visits: the steps that led to the first cycle, at most ten times the size of the run
+ *
+ * A row has signals + 2 bytes. wanted * (signals + 2) bytes are always enough for `rows`; it need have room only for
+ * the rows that there are.
+ *
+ * Refused 1 to 17; 19 where `rows_room` is less than the bytes of those rows, or `room` is less than 2.
+ */
+uint64_t lutemeteor_window(const uint8_t *text, size_t length, uint64_t first, uint64_t wanted, uint8_t *rows,
+                           size_t rows_room, uint64_t *numbers, size_t room);
+
+/*
+ * Waveform: the events of a character, as it stands in rows, for a signal in a table, both by their numbers.
+ *
+ *   times[i]     when the i-th event comes, in picoseconds from the start of the cycle; the order is the text's
+ *   letters[i]   its letter: D U Z P drive the pin, L H X T l h x compare it
+ *   count[0]     how many events there are, 1 to 16
+ *
+ * Refused 1 to 17; 18 where the text has no such waveform; 19 where `times` or `letters` has room for less than all
+ * events (16 are always enough), or `count_room` is 0.
+ */
+uint64_t lutemeteor_waveform(const uint8_t *text, size_t length, uint64_t table, uint64_t signal, uint8_t character,
+                             uint64_t *times, size_t times_room, uint8_t *letters, size_t letters_room,
+                             uint64_t *count, size_t count_room);
+
+/*
+ * Token: the first token at or behind the place `at`, as if the text began there; blanks and comments are passed over.
+ * Only the rules of bytes, words and comments are used, so that other tools can read by them. Asked again from the
+ * token's end (its place plus its length), it gives the next.
+ *
+ *   numbers[0]   1; or 0 where there is no further token, also past the text's end
+ *   numbers[1]   the token's place in the whole text, or 0
+ *   numbers[2]   its length, or 0
+ *
+ * Refused 1 by the length of the whole text; 2 or 3 for what stands before the token or in its place; 19 where `room`
+ * is less than 3.
+ */
+uint64_t lutemeteor_token(const uint8_t *text, size_t length, uint64_t at, uint64_t *numbers, size_t room);
+
+#ifdef __cplusplus
+}
+#endif
+
+#endif
