@@ -42,6 +42,10 @@ impl Lent {
 
     /// The first item at which the two are not the same, and what each holds there.
     pub fn difference(&self, other: &Lent) -> Option<String> {
+        // Whole slices at once: nearly all are the same.
+        if self == other {
+            return None;
+        }
         differ("number", &self.numbers, &other.numbers)
             .or_else(|| differ("time", &self.times, &other.times))
             .or_else(|| differ("byte", &self.bytes, &other.bytes))
