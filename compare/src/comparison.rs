@@ -5,11 +5,12 @@ use crate::name::Name;
 use crate::proved::Proved;
 use crate::reader::{Reader, Second};
 use crate::tally::Tally;
+use crate::token::{Places, Token};
 use crate::waveform::Waveform;
 use crate::{call::outcome, tally::say, window::Window};
 use second::generate::random::Random;
 
-/// Calls of one text, besides one of Check; a refused text has one of each.
+/// Calls of one text, besides one of Check; a refused text has one of each, but of Token as many as any other.
 #[derive(Clone, Copy)]
 pub struct Often {
     pub names: usize,
@@ -17,6 +18,11 @@ pub struct Often {
     pub windows: usize,
     /// Up to this many cycles, windows are asked for at each of them.
     pub every: u64,
+    /// At most so many tokens are asked for one by one, and so many at places that are drawn.
+    pub tokens: usize,
+    pub places: usize,
+    /// Up to this many bytes, tokens are asked for at each of them.
+    pub bytes: usize,
 }
 
 pub struct Comparison {
@@ -24,6 +30,7 @@ pub struct Comparison {
     name: Tally,
     waveform: Tally,
     window: Tally,
+    pub token: Tally,
 }
 
 impl Comparison {
@@ -33,6 +40,7 @@ impl Comparison {
             name: Tally::new("Name"),
             waveform: Tally::new("Waveform"),
             window: Tally::new("Window"),
+            token: Tally::new("Token"),
         }
     }
 
@@ -60,6 +68,18 @@ impl Comparison {
             let calls = Window::every(document);
             calls.iter().for_each(|call| self.window.compare(named, call, proved, second));
         }
+        self.places(named, proved, second, often, random);
+    }
+
+    /// The next token at places all over one text.
+    fn places(&mut self, named: &str, proved: &dyn Reader, second: &Second, often: Often, random: &mut Random) {
+        let places = Places::new(second.text);
+        let mut calls = places.one_by_one(often.tokens, random);
+        calls.extend((0..often.places).map(|_| places.draw(random)));
+        if second.text.len() <= often.bytes {
+            calls.extend(Token::every(second.text));
+        }
+        calls.iter().for_each(|call| self.token.compare(named, call, proved, second));
     }
 
     /// All waveforms of one text, and all that it lacks.
@@ -67,6 +87,12 @@ impl Comparison {
         let (proved, second) = (Proved(text), Second::new(text));
         let calls = second.document().map_or(Vec::new(), Waveform::every);
         calls.iter().for_each(|call| self.waveform.compare(named, call, &proved, &second));
+    }
+
+    /// The next token at every place of one text.
+    pub fn tokens(&mut self, named: &str, text: &[u8]) {
+        let (proved, second) = (Proved(text), Second::new(text));
+        Token::every(text).iter().for_each(|call| self.token.compare(named, call, &proved, &second));
     }
 
     /// Windows of which rows and visits are known: first, wanted, rows, visits.
@@ -83,7 +109,7 @@ impl Comparison {
     }
 
     fn tallies(&self) -> Vec<&Tally> {
-        vec![&self.check, &self.name, &self.waveform, &self.window]
+        vec![&self.check, &self.name, &self.waveform, &self.window, &self.token]
     }
 
     pub fn differs(&self) -> bool {

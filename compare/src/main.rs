@@ -15,6 +15,7 @@ mod slips;
 mod special;
 mod tally;
 mod texts;
+mod token;
 mod waveform;
 mod window;
 
@@ -24,7 +25,8 @@ const USAGE: &str = "compare FIRST COUNT
 compare one check READER FILE
 compare one name READER FILE signal|table N
 compare one waveform READER FILE TABLE SIGNAL CHARACTER
-compare one window READER FILE FIRST WANTED";
+compare one window READER FILE FIRST WANTED
+compare one token READER FILE AT";
 
 fn main() -> ExitCode {
     let words: Vec<String> = std::env::args().skip(1).collect();

@@ -6,18 +6,44 @@ use crate::lent::{Lent, Slices};
 use crate::name::Name;
 use crate::number;
 use crate::proved::Proved;
-use crate::reader::Second;
+use crate::reader::{next_token, Reader, Second};
 use crate::tally::say;
+use crate::token::Token;
 use crate::waveform::Waveform;
 use second::timing::Asked;
 use std::process::ExitCode;
 
-/// What is counted. The second reader reads the text here too, as the proved one does at each call.
+/// The second reader, which reads its text here at each call, as the proved one does.
+struct Anew<'t>(&'t [u8]);
+
+impl Reader for Anew<'_> {
+    fn check(&self, numbers: &mut [u64]) -> u64 {
+        Second::new(self.0).check(numbers)
+    }
+
+    fn name(&self, table: u8, number: u64, numbers: &mut [u64]) -> u64 {
+        Second::new(self.0).name(table, number, numbers)
+    }
+
+    fn waveform(&self, asked: Asked, times: &mut [u64], letters: &mut [u8], count: &mut [u64]) -> u64 {
+        Second::new(self.0).waveform(asked, times, letters, count)
+    }
+
+    fn window(&self, first: u64, wanted: u64, rows: &mut [u8], numbers: &mut [u64]) -> u64 {
+        Second::new(self.0).window(first, wanted, rows, numbers)
+    }
+
+    fn token(&self, at: u64, numbers: &mut [u64]) -> u64 {
+        next_token(self.0, at, numbers)
+    }
+}
+
+/// What is counted.
 #[inline(never)]
 #[no_mangle]
 fn measured_call(of_second: bool, text: &[u8], call: &dyn Call, lent: Slices) -> u64 {
     if of_second {
-        call.make(&Second::new(text), lent)
+        call.make(&Anew(text), lent)
     } else {
         call.make(&Proved(text), lent)
     }
@@ -54,6 +80,7 @@ fn call_of(service: &str, text: &[u8], numbers: &[&str]) -> Result<Box<dyn Call>
             Ok(Box::new(Waveform::with_room(asked)))
         }
         ("window", [first, wanted]) => window(text, number(first)?, number(wanted)?),
+        ("token", [at]) => Ok(Box::new(Token::with_room(number(at)?))),
         _ => Err(format!("no such service, or not its numbers: {service} {}", numbers.join(" "))),
     }
 }

@@ -36,6 +36,7 @@ extern "C" {
         numbers: *mut u64,
         numbers_room: usize,
     ) -> u64;
+    fn lutemeteor_token(text: *const u8, length: usize, at: u64, numbers: *mut u64, room: usize) -> u64;
 }
 
 /// The proved reader with one text, which it reads at each call.
@@ -86,5 +87,9 @@ impl Reader for Proved<'_> {
                 numbers.len(),
             )
         }
+    }
+
+    fn token(&self, at: u64, numbers: &mut [u64]) -> u64 {
+        unsafe { lutemeteor_token(self.0.as_ptr(), self.0.len(), at, numbers.as_mut_ptr(), numbers.len()) }
     }
 }

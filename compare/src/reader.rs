@@ -3,7 +3,7 @@
 use second::refusal::{Answer, BUFFER_TOO_SHORT, NO_SUCH_ITEM};
 use second::services::Summary;
 use second::timing::Asked;
-use second::{Declared, Document, Refusal};
+use second::{token, Declared, Document, Located, Refusal};
 
 /// Each service gives 0 for an answer, else 32 times the place plus the number of the refusal; then every lent slice is as it was.
 pub trait Reader {
@@ -15,18 +15,23 @@ pub trait Reader {
     fn waveform(&self, asked: Asked, times: &mut [u64], letters: &mut [u8], count: &mut [u64]) -> u64;
     /// Two numbers: rows and visits.
     fn window(&self, first: u64, wanted: u64, rows: &mut [u8], numbers: &mut [u64]) -> u64;
+    /// Three numbers: 1, place and length; or three times 0 where there is no further token.
+    fn token(&self, at: u64, numbers: &mut [u64]) -> u64;
 }
 
 /// The second reader, which reads its text once.
-pub struct Second<'t>(Answer<Document<'t>>);
+pub struct Second<'t> {
+    pub text: &'t [u8],
+    document: Answer<Document<'t>>,
+}
 
 impl<'t> Second<'t> {
     pub fn new(text: &'t [u8]) -> Second<'t> {
-        Second(Document::read(text))
+        Second { text, document: Document::read(text) }
     }
 
     pub fn document(&self) -> Answer<&Document<'t>> {
-        self.0.as_ref().map_err(|&refusal| refusal)
+        self.document.as_ref().map_err(|&refusal| refusal)
     }
 }
 
@@ -36,6 +41,15 @@ pub fn told(answer: Answer<()>) -> u64 {
 
 fn too_short() -> Refusal {
     Refusal::new(BUFFER_TOO_SHORT, 0)
+}
+
+/// The token service, which needs no more of a text than its bytes.
+pub fn next_token(text: &[u8], at: u64, numbers: &mut [u64]) -> u64 {
+    told(token(text, at).and_then(|next| write_next(numbers, next)))
+}
+
+pub fn write_next(room: &mut [u64], next: Option<Located>) -> Answer<()> {
+    write_front(room, next.map_or([0; 3], |next| [1, next.place, next.length]))
 }
 
 /// Writes the numbers to the front; the rest stays.
@@ -76,5 +90,9 @@ impl Reader for Second<'_> {
             numbers.copy_from_slice(&[window.rows, window.visits]);
             Ok(())
         }))
+    }
+
+    fn token(&self, at: u64, numbers: &mut [u64]) -> u64 {
+        next_token(self.text, at, numbers)
     }
 }

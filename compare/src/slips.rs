@@ -1,11 +1,15 @@
 //! That a difference is found: readers that answer as the second one does, but for one slip.
 
 use crate::comparison::{Comparison, Often};
-use crate::reader::{Reader, Second};
+use crate::reader::{told, write_next, Reader, Second};
 use crate::special::SAMPLE;
+use crate::texts::short;
 use second::generate::random::Random;
 use second::generate::{nested, text};
+use second::refusal::Answer;
 use second::timing::Asked;
+use second::tokens::check_bytes;
+use second::{token, Located, Refusal};
 
 #[derive(Clone, Copy, Debug, PartialEq, Eq)]
 enum Slip {
@@ -31,6 +35,26 @@ enum Slip {
     WindowRest,
     WindowShortByWanted,
     WindowWritesThoughRefused,
+    TokenCut,
+    TokenCutShort,
+    TokenWholeWord,
+    TokenLineKnown,
+    TokenReturnEndsLine,
+    TokenStarCloses,
+    TokenPlaceInRest,
+    TokenLength,
+    TokenLastByte,
+    TokenEndRefused,
+    TokenTooLongPastEnd,
+    TokenWholeText,
+    TokenOpenFirst,
+    TokenRoomFirst,
+    TokenTwoNumbers,
+    TokenNoneWithoutRoom,
+    TokenNoneKeeps,
+    TokenRest,
+    TokenWritesThoughRefused,
+    TokenWritesThoughShort,
 }
 
 struct Slipping<'t> {
@@ -124,19 +148,90 @@ impl Reader for Slipping<'_> {
         }
         answer
     }
+
+    fn token(&self, at: u64, numbers: &mut [u64]) -> u64 {
+        let next = self.next(at);
+        let room = numbers.len();
+        match (self.slip, next) {
+            (Slip::TokenRoomFirst, _) if room < 3 => return 19,
+            (Slip::TokenTwoNumbers, Ok(Some(next))) if room == 2 => {
+                numbers.copy_from_slice(&[1, next.place]);
+                return 0;
+            }
+            (Slip::TokenNoneWithoutRoom, Ok(None)) if room < 3 => return 0,
+            (Slip::TokenNoneKeeps, Ok(None)) if room > 2 => {
+                numbers[0] = 0;
+                return 0;
+            }
+            (Slip::TokenRest, Ok(_)) if room > 3 => numbers[3] = 0,
+            (Slip::TokenWritesThoughRefused, Err(_)) if room > 2 => numbers[0] = 0,
+            (Slip::TokenWritesThoughShort, Ok(Some(_))) if (1..3).contains(&room) => numbers[0] = 1,
+            _ => {}
+        }
+        told(next.and_then(|next| write_next(numbers, next)))
+    }
 }
 
-const OFTEN: Often = Often { names: 5, waveforms: 5, windows: 5, every: 20 };
+impl Slipping<'_> {
+    /// Where a slip begins to read.
+    fn begun(&self, at: u64) -> u64 {
+        let text = self.second.text;
+        let (before, rest) = text.split_at(at.min(text.len() as u64) as usize);
+        let upto = |ends: &[u8]| rest.iter().position(|byte| ends.contains(byte)).unwrap_or(rest.len()) as u64;
+        match self.slip {
+            Slip::TokenCut => at & 0xffff_ffff,
+            Slip::TokenCutShort => at & 0xffff,
+            Slip::TokenWholeWord if rest.first().map_or(false, u8::is_ascii_alphanumeric) => {
+                at - before.iter().rev().take_while(|byte| byte.is_ascii_alphanumeric()).count() as u64
+            }
+            Slip::TokenLineKnown if is_in_line_comment(before) => at + upto(b"\n"),
+            Slip::TokenReturnEndsLine if rest.starts_with(b"//") => at + upto(b"\r\n"),
+            Slip::TokenStarCloses if rest.starts_with(b"/*/") => at + 3,
+            _ => at,
+        }
+    }
+
+    fn next(&self, at: u64) -> Answer<Option<Located>> {
+        let text = self.second.text;
+        let length = text.len() as u64;
+        let next = token(text, self.begun(at));
+        match (self.slip, next) {
+            (Slip::TokenPlaceInRest, Ok(Some(next))) => Ok(Some(Located { place: next.place - at, ..next })),
+            (Slip::TokenLength, Ok(Some(next))) => Ok(Some(Located { length: next.length.min(32), ..next })),
+            (Slip::TokenLastByte, Ok(Some(next))) if next.place + 1 == length => Ok(None),
+            (Slip::TokenEndRefused, Ok(None)) if at == length => Err(Refusal { number: 4, place: at }),
+            (Slip::TokenTooLongPastEnd, Err(_)) if at >= length => Ok(None),
+            (Slip::TokenWholeText, Ok(_)) => check_bytes(text).and(next),
+            (Slip::TokenOpenFirst, Err(Refusal { number: 2, .. })) if opens_comment(text, at) => {
+                Err(Refusal { number: 3, place: at })
+            }
+            _ => next,
+        }
+    }
+}
+
+fn is_in_line_comment(before: &[u8]) -> bool {
+    let line = before.rsplit(|&byte| byte == b'\n').next();
+    line.map_or(false, |line| line.windows(2).any(|two| two == b"//"))
+}
+
+/// One that is never closed.
+fn opens_comment(text: &[u8], at: u64) -> bool {
+    let rest = &text[at as usize..];
+    rest.starts_with(b"/*") && !rest[2..].windows(2).any(|two| two == b"*/")
+}
+
+const OFTEN: Often = Often { names: 5, waveforms: 5, windows: 5, every: 20, tokens: 100, places: 20, bytes: 100 };
 
 fn found(slip: Slip) -> bool {
     let mut comparison = Comparison::new();
     let mut random = Random::new(7);
     let seeded = (0..600).flat_map(|seed| [text(seed), nested(seed)]);
-    for text in seeded.chain([SAMPLE.into()]) {
+    seeded.chain([SAMPLE.into()]).chain(short()).any(|text| {
         let slipping = Slipping { second: Second::new(&text), slip };
         comparison.readers(&format!("{slip:?}"), &slipping, &Second::new(&text), OFTEN, &mut random);
-    }
-    comparison.differs()
+        comparison.differs()
+    })
 }
 
 #[test]
@@ -173,6 +268,34 @@ fn each_slip_of_windows_is_found() {
         WindowRest,
         WindowShortByWanted,
         WindowWritesThoughRefused,
+    ];
+    slips.iter().for_each(|&slip| assert!(found(slip), "{slip:?}"));
+}
+
+#[test]
+fn each_slip_of_tokens_is_found() {
+    use Slip::*;
+    let slips = [
+        TokenCut,
+        TokenCutShort,
+        TokenWholeWord,
+        TokenLineKnown,
+        TokenReturnEndsLine,
+        TokenStarCloses,
+        TokenPlaceInRest,
+        TokenLength,
+        TokenLastByte,
+        TokenEndRefused,
+        TokenTooLongPastEnd,
+        TokenWholeText,
+        TokenOpenFirst,
+        TokenRoomFirst,
+        TokenTwoNumbers,
+        TokenNoneWithoutRoom,
+        TokenNoneKeeps,
+        TokenRest,
+        TokenWritesThoughRefused,
+        TokenWritesThoughShort,
     ];
     slips.iter().for_each(|&slip| assert!(found(slip), "{slip:?}"));
 }

@@ -1,10 +1,11 @@
 //! Texts that hold one rule each, with the answer that document 01 gives; most of them fail with 17 in one cycle alone.
 
 mod list;
+mod tokens;
 
 use crate::comparison::{Comparison, Often};
 use second::generate::random::Random;
-use second::{check, Refusal, Summary};
+use second::{check, token, Refusal, Summary};
 
 /// Document 01's own text.
 pub const SAMPLE: &str = "STIL 1.0;
@@ -85,6 +86,13 @@ pub fn compare(comparison: &mut Comparison, often: Often, random: &mut Random) {
     let head =
         Special { why: "two tables", bodies: "", list: "", patterns: "Pattern p { }", due: Due::Accepted(0, 0, 0) };
     comparison.waveforms(head.why, head.text().0.as_bytes());
+    for (why, text, at, due) in tokens::TOKENS {
+        comparison.tokens(why, text);
+        let answer = token(text, at);
+        if answer != due {
+            comparison.token.report(&format!("{why}: second {answer:?}, due {due:?}"));
+        }
+    }
 }
 
 /// What both readers say alike could still be wrong: the second one is held to the answer that is due.

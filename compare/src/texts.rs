@@ -1,4 +1,4 @@
-//! The texts both readers are given: seeded ones, and in each run the special, the hurt and the large ones.
+//! The texts both readers are given: seeded ones, and in each run the special, the hurt, the short and the large ones.
 
 use crate::comparison::{Comparison, Often};
 use crate::special;
@@ -6,20 +6,26 @@ use second::bounds::MAX_TEXT;
 use second::generate::random::Random;
 use second::generate::{large, nested, text, LARGE_KINDS};
 
-const SEEDED: Often = Often { names: 2, waveforms: 3, windows: 4, every: 0 };
-const SPECIAL: Often = Often { names: 100, waveforms: 200, windows: 200, every: 200 };
-const LARGE: Often = Often { names: 0, waveforms: 0, windows: 1, every: 0 };
+const SEEDED: Often = Often { names: 2, waveforms: 3, windows: 4, every: 0, tokens: 400, places: 16, bytes: 64 };
+const EACH: Often = Often { every: 200, bytes: 4_096, ..SEEDED };
+const SPECIAL: Often =
+    Often { names: 100, waveforms: 200, windows: 200, every: 200, tokens: 10_000, places: 200, bytes: 10_000 };
+const LARGE: Often = Often { names: 0, waveforms: 0, windows: 1, every: 0, tokens: 1_000, places: 100, bytes: 0 };
 
-/// One seed in so many has a text made for 17 as well, and one in so many a window at each cycle.
+/// One seed in so many has a text made for 17 as well, and one in so many a window at each cycle and a token at each byte.
 const NESTED: u64 = 2;
 const EVERY: u64 = 64;
 
+/// A byte of each kind that the token rules tell apart, and the length up to which texts of these bytes are all taken.
+const KINDS: [u8; 6] = *b"/*\n\ra\0";
+const MOST_SHORT: usize = 6;
+
 pub fn seeded(seed: u64, comparison: &mut Comparison) {
     let mut random = Random::new(!seed);
-    let every = if seed % EVERY == 0 { 200 } else { 0 };
-    comparison.text(&format!("seed {seed}"), &text(seed), Often { every, ..SEEDED }, &mut random);
+    let often = if seed % EVERY == 0 { EACH } else { SEEDED };
+    comparison.text(&format!("seed {seed}"), &text(seed), often, &mut random);
     if seed % NESTED == 0 {
-        comparison.text(&format!("nested {seed}"), &nested(seed), Often { every, ..SEEDED }, &mut random);
+        comparison.text(&format!("nested {seed}"), &nested(seed), often, &mut random);
     }
 }
 
@@ -28,6 +34,7 @@ pub fn fixed(comparison: &mut Comparison) {
     let mut random = Random::new(0);
     special::compare(comparison, SPECIAL, &mut random);
     hurt(comparison, &mut random);
+    short().iter().for_each(|text| comparison.tokens(&text.escape_ascii().to_string(), text));
     for kind in LARGE_KINDS {
         if let Some(text) = large(kind) {
             comparison.text(&format!("big {kind}"), &text, LARGE, &mut random);
@@ -52,4 +59,21 @@ fn hurt(comparison: &mut Comparison, random: &mut Random) {
     for (byte, length) in [(b' ', MAX_TEXT), (b' ', MAX_TEXT + 1), (b'S', MAX_TEXT), (b'/', MAX_TEXT), (0, MAX_TEXT)] {
         comparison.text(&format!("{length} times byte {byte}"), &vec![byte; length], SEEDED, random);
     }
+}
+
+/// For the token rules: every byte alone, in a word, behind a slash and in comments; then all texts of a few bytes of `KINDS`.
+pub fn short() -> Vec<Vec<u8>> {
+    let around: [(&[u8], &[u8]); 6] =
+        [(b"", b""), (b"a", b"a;"), (b"/", b"a"), (b" //", b"a\n;"), (b"/*", b"*/a"), (b"/*", b"")];
+    let mut texts = Vec::new();
+    for (before, after) in around {
+        texts.extend((0..=255).map(|byte| [before, &[byte], after].concat()));
+    }
+    let mut last = vec![Vec::new()];
+    for _ in 0..MOST_SHORT {
+        texts.extend_from_slice(&last);
+        last = last.iter().flat_map(|text| KINDS.map(|byte| [text, &[byte][..]].concat())).collect();
+    }
+    texts.extend(last);
+    texts
 }
