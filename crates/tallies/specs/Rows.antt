@@ -1,0 +1,145 @@
+-- What the code keeps of a sum: a row of bytes for each body, and what is promised of each step.
+use Prim.Native.Nat.{ℕ, suc, _+_, _*_, _<_, _≤_}
+use mathlib.Core.Path.{_≡_}
+use mathlib.Core.Bool.{Bool, true, false, not, _&&_}
+use mathlib.Core.Option.{Option, none, some}
+use mathlib.Core.List.{List}
+use lib.ListN.{length, getD}
+use lib.Dec.{eqb, ltb}
+use Rattle.meaning.specs.Bounds.{signalsMost, tablesMost}
+use Rattle.meaning.specs.Lists.{has}
+use Rattle.meaning.specs.Timing.{Tables}
+use Rattle.meaning.specs.Meaning.{hasWave, tableAt}
+use Rattle.meaning.specs.Body.{mark}
+use Rattle.timing.specs.Held.{Held}
+use Rattle.pins.specs.Shown.{tableOf}
+use Rattle.sums.specs.Sums.{Shown, before, argument, char, Sum, orTable}
+use Rattle.sums.specs.Parts.{Kept, Shows, behind}
+
+-- ---- where things stand in a row
+
+-- the text's tables, and the one before
+abbrev pub slots : ℕ
+slots = suc tablesMost
+
+abbrev pub givenFrom : ℕ
+givenFrom = signalsMost * slots
+
+abbrev pub pinsFrom : ℕ
+pinsFrom = givenFrom * 2
+
+abbrev pub fineFrom : ℕ
+fineFrom = pinsFrom + signalsMost
+
+abbrev pub badPlace : ℕ
+badPlace = fineFrom + tablesMost
+
+abbrev pub rowSize : ℕ
+rowSize = badPlace + 3
+
+abbrev pub byteAt : List ℕ → ℕ → ℕ → ℕ
+byteAt sums r p = getD sums (r * rowSize + p) 0
+
+abbrev pub flagAt : List ℕ → ℕ → ℕ → Bool
+flagAt sums r p = not (eqb (byteAt sums r p) 0)
+
+-- a table's slot
+abbrev pub slotOf : Option ℕ → ℕ
+slotOf none = tablesMost
+slotOf (some k) = k
+
+-- is it one?
+abbrev pub isSlot : Option ℕ → Bool
+isSlot none = true
+isSlot (some k) = ltb k tablesMost
+
+-- a signal's byte: 0, `#`, or a character
+unfoldable pub shownOf : ℕ → Shown
+shownOf b = elim (eqb b 0) [ true ↦ before | false ↦ elim (eqb b mark) [ true ↦ argument | false ↦ char b ] ]
+
+-- THE SUM that a row holds
+abbrev pub sumAt : List ℕ → ℕ → Sum
+sumAt sums r = record {
+  bad = flagAt sums r badPlace;
+  needs = flagAt sums r (badPlace + 1);
+  fine = λ k. ltb k tablesMost && flagAt sums r (fineFrom + k);
+  under = λ i t. (ltb i signalsMost && isSlot t) && flagAt sums r (i * slots + slotOf t);
+  given = λ i t. (ltb i signalsMost && isSlot t) && flagAt sums r (givenFrom + (i * slots + slotOf t));
+  pin = λ i. elim (ltb i signalsMost) [ true ↦ shownOf (byteAt sums r (pinsFrom + i)) | false ↦ before ];
+  table = tableOf (byteAt sums r (badPlace + 2));
+}
+
+-- ---- what a step promises
+
+-- only the row r was written
+pub record Only (r : ℕ) (sums sums′ : List ℕ) : Type 0 where
+  pub long : length sums′ ≡ length sums
+  pub below : (p : ℕ) → p < r * rowSize → getD sums′ p 0 ≡ getD sums p 0
+  pub above : (p : ℕ) → r * rowSize + rowSize ≤ p → getD sums′ p 0 ≡ getD sums p 0
+
+-- a byte of it was stored
+pub record Stored (r p v : ℕ) (sums sums′ : List ℕ) : Type 0 where
+  pub only : Only r sums sums′
+  pub here : byteAt sums′ r p ≡ v
+  pub else : (q : ℕ) → (q ≡ p → ⊥) → byteAt sums′ r q ≡ byteAt sums r q
+
+-- it asks for more than before, and leaves the same
+pub record More (r : ℕ) (sums sums′ : List ℕ) : Type 0 where
+  pub only : Only r sums sums′
+  pub kept : (n : ℕ) → Kept n (sumAt sums r) (sumAt sums′ r)
+  pub pins-are : (i : ℕ) → sumAt sums′ r .pin i ≡ sumAt sums r .pin i
+  pub table-is : sumAt sums′ r .table ≡ sumAt sums r .table
+
+-- the waveforms' marks hold the tables
+abbrev pub Marked : List ℕ → Tables → Type 0
+Marked waves tabs = (text : List ℕ) × (tplaces : List ℕ) × (k : ℕ) × Held text tplaces waves k tabs
+
+-- a character of signal i was shown under the table before, whichever that is
+pub record Inherits (tabs : Tables) (i c : ℕ) (R : Sum) : Type 0 where
+  pub needs : R .needs ≡ true
+  pub fine : (k : ℕ) → R .fine k ≡ true → hasWave i c (tableAt tabs k) ≡ true
+
+-- t is the slot of the table in force; where that is the one before, it is asked for
+pub record Needed (t : ℕ) (sums sums′ : List ℕ) (r : ℕ) : Type 0 where
+  pub slot : t < slots
+  pub is : tableOf t ≡ sumAt sums r .table
+  pub needs : sumAt sums r .table ≡ none → sumAt sums′ r .needs ≡ true
+
+-- what a body of sum U shows by itself under the table before it is asked behind S
+pub record Tabled (S U R : Sum) : Type 0 where
+  pub chosen : (k : ℕ) → S .table ≡ some k → R .bad ≡ false → U .fine k ≡ true
+  pub inherited : S .table ≡ none → (R .needs ≡ true) × ((k : ℕ) → R .fine k ≡ true → U .fine k ≡ true)
+
+-- what it asks by itself
+pub record Asked (S U R : Sum) : Type 0 where
+  pub good : R .bad ≡ false → U .bad ≡ false
+  pub tabled : U .needs ≡ true → Tabled S U R
+
+-- x was shown on signal i under each slot that is marked in the row `from`, from a place on; the last slot is the table in force
+pub record ShownWhere (tabs : Tables) (r from place i : ℕ) (x : Shown) (sums sums′ : List ℕ) : Type 0 where
+  pub shows : (t : Option ℕ) → isSlot t ≡ true → flagAt sums from (place + slotOf t) ≡ true
+      → Shows tabs i x (orTable t (sumAt sums r .table)) (sumAt sums′ r)
+
+-- so was each character of its argument
+pub record FedWhere (tabs : Tables) (r from i : ℕ) (cs : List ℕ) (sums sums′ : List ℕ) : Type 0 where
+  pub each : (c : ℕ) → has c cs ≡ true → ShownWhere tabs r from (givenFrom + i * slots) i (shownOf c) sums sums′
+
+-- of what the row leaves, only signal i is another
+pub record Passed (r i : ℕ) (sums sums′ : List ℕ) : Type 0 where
+  pub only : Only r sums sums′
+  pub kept : (n : ℕ) → Kept n (sumAt sums r) (sumAt sums′ r)
+  pub pins-are : (j : ℕ) → (j ≡ i → ⊥) → sumAt sums′ r .pin j ≡ sumAt sums r .pin j
+  pub table-is : sumAt sums′ r .table ≡ sumAt sums r .table
+
+-- a body entered in place, as signal i sees it, whose argument is cs
+pub record OnSignal (tabs : Tables) (r from i : ℕ) (cs : List ℕ) (sums sums′ : List ℕ) : Type 0 where
+  pub shown : ShownWhere tabs r from (i * slots) i (sumAt sums r .pin i) sums sums′
+  pub fed : FedWhere tabs r from i cs sums sums′
+  pub pin-is : sumAt sums′ r .bad ≡ false → sumAt sums′ r .pin i ≡ behind (sumAt sums r .pin i) (sumAt sums from .pin i) cs
+
+-- the table that a body of sum U chose is in force
+pub record Retabled (r : ℕ) (U : Sum) (sums sums′ : List ℕ) : Type 0 where
+  pub only : Only r sums sums′
+  pub kept : (n : ℕ) → Kept n (sumAt sums r) (sumAt sums′ r)
+  pub pins-are : (i : ℕ) → sumAt sums′ r .pin i ≡ sumAt sums r .pin i
+  pub table-is : sumAt sums′ r .table ≡ orTable (U .table) (sumAt sums r .table)

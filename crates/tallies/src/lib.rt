@@ -1,0 +1,457 @@
+// Sums of bodies, a row of bytes each: what a body asks of the state in which it begins, so that no cycle of it fails, and what it leaves.
+ghost use mathlib.Core.Path.{_≡_};
+ghost use mathlib.Core.Bool.{true, false};
+ghost use mathlib.Core.Option.{none};
+ghost use mathlib.Core.List.{List};
+ghost use Prim.Native.Nat.{ℕ, _+_, _*_, _<_, _≤_};
+ghost use lib.ListN.{length};
+ghost use Rattle.meaning.specs.Bounds.{signalsMost, tablesMost};
+ghost use Rattle.meaning.specs.Timing.{Tables};
+ghost use Rattle.meaning.specs.Meaning.{hasWave, tableAt};
+ghost use Rattle.meaning.specs.Lists.{has};
+ghost use Rattle.meaning.specs.Body.{Assigns, Args, mark, argOf};
+ghost use Rattle.timing.specs.Marks.{tableSize};
+ghost use Rattle.measures.specs.Uses.{Given};
+ghost use Rattle.arguments.specs.Supplied.{Supplied, DataAt};
+ghost use Rattle.sums.specs.Parts.{Nothing, Assigned, Chosen, Shows, Cycled, InPlace, Called, Alone, lastOf, behind};
+ghost use Rattle.pins.specs.Shown.{tableOf};
+ghost use Rattle.tallies.specs.Rows.{slots, rowSize, byteAt, shownOf, sumAt, Only, Stored, More, Marked, Inherits, Needed, Tabled, Asked, ShownWhere, FedWhere, Passed, OnSignal, Retabled};
+
+const MARK: u8 = 35;
+
+const CHARS: usize = 128;
+// The text's tables, and the one before.
+const SLOTS: usize = timing::TABLES + 1;
+
+const GIVEN: usize = sets::MOST * SLOTS;
+
+const PINS: usize = GIVEN * 2;
+
+const FINE: usize = PINS + sets::MOST;
+
+const BAD: usize = FINE + timing::TABLES;
+
+const NEEDS: usize = BAD + 1;
+
+const TABLE: usize = BAD + 2;
+
+pub const ROW: usize = BAD + 3;
+
+// ---- a byte of a row
+
+fn byte(sums: &[u8], r: usize, p: usize) -> u8
+    requires { ⌜ (r * rowSize + rowSize ≤ length (now sums)) × (p < rowSize) ⌝ }
+    ensures { λ b. ⌜ b ≡ byteAt (now (sums .entry)) r p ⌝ }
+{
+    sums[r * ROW + p]
+}
+
+fn store(sums: &mut [u8], r: usize, p: usize, b: u8)
+    requires { ⌜ (r * rowSize + rowSize ≤ length (now sums)) × (p < rowSize) ⌝ }
+    ensures { λ _. ⌜ Stored r p b (now (sums .entry)) (now (sums .exit)) ⌝ }
+{
+    sums[r * ROW + p] = b;
+}
+
+// ---- one row
+
+// Nothing was played.
+pub fn clear(sums: &mut [u8], r: usize)
+    requires { ⌜ (r * rowSize + rowSize ≤ length (now sums)) ⌝ }
+    ensures { λ _. ⌜ Only r (now (sums .entry)) (now (sums .exit)) × ((n : ℕ) → Nothing n (sumAt (now (sums .exit)) r)) ⌝ }
+{
+    let mut i = 0;
+    while i < ROW {
+        store(sums, r, i, 0);
+        i += 1;
+    }
+    let mut k = 0;
+    while k < timing::TABLES {
+        store(sums, r, FINE + k, 1);
+        k += 1;
+    }
+    store(sums, r, TABLE, timing::TABLES as u8);
+}
+
+// Assignments: each signal has its character, or the next of its argument.
+pub fn assign(sums: &mut [u8], r: usize, given: &[u8])
+    requires { ⌜ (r * rowSize + rowSize ≤ length (now sums)) × (length (now given) ≡ signalsMost) ⌝ }
+    ensures { λ _. ⌜ Only r (now (sums .entry)) (now (sums .exit)) × ((n : ℕ) (a : Assigns) → Given a (now (given .entry)) → Assigned n a (sumAt (now (sums .entry)) r) (sumAt (now (sums .exit)) r)) ⌝ }
+{
+    let mut s = 0;
+    while s < sets::MOST {
+        if given[s] != 0 {
+            store(sums, r, PINS + s, given[s]);
+        }
+        s += 1;
+    }
+}
+
+pub fn choose(sums: &mut [u8], r: usize, k: usize)
+    requires { ⌜ (r * rowSize + rowSize ≤ length (now sums)) × (k < tablesMost) ⌝ }
+    ensures { λ _. ⌜ Only r (now (sums .entry)) (now (sums .exit)) × ((n : ℕ) → Chosen n k (sumAt (now (sums .entry)) r) (sumAt (now (sums .exit)) r)) ⌝ }
+{
+    store(sums, r, TABLE, k as u8);
+}
+
+// A cycle of it may fail, whatever stood before.
+pub fn spoil(sums: &mut [u8], r: usize)
+    requires { ⌜ (r * rowSize + rowSize ≤ length (now sums)) ⌝ }
+    ensures { λ _. ⌜ More r (now (sums .entry)) (now (sums .exit)) × (sumAt (now (sums .exit)) r .bad ≡ true) ⌝ }
+{
+    store(sums, r, BAD, 1);
+}
+
+pub fn is_bad(sums: &[u8], r: usize) -> bool
+    requires { ⌜ (r * rowSize + rowSize ≤ length (now sums)) ⌝ }
+    ensures { λ b. ⌜ b ≡ sumAt (now (sums .entry)) r .bad ⌝ }
+{
+    byte(sums, r, BAD) != 0
+}
+
+// ---- what is shown
+
+// Has the character a waveform in the table?
+fn has(waves: &[u8], k: usize, s: usize, c: u8) -> bool
+    requires { ⌜ (length (now waves) ≡ tablesMost * tableSize) × (k < tablesMost) × (s < signalsMost) ⌝ }
+    ensures { λ r. ⌜ ((tabs : Tables) → Marked (now (waves .entry)) tabs → r ≡ hasWave s c (tableAt tabs k)) ⌝ }
+{
+    let b = c as usize;
+    if CHARS <= b {
+        return false;
+    }
+    waves[(k * sets::MOST + s) * CHARS + b] == 1
+}
+
+// A character is shown under the table before, whichever that is.
+fn show_before(sums: &mut [u8], r: usize, waves: &[u8], s: usize, x: u8)
+    requires { ⌜ (r * rowSize + rowSize ≤ length (now sums)) × (length (now waves) ≡ tablesMost * tableSize) × (s < signalsMost) ⌝ }
+    ensures { λ _. ⌜ More r (now (sums .entry)) (now (sums .exit)) × ((tabs : Tables) → Marked (now (waves .entry)) tabs → Inherits tabs s x (sumAt (now (sums .exit)) r)) ⌝ }
+{
+    store(sums, r, NEEDS, 1);
+    let mut k = 0;
+    while k < timing::TABLES {
+        if !has(waves, k, s, x) {
+            store(sums, r, FINE + k, 0);
+        }
+        k += 1;
+    }
+}
+
+// Something is shown on a signal under a table, by its slot: what stood there before, its argument, or a character, which has its waveform there or not.
+fn show(sums: &mut [u8], r: usize, waves: &[u8], s: usize, x: u8, t: usize)
+    requires { ⌜ (r * rowSize + rowSize ≤ length (now sums)) × (length (now waves) ≡ tablesMost * tableSize) × (s < signalsMost) × (t < slots) ⌝ }
+    ensures { λ _. ⌜ More r (now (sums .entry)) (now (sums .exit)) × ((tabs : Tables) → Marked (now (waves .entry)) tabs → Shows tabs s (shownOf x) (tableOf t) (sumAt (now (sums .exit)) r)) ⌝ }
+{
+    if x == 0 {
+        store(sums, r, s * SLOTS + t, 1);
+        return;
+    }
+    if x == MARK {
+        store(sums, r, GIVEN + (s * SLOTS + t), 1);
+        return;
+    }
+    if timing::TABLES <= t {
+        show_before(sums, r, waves, s, x);
+        return;
+    }
+    if !has(waves, t, s, x) {
+        spoil(sums, r);
+    }
+}
+
+// The slot of the row's table: any byte that is no table's stands for the one before.
+fn in_force(sums: &[u8], r: usize) -> usize
+    requires { ⌜ (r * rowSize + rowSize ≤ length (now sums)) ⌝ }
+    ensures { λ t. ⌜ (t < slots) × (tableOf t ≡ sumAt (now (sums .entry)) r .table) ⌝ }
+{
+    let t = byte(sums, r, TABLE) as usize;
+    if t < timing::TABLES {
+        return t;
+    }
+    timing::TABLES
+}
+
+// The same; where it is the one before, that is asked for.
+fn need_table(sums: &mut [u8], r: usize) -> usize
+    requires { ⌜ (r * rowSize + rowSize ≤ length (now sums)) ⌝ }
+    ensures { λ t. ⌜ More r (now (sums .entry)) (now (sums .exit)) × Needed t (now (sums .entry)) (now (sums .exit)) r ⌝ }
+{
+    let t = in_force(sums, r);
+    if t == timing::TABLES {
+        store(sums, r, NEEDS, 1);
+    }
+    t
+}
+
+// A cycle: all that stands on the signals is shown under the table in force.
+pub fn cycle(sums: &mut [u8], r: usize, waves: &[u8], signals: usize)
+    requires { ⌜ (r * rowSize + rowSize ≤ length (now sums)) × (length (now waves) ≡ tablesMost * tableSize) × (signals ≤ signalsMost) ⌝ }
+    ensures { λ _. ⌜ Only r (now (sums .entry)) (now (sums .exit)) × ((tabs : Tables) → Marked (now (waves .entry)) tabs → Cycled tabs signals (sumAt (now (sums .entry)) r) (sumAt (now (sums .exit)) r)) ⌝ }
+{
+    let t = need_table(sums, r);
+    let mut s = 0;
+    while s < signals {
+        let x = byte(sums, r, PINS + s);
+        show(sums, r, waves, s, x, t);
+        s += 1;
+    }
+}
+
+// ---- what a body asks by itself, behind the row `to`
+
+// Only those tables are fine before that are so for both.
+fn narrow(sums: &mut [u8], to: usize, from: usize)
+    requires { ⌜ (to * rowSize + rowSize ≤ length (now sums)) × (from * rowSize + rowSize ≤ length (now sums)) × (from ≡ to → ⊥) ⌝ }
+    ensures { λ _. ⌜ More to (now (sums .entry)) (now (sums .exit)) × ((k : ℕ) → sumAt (now (sums .exit)) to .fine k ≡ true → sumAt (now (sums .entry)) from .fine k ≡ true) ⌝ }
+{
+    let mut k = 0;
+    while k < timing::TABLES {
+        if byte(sums, from, FINE + k) == 0 {
+            store(sums, to, FINE + k, 0);
+        }
+        k += 1;
+    }
+}
+
+// What it shows under the table before it.
+fn ask_table(sums: &mut [u8], to: usize, from: usize)
+    requires { ⌜ (to * rowSize + rowSize ≤ length (now sums)) × (from * rowSize + rowSize ≤ length (now sums)) × (from ≡ to → ⊥) ⌝ }
+    ensures { λ _. ⌜ More to (now (sums .entry)) (now (sums .exit)) × Tabled (sumAt (now (sums .entry)) to) (sumAt (now (sums .entry)) from) (sumAt (now (sums .exit)) to) ⌝ }
+{
+    let t = need_table(sums, to);
+    if timing::TABLES <= t {
+        narrow(sums, to, from);
+        return;
+    }
+    if byte(sums, from, FINE + t) == 0 {
+        spoil(sums, to);
+    }
+}
+
+fn ask_good(sums: &mut [u8], to: usize, from: usize)
+    requires { ⌜ (to * rowSize + rowSize ≤ length (now sums)) × (from * rowSize + rowSize ≤ length (now sums)) × (from ≡ to → ⊥) ⌝ }
+    ensures { λ _. ⌜ More to (now (sums .entry)) (now (sums .exit)) × (sumAt (now (sums .exit)) to .bad ≡ false → sumAt (now (sums .entry)) from .bad ≡ false) ⌝ }
+{
+    if byte(sums, from, BAD) != 0 {
+        spoil(sums, to);
+    }
+}
+
+fn ask(sums: &mut [u8], to: usize, from: usize)
+    requires { ⌜ (to * rowSize + rowSize ≤ length (now sums)) × (from * rowSize + rowSize ≤ length (now sums)) × (from ≡ to → ⊥) ⌝ }
+    ensures { λ _. ⌜ More to (now (sums .entry)) (now (sums .exit)) × Asked (sumAt (now (sums .entry)) to) (sumAt (now (sums .entry)) from) (sumAt (now (sums .exit)) to) ⌝ }
+{
+    ask_good(sums, to, from);
+    if byte(sums, from, NEEDS) != 0 {
+        ask_table(sums, to, from);
+    }
+}
+
+// ---- what it shows of a signal
+
+// Something is shown wherever the body shows what stood on a signal before, or its argument: `place` is where the slots of that stand in its row.
+fn show_where(sums: &mut [u8], to: usize, from: usize, place: usize, waves: &[u8], s: usize, x: u8)
+    requires { ⌜ (to * rowSize + rowSize ≤ length (now sums)) × (from * rowSize + rowSize ≤ length (now sums)) × (from ≡ to → ⊥) × (place + slots ≤ rowSize) × (length (now waves) ≡ tablesMost * tableSize) × (s < signalsMost) ⌝ }
+    ensures { λ _. ⌜ More to (now (sums .entry)) (now (sums .exit)) × ((tabs : Tables) → Marked (now (waves .entry)) tabs → ShownWhere tabs to from place s (shownOf x) (now (sums .entry)) (now (sums .exit))) ⌝ }
+{
+    let mut t = 0;
+    while t < timing::TABLES {
+        if byte(sums, from, place + t) != 0 {
+            show(sums, to, waves, s, x, t);
+        }
+        t += 1;
+    }
+    if byte(sums, from, place + timing::TABLES) != 0 {
+        show(sums, to, waves, s, x, in_force(sums, to));
+    }
+}
+
+// A signal's argument, of so many characters: each is shown wherever the body shows the argument. The answer is the last one, 0 for none.
+fn feed(
+    text: &[u8],
+    sums: &mut [u8],
+    to: usize,
+    from: usize,
+    waves: &[u8],
+    s: usize,
+    place: usize,
+    count: usize,
+) -> u8
+    requires { ⌜ (to * rowSize + rowSize ≤ length (now sums)) × (from * rowSize + rowSize ≤ length (now sums)) × (from ≡ to → ⊥) × (length (now waves) ≡ tablesMost * tableSize) × (s < signalsMost) ⌝ }
+    ensures { λ r. ⌜ More to (now (sums .entry)) (now (sums .exit)) × ((cs : List ℕ) → DataAt (now (text .entry)) place cs → length cs ≡ count → (r ≡ lastOf cs 0) × ((tabs : Tables) → Marked (now (waves .entry)) tabs → FedWhere tabs to from s cs (now (sums .entry)) (now (sums .exit)))) ⌝ }
+{
+    let mut f = feeds::start(place);
+    let mut last = 0;
+    let mut i = 0;
+    while i < count {
+        let x = feeds::next(text, f);
+        last = x.char;
+        f = x.feed;
+        show_where(sums, to, from, GIVEN + s * SLOTS, waves, s, last);
+        i += 1;
+    }
+    last
+}
+
+// The same, where the signal has one.
+fn feed_signal(
+    text: &[u8],
+    sums: &mut [u8],
+    to: usize,
+    from: usize,
+    waves: &[u8],
+    s: usize,
+    given: &[u8],
+    args: &[usize],
+) -> u8
+    requires { ⌜ (to * rowSize + rowSize ≤ length (now sums)) × (from * rowSize + rowSize ≤ length (now sums)) × (from ≡ to → ⊥) × (length (now waves) ≡ tablesMost * tableSize) × (s < signalsMost) × (length (now given) ≡ signalsMost) × (length (now args) ≡ signalsMost * 2) ⌝ }
+    ensures { λ r. ⌜ More to (now (sums .entry)) (now (sums .exit)) × ((xs : Args) → Supplied (now (text .entry)) xs (now (given .entry)) (now (args .entry)) → (r ≡ lastOf (argOf s xs) 0) × ((tabs : Tables) → Marked (now (waves .entry)) tabs → FedWhere tabs to from s (argOf s xs) (now (sums .entry)) (now (sums .exit)))) ⌝ }
+{
+    if given[s] == 0 {
+        return 0;
+    }
+    feed(
+        text,
+        sums,
+        to,
+        from,
+        waves,
+        s,
+        args[sets::MOST + s],
+        args[s],
+    )
+}
+
+// ---- a body entered in place: a macro, or a Loop's
+
+// What it leaves on a signal; `last` is its argument's last character. Without one nothing is known of `#`.
+fn leave(sums: &mut [u8], to: usize, from: usize, s: usize, last: u8)
+    requires { ⌜ (to * rowSize + rowSize ≤ length (now sums)) × (from * rowSize + rowSize ≤ length (now sums)) × (from ≡ to → ⊥) × (s < signalsMost) ⌝ }
+    ensures { λ _. ⌜ Passed to s (now (sums .entry)) (now (sums .exit)) × ((cs : List ℕ) → last ≡ lastOf cs 0 → has mark cs ≡ false → sumAt (now (sums .exit)) to .bad ≡ false → sumAt (now (sums .exit)) to .pin s ≡ behind (sumAt (now (sums .entry)) to .pin s) (sumAt (now (sums .entry)) from .pin s) cs) ⌝ }
+{
+    let u = byte(sums, from, PINS + s);
+    if u == 0 {
+        return;
+    }
+    if u != MARK {
+        store(sums, to, PINS + s, u);
+        return;
+    }
+    if last == 0 {
+        spoil(sums, to);
+        return;
+    }
+    store(sums, to, PINS + s, last);
+}
+
+// As a signal sees it.
+fn enter(
+    text: &[u8],
+    sums: &mut [u8],
+    to: usize,
+    from: usize,
+    waves: &[u8],
+    s: usize,
+    given: &[u8],
+    args: &[usize],
+)
+    requires { ⌜ (to * rowSize + rowSize ≤ length (now sums)) × (from * rowSize + rowSize ≤ length (now sums)) × (from ≡ to → ⊥) × (length (now waves) ≡ tablesMost * tableSize) × (s < signalsMost) × (length (now given) ≡ signalsMost) × (length (now args) ≡ signalsMost * 2) ⌝ }
+    ensures { λ _. ⌜ Passed to s (now (sums .entry)) (now (sums .exit)) × ((xs : Args) → Supplied (now (text .entry)) xs (now (given .entry)) (now (args .entry)) → (tabs : Tables) → Marked (now (waves .entry)) tabs → OnSignal tabs to from s (argOf s xs) (now (sums .entry)) (now (sums .exit))) ⌝ }
+{
+    let x = byte(sums, to, PINS + s);
+    show_where(sums, to, from, s * SLOTS, waves, s, x);
+    let last = feed_signal(text, sums, to, from, waves, s, given, args);
+    leave(sums, to, from, s, last);
+}
+
+fn retable(sums: &mut [u8], to: usize, from: usize)
+    requires { ⌜ (to * rowSize + rowSize ≤ length (now sums)) × (from * rowSize + rowSize ≤ length (now sums)) × (from ≡ to → ⊥) ⌝ }
+    ensures { λ _. ⌜ Retabled to (sumAt (now (sums .entry)) from) (now (sums .entry)) (now (sums .exit)) ⌝ }
+{
+    let k = byte(sums, from, TABLE);
+    if (k as usize) < timing::TABLES {
+        store(sums, to, TABLE, k);
+    }
+}
+
+// What it asks is asked behind the row `to`, and what it leaves is left there.
+pub fn in_place(
+    text: &[u8],
+    sums: &mut [u8],
+    to: usize,
+    from: usize,
+    waves: &[u8],
+    signals: usize,
+    given: &[u8],
+    args: &[usize],
+)
+    requires { ⌜ (to * rowSize + rowSize ≤ length (now sums)) × (from * rowSize + rowSize ≤ length (now sums)) × (from ≡ to → ⊥) × (length (now waves) ≡ tablesMost * tableSize) × (signals ≤ signalsMost) × (length (now given) ≡ signalsMost) × (length (now args) ≡ signalsMost * 2) ⌝ }
+    ensures { λ _. ⌜ Only to (now (sums .entry)) (now (sums .exit)) × (sumAt (now (sums .entry)) to .bad ≡ true → sumAt (now (sums .exit)) to .bad ≡ true) × ((xs : Args) → Supplied (now (text .entry)) xs (now (given .entry)) (now (args .entry)) → (tabs : Tables) → Marked (now (waves .entry)) tabs → sumAt (now (sums .exit)) to .bad ≡ false → InPlace tabs signals (sumAt (now (sums .entry)) to) (sumAt (now (sums .entry)) from) (λ i. argOf i xs) (sumAt (now (sums .exit)) to)) ⌝ }
+{
+    ask(sums, to, from);
+    let mut s = 0;
+    while s < signals {
+        enter(text, sums, to, from, waves, s, given, args);
+        s += 1;
+    }
+    retable(sums, to, from);
+}
+
+// ---- a procedure
+
+// A signal begins unassigned; where the body shows that under the table before, there must be one.
+fn show_unassigned(sums: &mut [u8], to: usize, from: usize, s: usize)
+    requires { ⌜ (to * rowSize + rowSize ≤ length (now sums)) × (from * rowSize + rowSize ≤ length (now sums)) × (from ≡ to → ⊥) × (s < signalsMost) ⌝ }
+    ensures { λ _. ⌜ More to (now (sums .entry)) (now (sums .exit)) × (sumAt (now (sums .entry)) from .under s none ≡ true → sumAt (now (sums .entry)) to .table ≡ none → sumAt (now (sums .exit)) to .needs ≡ true) ⌝ }
+{
+    if byte(sums, from, s * SLOTS + timing::TABLES) != 0 {
+        need_table(sums, to);
+    }
+}
+
+// What it asks is asked behind the row `to`, and nothing else is left there.
+pub fn called(
+    text: &[u8],
+    sums: &mut [u8],
+    to: usize,
+    from: usize,
+    waves: &[u8],
+    signals: usize,
+    given: &[u8],
+    args: &[usize],
+)
+    requires { ⌜ (to * rowSize + rowSize ≤ length (now sums)) × (from * rowSize + rowSize ≤ length (now sums)) × (from ≡ to → ⊥) × (length (now waves) ≡ tablesMost * tableSize) × (signals ≤ signalsMost) × (length (now given) ≡ signalsMost) × (length (now args) ≡ signalsMost * 2) ⌝ }
+    ensures { λ _. ⌜ More to (now (sums .entry)) (now (sums .exit)) × ((xs : Args) → Supplied (now (text .entry)) xs (now (given .entry)) (now (args .entry)) → (tabs : Tables) → Marked (now (waves .entry)) tabs → Called tabs signals (sumAt (now (sums .entry)) to) (sumAt (now (sums .entry)) from) (λ i. argOf i xs) (sumAt (now (sums .exit)) to)) ⌝ }
+{
+    ask(sums, to, from);
+    let mut s = 0;
+    while s < signals {
+        show_unassigned(sums, to, from, s);
+        feed_signal(text, sums, to, from, waves, s, given, args);
+        s += 1;
+    }
+}
+
+// ---- a listed pattern
+
+// Does it ask nothing that isn't there, without a table and with every signal unassigned?
+pub fn grants(sums: &[u8], r: usize, signals: usize) -> bool
+    requires { ⌜ (r * rowSize + rowSize ≤ length (now sums)) × (signals ≤ signalsMost) ⌝ }
+    ensures { λ b. ⌜ (b ≡ true → Alone signals (sumAt (now (sums .entry)) r)) ⌝ }
+{
+    if byte(sums, r, BAD) != 0 {
+        return false;
+    }
+    if byte(sums, r, NEEDS) != 0 {
+        return false;
+    }
+    let mut s = 0;
+    while s < signals {
+        if byte(sums, r, s * SLOTS + timing::TABLES) != 0 {
+            return false;
+        }
+        s += 1;
+    }
+    true
+}
