@@ -197,7 +197,7 @@ fn told<'a>(
     }
 }
 
-// The first cycle of a text's run that fails, where 1 to 16 leave the text.
+// The first cycle of a text's run that fails, where 1 to 16 leave the text. Where the sums of its bodies show that none does, nothing is played.
 pub fn failing<'a>(
     text: &'a [u8],
     places: &'a [usize],
@@ -214,6 +214,26 @@ pub fn failing<'a>(
 {
     let parts = v.parts;
     let known = parts.known;
+    let granted = grants::granted(
+        text,
+        places,
+        lists,
+        tplaces,
+        book,
+        rows,
+        waves,
+        list,
+        known,
+        parts.signals,
+        parts.listed,
+        parts.patterns,
+    );
+    if granted {
+        return Failing {
+            failed: false,
+            place: 0,
+        };
+    }
     plays::first_failing(
         text,
         places,

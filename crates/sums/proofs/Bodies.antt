@@ -3,11 +3,12 @@ use Prim.Native.Nat.{ℕ, zero, suc}
 use native.Mathlib.Nat.{mul-zero}
 use native.Mathlib.Omega.{arith}
 use mathlib.Core.Path.{_≡_, refl, sym, ap, ap₂, _∙_, subst}
+use mathlib.Core.Bool.{true}
 use mathlib.Core.List.{[], append-nil}
 use lib.ListN.{length, drop, length-replicate, drop-of-length-le}
 use Rattle.meaning.specs.Lists.{count}
 use Rattle.meaning.specs.Timing.{Tables}
-use Rattle.meaning.specs.Body.{Args, macro, procedure, looped, entered, Body, done, inner, outside, inShift, shifting, argOf}
+use Rattle.meaning.specs.Body.{Args, Kind, macro, procedure, listed, looped, entered, Body, done, inner, outside, inShift, shifting, argOf}
 use Rattle.meaning.specs.Run.{shiftOf, State, Played, bare, follow, again, entering, playing, play}
 use Rattle.meaning.specs.Meaning.{firstFailing}
 use Rattle.meaning.proofs.Turns.{Plain, keeps, plain-twice, copies, loop-turns, orElse, fails-++, fails-copies}
@@ -17,9 +18,28 @@ use Rattle.sums.specs.Parts.{Kept, InPlace, Called, Exact, noArgs, Loope
 use Rattle.sums.proofs.Taken.{plain-due}
 use Rattle.sums.proofs.Asked.{asks-kept, asks-placed, asks-called}
 use Rattle.sums.proofs.Left.{leaves-alike, leaves-placed}
-use Rattle.sums.proofs.Adds.{Plays, added}
+use Rattle.sums.proofs.Adds.{Takes, Plays, spoilt, added}
 use Rattle.sums.proofs.Free.{feeding, plain-free}
 use Rattle.sums.proofs.Statements.{kept-both}
+
+-- ---- of the arguments around them they take none
+
+loop-takes : (t m : ℕ) (b : Body) → Plain b → Takes t (inner (looped m) b done)
+unfolding Plain
+loop-takes t m b plain s i = ap (argOf i) (keeps t (inner (looped m) b done) (plain, tt) s) ∙ rw (plain-due t (inner (looped m) b done) i (plain, tt))
+
+use-takes : (t : ℕ) (k : Kind) (u : ℕ) (a : Args) (b : Body) → Takes t (inner (entered k u a) b done)
+unfolding play playing shiftOf entering follow due outside shifting inShift count
+use-takes t macro u a b s i = rw mul-zero
+use-takes t procedure u a b s i = rw mul-zero
+use-takes t listed u a b s i = rw mul-zero
+
+module _ {tabs : Tables} {n t : ℕ} {front : Body} {S R : Sum} (x : Sums tabs n t front S) (bad : R .bad ≡ true) where
+  pub spoilt-loop : (m : ℕ) (b : Body) → Plain b → Sums tabs n t (joined front (inner (looped m) b done)) R
+  spoilt-loop m b plain = spoilt tabs n x _ (loop-takes t m b plain) bad
+
+  pub spoilt-use : (k : Kind) (u : ℕ) (a : Args) (b : Body) → Sums tabs n t (joined front (inner (entered k u a) b done)) R
+  spoilt-use k u a b = spoilt tabs n x _ (use-takes t k u a b) bad
 
 module _ {tabs : Tables} {n : ℕ} where
   -- ---- a Loop's turns
@@ -56,9 +76,9 @@ module _ {tabs : Tables} {n : ℕ} where
       loop-kept (suc (suc k)) x = let y = x .twice (omega arith) in kept-both (y .1 .entered .kept) (y .2 .entered .kept)
 
       pub loop-sums : {front : Body} {m : ℕ} → Sums tabs n t front S → Looped tabs n m S U R → Sums tabs n t (joined front (inner (looped m) b done)) R
-      unfolding play playing shiftOf follow Plain
+      unfolding play playing shiftOf follow
       loop-sums {front} {m} x y = added tabs n x (record {
-        used = λ s i. ap (argOf i) (keeps t (inner (looped m) b done) (plain, tt) s) ∙ rw (plain-due t (inner (looped m) b done) i (plain, tt));
+        used = loop-takes t m b plain;
         kept = loop-kept m y;
         each = λ s s₁ l e h. let r = loop-plays m y l h in (rw append-nil (r .0), r .1);
       })
@@ -77,9 +97,9 @@ module _ {tabs : Tables} {n : ℕ} where
 
     module _ {t : ℕ} {front : Body} {S R : Sum} (x : Sums tabs n t front S) where
       pub macro-sums : InPlace tabs n S U (λ i. argOf i a) R → Sums tabs n t (joined front (inner (entered macro u a) b done)) R
-      unfolding play playing shiftOf entering follow due outside shifting inShift count
+      unfolding play playing shiftOf entering follow
       macro-sums y = added tabs n x (record {
-        used = λ s i. rw mul-zero;
+        used = use-takes t macro u a b;
         kept = y .entered .kept;
         each = λ s s₁ l e h. (
             let s₂ : State = record { pins = s₁ .pins; table = s₁ .table; args = a } in
@@ -89,9 +109,9 @@ module _ {tabs : Tables} {n : ℕ} where
       })
 
       pub procedure-sums : Called tabs n S U (λ i. argOf i a) R → Sums tabs n t (joined front (inner (entered procedure u a) b done)) R
-      unfolding play playing shiftOf entering follow due outside shifting inShift count bare
+      unfolding play playing shiftOf entering follow bare
       procedure-sums y = added tabs n x (record {
-        used = λ s i. rw mul-zero;
+        used = use-takes t procedure u a b;
         kept = y .entered .kept;
         each = λ s s₁ l e h. (
             let r = v .each _ (length-replicate (length (s₁ .pins)) 0 ∙ l .wide) enough (asks-called h a y l) in

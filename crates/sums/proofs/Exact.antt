@@ -23,7 +23,7 @@ not-there i l e = eqb-true (count i l) 0 (not-false _ (sym (has-count i l) ∙ e
 there : (i : ℕ) (l : List ℕ) → has i l ≡ true → count i l ≡ 0 → ⊥
 there i l e = eqb-false (count i l) 0 (not-true _ (sym (has-count i l) ∙ e))
 
-no-more-than-once : (i : ℕ) (l : List ℕ) → repeats l ≡ false → count i l ≤ 1
+pub no-more-than-once : (i : ℕ) (l : List ℕ) → repeats l ≡ false → count i l ≤ 1
 unfolding count repeats
 no-more-than-once i [] h = omega arith
 no-more-than-once i (x ∷ l) h = let e = or-false (has x l) (repeats l) h in by (eqb x i) refl (e .0) (no-more-than-once i l (e .1))
@@ -32,7 +32,7 @@ no-more-than-once i (x ∷ l) h = let e = or-false (has x l) (repeats l) h in by
     by true e g ih = omega (arith, not-there i l (subst (λ (k : ℕ). has k l ≡ false) (eqb-true x i e) g))
     by false e g ih = ih
 
-module _ (b : Body) (a : Args) (once : repeats (shifting b) ≡ false) where
+module _ (b : Body) (a : Args) (once : (i : ℕ) → count i (shifting b) ≤ 1) where
   -- with `#` in the Shift no more than once, a character is due for each turn
   length-due : (t i : ℕ) → lengthDue b t i ≡ due t b i
   unfolding due lengthDue
@@ -40,7 +40,7 @@ module _ (b : Body) (a : Args) (once : repeats (shifting b) ≡ false) where
     where
       by : (w : Bool) → has i (shifting b) ≡ w → lengthDue b t i ≡ due t b i
       by true e =
-          let one : count i (shifting b) ≡ 1 = omega (arith, no-more-than-once i (shifting b) once, there i (shifting b) e) in
+          let one : count i (shifting b) ≡ 1 = omega (arith, once i, there i (shifting b) e) in
           rw (e, lengthDue, one) (omega (arith, mul-one t))
       by false e = rw (e, lengthDue, not-there i (shifting b) e) (omega (arith, mul-zero t))
 

@@ -33,7 +33,7 @@ module _ (tabs : Tables) (n : ℕ) where
       by i (some k) b e = refl
       by i none b e = absurd (differ (sym e ∙ x .unshown i b))
 
-  pattern-plays : {b : Body} → Cleared tabs n b → firstFailing tabs (play 0 b (start n) .1) ≡ none
+  pub pattern-plays : {b : Body} → Cleared tabs n b → firstFailing tabs (play 0 b (start n) .1) ≡ none
   unfolding start due count argOf
   pattern-plays {b} x = x .sums .each (start n) (length-replicate n 0) enough (asks-start (x .alone)) .0
     where

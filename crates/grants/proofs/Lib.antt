@@ -1,0 +1,10 @@
+pub mod Same
+pub mod Keeping
+pub mod Adding
+pub mod Stepping
+pub mod Entering
+pub mod Going
+pub mod Bodies
+pub mod Shifting
+pub mod Listing
+pub mod Texts
