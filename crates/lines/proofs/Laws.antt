@@ -1,0 +1,78 @@
+-- Pieces put one behind the other are a line, and how long that is at most.
+use Prim.Native.Nat.{ℕ, _+_, _≤_}
+use native.Mathlib.Omega.{arith}
+use mathlib.Core.Path.{_≡_, refl}
+use mathlib.Core.List.{List, [], _∷_, _++_, append-assoc}
+use lib.ListN.{length}
+use Rattle.tokens.specs.Written.{bytes, lines}
+use Rattle.pages.specs.Pages.{decimal, digitsMost, Puts}
+use Rattle.pages.proofs.Laws.{puts-same, puts-both, decimal-short}
+use Rattle.sections.specs.Listing.{refusal, Adds}
+use Rattle.lines.specs.Lines.{counted, nameLine, eventLine, tokenLine, goodLine, hurtLine, unreadLine, sumLine, progress, helpLines, faultLine}
+
+-- ---- pieces
+
+module _ {before : List ℕ} {at : ℕ} {xs : List ℕ} {r : ℕ} {after : List ℕ} where
+  pub word-adds : Puts before at xs r after → Adds before at xs (length xs) r after
+  word-adds p = record { puts = p; within = omega (arith, p .behind) }
+
+  pub adds-both : {ys last : List ℕ} {m n s : ℕ} → Adds before at xs m r after → Adds after r ys n s last → Adds before at (xs ++ ys) (m + n) s last
+  adds-both p q = record { puts = puts-both (p .puts) (q .puts); within = omega (arith, p .within, q .within) }
+
+  -- the whole, as it is called
+  pub adds-whole : {ys : List ℕ} {m n : ℕ} → Adds before at xs m r after → xs ≡ ys → m ≤ n → Adds before at ys n r after
+  adds-whole p e h = record { puts = puts-same (p .puts) e; within = omega (arith, p .within) }
+
+pub number-adds : {before after : List ℕ} {at r : ℕ} (n : ℕ) → Puts before at (decimal n) r after → Adds before at (decimal n) digitsMost r after
+number-adds n p = record { puts = p; within = omega (arith, p .behind, decimal-short n) }
+
+-- ---- the pieces of each line
+
+pub counted-is : (word : List ℕ) (n : ℕ) → (word ++ decimal n) ++ (10 ∷ []) ≡ counted word n
+unfolding counted
+counted-is word n = simp append-assoc
+
+pub refusal-is : (n p : ℕ) → (bytes "REFUSED " ++ decimal n) ++ counted (bytes " AT ") p ≡ refusal n p
+unfolding bytes counted refusal
+refusal-is n p = simp append-assoc
+
+pub name-is : (name : List ℕ) (p : ℕ) → name ++ ((bytes " AT " ++ decimal p) ++ counted (bytes " LENGTH ") (length name)) ≡ nameLine name p
+unfolding bytes counted nameLine
+name-is name p = simp append-assoc
+
+pub event-is : (time letter : ℕ) → decimal time ++ (32 ∷ letter ∷ 10 ∷ []) ≡ eventLine time letter
+unfolding eventLine
+event-is time letter = simp append-assoc
+
+pub token-is : (p : ℕ) (token : List ℕ) → decimal p ++ ((bytes " " ++ decimal (length token)) ++ (bytes " " ++ (token ++ (10 ∷ [])))) ≡ tokenLine p token
+unfolding bytes tokenLine
+token-is p token = simp append-assoc
+
+pub good-is : (file : List ℕ) (s t p c z : ℕ)
+    → file ++ ((bytes " OK " ++ decimal s) ++ ((bytes " " ++ decimal t) ++ ((bytes " " ++ decimal p) ++ ((bytes " " ++ decimal c) ++ counted (bytes " ") z)))) ≡ goodLine file s t p c z
+unfolding bytes counted goodLine
+good-is file s t p c z = simp append-assoc
+
+pub hurt-is : (file : List ℕ) (n p : ℕ) → file ++ ((32 ∷ []) ++ refusal n p) ≡ hurtLine file n p
+unfolding hurtLine
+hurt-is file n p = refl
+
+pub unread-is : (file : List ℕ) → file ++ bytes " CANNOT BE READ\n" ≡ unreadLine file
+unfolding bytes unreadLine
+unread-is file = simp append-assoc
+
+pub sum-is : (g h u : ℕ) → (bytes "GOOD " ++ decimal g) ++ ((bytes " HURT " ++ decimal h) ++ counted (bytes " UNREAD ") u) ≡ sumLine g h u
+unfolding bytes counted sumLine
+sum-is g h u = simp append-assoc
+
+pub progress-is : (done all : ℕ) → decimal done ++ ((bytes " OF " ++ decimal all) ++ (13 ∷ [])) ≡ progress done all
+unfolding bytes progress
+progress-is done all = simp append-assoc
+
+pub fault-is : (what word : List ℕ) → what ++ (bytes ": " ++ (word ++ (10 ∷ []))) ≡ faultLine what word
+unfolding bytes faultLine
+fault-is what word = simp append-assoc
+
+pub help-is : bytes "check FILE..\nname FILE signal N\nname FILE table N\nwindow FILE FIRST COUNT\n" ++ bytes "waveform FILE TABLE SIGNAL CHARACTER\ntokens FILE\nlist FILE\nhelp\n" ≡ helpLines
+unfolding bytes lines helpLines
+help-is = refl

@@ -1,0 +1,39 @@
+-- `event` meets its contract: its two pieces are the line.
+use native.Mathlib.Omega.{arith}
+use Rattle.lines.proofs.Laws.{adds-both, adds-whole, word-adds, event-is}
+use borrow.Author.Needs.{needs}
+use Rattle.lines.proofs.event.Statement.{statement}
+use Rattle.lines.proofs.event.Tie as tie
+
+slice-aggregate-with-number : tie.Need-slice-aggregate-with-number
+slice-aggregate-with-number c = search needs
+
+with-number-requires : tie.Need-with-number-requires
+with-number-requires c κs = search needs
+
+slice-aggregate-put : tie.Need-slice-aggregate-put
+slice-aggregate-put c = search needs
+
+put-requires : tie.Need-put-requires
+put-requires c κs = search needs
+
+same-length : tie.Need-same-length
+same-length c = search needs
+
+returns : tie.Need-returns
+returns c =
+    let a = c .before .before .before .before .before .before .before .before .before .before .before .args in
+    adds-whole
+    (adds-both (c .before .before .before .before .before .before .before .with-number .ensures) (word-adds (c .before .before .put .ensures)))
+    (event-is (a .time) (a .letter)) (omega arith)
+
+pub event-spec : {M : Type 1} → statement M
+event-spec =
+    tie.close
+    (tie.spec
+    slice-aggregate-with-number
+    with-number-requires
+    slice-aggregate-put
+    put-requires
+    same-length
+    returns)

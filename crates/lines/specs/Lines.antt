@@ -1,0 +1,78 @@
+-- Every line that is written (docs/COMMANDS.md); a refusal's line is the listing's.
+use Prim.Native.Nat.{ℕ}
+use mathlib.Core.List.{List, [], _∷_, _++_}
+use lib.ListN.{length}
+use Rattle.tokens.specs.Written.{bytes, lines}
+use Rattle.pages.specs.Pages.{decimal}
+use Rattle.sections.specs.Listing.{ended, refusal}
+
+-- ---- answers
+
+-- VISITS v, EVENTS k, TOKENS k
+unfoldable pub counted : List ℕ → ℕ → List ℕ
+counted word n = ended (word ++ decimal n)
+
+-- A AT 20 LENGTH 1
+unfoldable pub nameLine : List ℕ → ℕ → List ℕ
+nameLine name p = ended (name ++ bytes " AT " ++ decimal p ++ bytes " LENGTH " ++ decimal (length name))
+
+-- time letter
+unfoldable pub eventLine : ℕ → ℕ → List ℕ
+eventLine time letter = ended (decimal time ++ 32 ∷ letter ∷ [])
+
+-- place length bytes
+unfoldable pub tokenLine : ℕ → List ℕ → List ℕ
+tokenLine p token = ended (decimal p ++ bytes " " ++ decimal (length token) ++ bytes " " ++ token)
+
+-- ---- check
+
+-- FILE OK signals tables patterns cycles size
+unfoldable pub goodLine : List ℕ → (signals tables patterns cycles size : ℕ) → List ℕ
+goodLine file s t p c z = ended (file ++ bytes " OK " ++ decimal s ++ bytes " " ++ decimal t ++ bytes " " ++ decimal p ++ bytes " " ++ decimal c ++ bytes " " ++ decimal z)
+
+-- FILE REFUSED n AT p
+unfoldable pub hurtLine : List ℕ → ℕ → ℕ → List ℕ
+hurtLine file n p = file ++ 32 ∷ refusal n p
+
+unfoldable pub unreadLine : List ℕ → List ℕ
+unreadLine file = ended (file ++ bytes " CANNOT BE READ")
+
+-- GOOD g HURT h UNREAD u
+unfoldable pub sumLine : (good hurt unread : ℕ) → List ℕ
+sumLine g h u = ended (bytes "GOOD " ++ decimal g ++ bytes " HURT " ++ decimal h ++ bytes " UNREAD " ++ decimal u)
+
+-- how far it is, for a terminal: CR in place of LF, so that the next stands over it
+unfoldable pub progress : (done all : ℕ) → List ℕ
+progress done all = (decimal done ++ bytes " OF " ++ decimal all) ++ 13 ∷ []
+
+-- ---- help, and a word that is wrong
+
+unfoldable pub helpLines : List ℕ
+helpLines = lines (
+    "check FILE.."
+    ∷ "name FILE signal N"
+    ∷ "name FILE table N"
+    ∷ "window FILE FIRST COUNT"
+    ∷ "waveform FILE TABLE SIGNAL CHARACTER"
+    ∷ "tokens FILE"
+    ∷ "list FILE"
+    ∷ "help"
+    ∷ [])
+
+-- what is wrong: the word
+unfoldable pub faultLine : (what word : List ℕ) → List ℕ
+faultLine what word = ended (what ++ bytes ": " ++ word)
+
+-- ---- room
+
+-- for digits and LF
+abbrev pub countMost : ℕ
+countMost = 21
+
+-- for a refusal, which stands behind a file too
+abbrev pub refusalMost : ℕ
+refusalMost = 64
+
+-- for a line, besides the words that are handed in
+abbrev pub lineMost : ℕ
+lineMost = 128

@@ -1,0 +1,252 @@
+// The lines of docs/COMMANDS.md, put into a page, and words as numbers.
+ghost use mathlib.Core.Path.{_≡_};
+ghost use mathlib.Core.List.{_++_};
+ghost use mathlib.Core.Bool.{_&&_};
+ghost use mathlib.Core.Option.{none};
+ghost use Prim.Native.Nat.{_+_, _*_, _≤_};
+ghost use lib.Dec.{leb, ltb};
+ghost use lib.ListN.{length};
+ghost use Rattle.tokens.specs.Written.{bytes};
+ghost use Rattle.pages.specs.Pages.{decimal, digitsMost};
+ghost use Rattle.lines.specs.Lines.{counted as countedOf, nameLine, eventLine, tokenLine, goodLine, hurtLine, unreadLine, sumLine, progress as progressOf, helpLines, faultLine, countMost, refusalMost, lineMost};
+ghost use Rattle.sections.specs.Listing.{refusal, Adds};
+ghost use Rattle.lines.specs.Numbers.{numberMost, numberOf, told};
+
+// Room for a line, besides the words that are handed in.
+pub const LINE: usize = 128;
+
+// ---- pieces
+
+// A word and a number behind it.
+fn with_number(page: &mut [u8], at: usize, word: &[u8], n: u64) -> usize
+    requires { ⌜ at + (length (now word) + digitsMost) ≤ length (now page) ⌝ }
+    ensures { λ r. ⌜ Adds (now (page .entry)) at (now (word .entry) ++ decimal n) (length (now (word .entry)) + digitsMost) r (now (page .exit)) ⌝ }
+{
+    let end = pages::put(page, at, word);
+    pages::put_number(page, end, n)
+}
+
+// A line that is a word and a number.
+fn counted(page: &mut [u8], at: usize, word: &[u8], n: u64) -> usize
+    requires { ⌜ at + (length (now word) + countMost) ≤ length (now page) ⌝ }
+    ensures { λ r. ⌜ Adds (now (page .entry)) at (countedOf (now (word .entry)) n) (length (now (word .entry)) + countMost) r (now (page .exit)) ⌝ }
+{
+    let end = with_number(page, at, word, n);
+    pages::put(page, end, b"\n")
+}
+
+// ---- answers
+
+// VISITS v
+pub fn visits(page: &mut [u8], at: usize, v: usize) -> usize
+    requires { ⌜ at + lineMost ≤ length (now page) ⌝ }
+    ensures { λ r. ⌜ Adds (now (page .entry)) at (countedOf (bytes "VISITS ") v) lineMost r (now (page .exit)) ⌝ }
+{
+    counted(page, at, b"VISITS ", v as u64)
+}
+
+// EVENTS k
+pub fn events(page: &mut [u8], at: usize, k: usize) -> usize
+    requires { ⌜ at + lineMost ≤ length (now page) ⌝ }
+    ensures { λ r. ⌜ Adds (now (page .entry)) at (countedOf (bytes "EVENTS ") k) lineMost r (now (page .exit)) ⌝ }
+{
+    counted(page, at, b"EVENTS ", k as u64)
+}
+
+// TOKENS k
+pub fn tokens(page: &mut [u8], at: usize, k: usize) -> usize
+    requires { ⌜ at + lineMost ≤ length (now page) ⌝ }
+    ensures { λ r. ⌜ Adds (now (page .entry)) at (countedOf (bytes "TOKENS ") k) lineMost r (now (page .exit)) ⌝ }
+{
+    counted(page, at, b"TOKENS ", k as u64)
+}
+
+// REFUSED n AT p
+pub fn refused(page: &mut [u8], at: usize, no: u8, place: usize) -> usize
+    requires { ⌜ at + refusalMost ≤ length (now page) ⌝ }
+    ensures { λ r. ⌜ Adds (now (page .entry)) at (refusal no place) refusalMost r (now (page .exit)) ⌝ }
+{
+    let end = with_number(page, at, b"REFUSED ", no as u64);
+    counted(page, end, b" AT ", place as u64)
+}
+
+// A AT 20 LENGTH 1
+pub fn name(page: &mut [u8], at: usize, name: &[u8], place: usize) -> usize
+    requires { ⌜ at + (length (now name) + lineMost) ≤ length (now page) ⌝ }
+    ensures { λ r. ⌜ Adds (now (page .entry)) at (nameLine (now (name .entry)) place) (length (now (name .entry)) + lineMost) r (now (page .exit)) ⌝ }
+{
+    let mut end = pages::put(page, at, name);
+    end = with_number(page, end, b" AT ", place as u64);
+    counted(page, end, b" LENGTH ", name.len() as u64)
+}
+
+// time letter
+pub fn event(page: &mut [u8], at: usize, time: u64, letter: u8) -> usize
+    requires { ⌜ at + lineMost ≤ length (now page) ⌝ }
+    ensures { λ r. ⌜ Adds (now (page .entry)) at (eventLine time letter) lineMost r (now (page .exit)) ⌝ }
+{
+    let end = with_number(page, at, b"", time);
+    pages::put(page, end, &[b' ', letter, b'\n'])
+}
+
+// place length bytes
+pub fn token(page: &mut [u8], at: usize, place: usize, token: &[u8]) -> usize
+    requires { ⌜ at + (length (now token) + lineMost) ≤ length (now page) ⌝ }
+    ensures { λ r. ⌜ Adds (now (page .entry)) at (tokenLine place (now (token .entry))) (length (now (token .entry)) + lineMost) r (now (page .exit)) ⌝ }
+{
+    let mut end = with_number(page, at, b"", place as u64);
+    end = with_number(page, end, b" ", token.len() as u64);
+    end = pages::put(page, end, b" ");
+    end = pages::put(page, end, token);
+    pages::put(page, end, b"\n")
+}
+
+// ---- check
+
+// FILE OK signals tables patterns cycles size
+pub fn good(
+    page: &mut [u8],
+    at: usize,
+    file: &[u8],
+    signals: usize,
+    tables: usize,
+    patterns: usize,
+    cycles: usize,
+    size: usize,
+) -> usize
+    requires { ⌜ at + (length (now file) + lineMost) ≤ length (now page) ⌝ }
+    ensures { λ r. ⌜ Adds (now (page .entry)) at (goodLine (now (file .entry)) signals tables patterns cycles size) (length (now (file .entry)) + lineMost) r (now (page .exit)) ⌝ }
+{
+    let mut end = pages::put(page, at, file);
+    end = with_number(page, end, b" OK ", signals as u64);
+    end = with_number(page, end, b" ", tables as u64);
+    end = with_number(page, end, b" ", patterns as u64);
+    end = with_number(page, end, b" ", cycles as u64);
+    counted(page, end, b" ", size as u64)
+}
+
+// FILE REFUSED n AT p
+pub fn hurt(page: &mut [u8], at: usize, file: &[u8], no: u8, place: usize) -> usize
+    requires { ⌜ at + (length (now file) + lineMost) ≤ length (now page) ⌝ }
+    ensures { λ r. ⌜ Adds (now (page .entry)) at (hurtLine (now (file .entry)) no place) (length (now (file .entry)) + lineMost) r (now (page .exit)) ⌝ }
+{
+    let mut end = pages::put(page, at, file);
+    end = pages::put(page, end, b" ");
+    refused(page, end, no, place)
+}
+
+// FILE CANNOT BE READ
+pub fn unread(page: &mut [u8], at: usize, file: &[u8]) -> usize
+    requires { ⌜ at + (length (now file) + lineMost) ≤ length (now page) ⌝ }
+    ensures { λ r. ⌜ Adds (now (page .entry)) at (unreadLine (now (file .entry))) (length (now (file .entry)) + lineMost) r (now (page .exit)) ⌝ }
+{
+    let end = pages::put(page, at, file);
+    pages::put(page, end, b" CANNOT BE READ\n")
+}
+
+// GOOD g HURT h UNREAD u
+pub fn sum(page: &mut [u8], at: usize, good: usize, hurt: usize, unread: usize) -> usize
+    requires { ⌜ at + lineMost ≤ length (now page) ⌝ }
+    ensures { λ r. ⌜ Adds (now (page .entry)) at (sumLine good hurt unread) lineMost r (now (page .exit)) ⌝ }
+{
+    let mut end = with_number(page, at, b"GOOD ", good as u64);
+    end = with_number(page, end, b" HURT ", hurt as u64);
+    counted(page, end, b" UNREAD ", unread as u64)
+}
+
+// How far it is, for a terminal.
+pub fn progress(page: &mut [u8], at: usize, done: usize, all: usize) -> usize
+    requires { ⌜ at + lineMost ≤ length (now page) ⌝ }
+    ensures { λ r. ⌜ Adds (now (page .entry)) at (progressOf done all) lineMost r (now (page .exit)) ⌝ }
+{
+    let mut end = with_number(page, at, b"", done as u64);
+    end = with_number(page, end, b" OF ", all as u64);
+    pages::put(page, end, b"\r")
+}
+
+// ---- help, and a word that is wrong
+
+pub fn help(page: &mut [u8], at: usize) -> usize
+    requires { ⌜ at + (lineMost + lineMost) ≤ length (now page) ⌝ }
+    ensures { λ r. ⌜ Adds (now (page .entry)) at helpLines (lineMost + lineMost) r (now (page .exit)) ⌝ }
+{
+    let end = pages::put(
+        page,
+        at,
+        b"check FILE..\nname FILE signal N\nname FILE table N\nwindow FILE FIRST COUNT\n",
+    );
+    pages::put(
+        page,
+        end,
+        b"waveform FILE TABLE SIGNAL CHARACTER\ntokens FILE\nlist FILE\nhelp\n",
+    )
+}
+
+// what is wrong: the word
+pub fn fault(page: &mut [u8], at: usize, what: &[u8], word: &[u8]) -> usize
+    requires { ⌜ at + (length (now what) + (length (now word) + lineMost)) ≤ length (now page) ⌝ }
+    ensures { λ r. ⌜ Adds (now (page .entry)) at (faultLine (now (what .entry)) (now (word .entry))) (length (now (what .entry)) + (length (now (word .entry)) + lineMost)) r (now (page .exit)) ⌝ }
+{
+    let mut end = pages::put(page, at, what);
+    end = pages::put(page, end, b": ");
+    end = pages::put(page, end, word);
+    pages::put(page, end, b"\n")
+}
+
+// ---- numbers
+
+// A word as a number. Where it is none (not `right`) the value is 0.
+pub struct Value {
+    pub right: bool,
+    pub value: u64,
+}
+
+fn no_number() -> Value
+    ensures { λ r. ⌜ r ≡ told none ⌝ }
+{
+    Value {
+        right: false,
+        value: 0,
+    }
+}
+
+fn is_digit(b: u8) -> bool
+    ensures { λ r. ⌜ r ≡ leb 48 b && leb b 57 ⌝ }
+{
+    (48 <= b) & (b <= 57)
+}
+
+// Is there no room for one more digit behind n?
+fn is_full(n: u64, digit: u64) -> bool
+    requires { ⌜ digit ≤ 9 ⌝ }
+    ensures { λ r. ⌜ r ≡ ltb numberMost (n * 10 + digit) ⌝ }
+{
+    (u64::MAX - digit) / 10 < n
+}
+
+// Digits alone, at least one, and no number above the largest.
+pub fn number(word: &[u8]) -> Value
+    ensures { λ r. ⌜ r ≡ told (numberOf (now (word .entry))) ⌝ }
+{
+    if word.len() == 0 {
+        return no_number();
+    }
+    let mut n: u64 = 0;
+    let mut i = 0;
+    while i < word.len() {
+        let b = word[i];
+        if !is_digit(b) {
+            return no_number();
+        }
+        let digit = (b - 48) as u64;
+        if is_full(n, digit) {
+            return no_number();
+        }
+        n = n * 10 + digit;
+        i += 1;
+    }
+    Value {
+        right: true,
+        value: n,
+    }
+}

@@ -1,0 +1,20 @@
+// The one line of an answer, to standard output.
+use crate::asked;
+
+pub fn refused(no: u8, place: usize) {
+    let mut page = asked::page();
+    let end = lines::refused(&mut page, 0, no, place);
+    streams::write(&page, end);
+}
+
+pub fn visits(v: usize) {
+    let mut page = asked::page();
+    let end = lines::visits(&mut page, 0, v);
+    streams::write(&page, end);
+}
+
+pub fn help() {
+    let mut page = asked::page();
+    let end = lines::help(&mut page, 0);
+    streams::write(&page, end);
+}

@@ -1,0 +1,21 @@
+// list FILE
+use crate::asked;
+use crate::files;
+
+fn file() {
+    let mut text = streams::room();
+    let t = files::text(2, &mut text);
+    if t.read {
+        let n = t.length;
+        streams::list(&text[..n]);
+    }
+}
+
+pub fn list() {
+    if os::arg_count() < 3 {
+        return asked::missing(b"FILE");
+    }
+    if asked::no_more(3) {
+        file();
+    }
+}

@@ -1,0 +1,65 @@
+// Asks files of STIL test patterns: the command lines of docs/COMMANDS.md.
+mod answers;
+mod asked;
+mod checked;
+mod files;
+mod listed;
+mod named;
+mod shaped;
+mod shown;
+mod split;
+
+fn help() {
+    if asked::no_more(2) {
+        answers::help();
+    }
+}
+
+// The commands that ask for a listing or tokens, or for what the commands are.
+fn other(command: &[u8]) -> bool {
+    if words::equal(command, b"tokens") {
+        split::tokens();
+        return true;
+    }
+    if words::equal(command, b"list") {
+        listed::list();
+        return true;
+    }
+    if words::equal(command, b"help") {
+        help();
+        return true;
+    }
+    false
+}
+
+// Is it a command? Then it is answered.
+fn answered(command: &[u8]) -> bool {
+    if words::equal(command, b"check") {
+        checked::check();
+        return true;
+    }
+    if words::equal(command, b"name") {
+        named::name();
+        return true;
+    }
+    if words::equal(command, b"window") {
+        shown::window();
+        return true;
+    }
+    if words::equal(command, b"waveform") {
+        shaped::waveform();
+        return true;
+    }
+    other(command)
+}
+
+fn main() {
+    if os::arg_count() < 2 {
+        return asked::missing(b"command");
+    }
+    let mut word = asked::word();
+    let n = os::arg(1, &mut word);
+    if !answered(&word[..n]) {
+        asked::fault(b"no such command", &word[..n]);
+    }
+}

@@ -1,0 +1,131 @@
+// window FILE FIRST COUNT
+ghost use Prim.Native.Nat.{_+_, _*_, _≤_, _<_};
+ghost use lib.ListN.{length};
+use crate::answers;
+use crate::asked;
+use crate::files;
+use stil::Checked;
+use stil::Shown;
+use streams::ROWS;
+
+// Were the rows written? Then the visits at their first cycle.
+struct Piece {
+    going: bool,
+    visits: usize,
+}
+
+fn least(a: usize, b: usize) -> usize
+    ensures { λ r. ⌜ (r ≤ a) × (r ≤ b) × (0 < a → 0 < b → 0 < r) ⌝ }
+{
+    if a < b { a } else { b }
+}
+
+// A row's bytes; no text has more than 64 signals.
+fn width_of(signals: usize) -> usize
+    ensures { λ r. ⌜ (2 ≤ r) × (r ≤ 66) ⌝ }
+{
+    least(signals, 64) + 2
+}
+
+// min(wanted, cycles left).
+fn due(cycles: usize, first: usize, wanted: usize) -> usize
+    ensures { λ r. ⌜ first + r ≤ 18446744073709551615 ⌝ }
+{
+    if cycles <= first {
+        return 0;
+    }
+    least(wanted, cycles - first)
+}
+
+// Of the rows that are left, as many as a page holds.
+fn fitting(left: usize, width: usize) -> usize
+    requires { ⌜ (2 ≤ width) × (width ≤ 66) ⌝ }
+    ensures { λ r. ⌜ (r ≤ left) × (r * width ≤ 1048576) × (0 < left → 0 < r) ⌝ }
+{
+    least(left, ROWS / width)
+}
+
+// The rows of n cycles from the cycle `first` on.
+fn some_rows(text: &[u8], first: usize, n: usize, width: usize, page: &mut [u8]) -> Piece
+    requires { ⌜ n * width ≤ length (now page) ⌝ }
+{
+    match stil::window(text, first, n, page) {
+        Shown::Rows(_, visits) => Piece {
+            going: streams::write(page, n * width),
+            visits,
+        },
+        Shown::Refused(no, place) => {
+            answers::refused(no, place);
+            Piece {
+                going: false,
+                visits: 0,
+            }
+        }
+    }
+}
+
+// Windows laid end to end, then the visits of the first.
+fn rows(text: &[u8], first: usize, due: usize, width: usize)
+    requires { ⌜ (2 ≤ width) × (width ≤ 66) × (first + due ≤ 18446744073709551615) ⌝ }
+{
+    let mut space = streams::rows();
+    let page: &mut [u8] = &mut space;
+    let mut done = fitting(due, width);
+    let front = some_rows(text, first, done, width, page);
+    if !front.going {
+        return;
+    }
+    while done < due {
+        let n = fitting(due - done, width);
+        let piece = some_rows(text, first + done, n, width, page);
+        if !piece.going {
+            return;
+        }
+        done += n;
+    }
+    answers::visits(front.visits);
+}
+
+fn answer(text: &[u8], first: usize, wanted: usize) {
+    match stil::check(text) {
+        Checked::Counted(signals, _, _, cycles, _) => {
+            rows(text, first, due(cycles, first, wanted), width_of(signals));
+        }
+        Checked::Refused(no, place) => {
+            answers::refused(no, place);
+        }
+    }
+}
+
+fn file() {
+    let first = asked::number(3);
+    if !first.right {
+        return;
+    }
+    let wanted = asked::number(4);
+    if !wanted.right {
+        return;
+    }
+    let mut text = streams::room();
+    let t = files::text(2, &mut text);
+    if t.read {
+        let n = t.length;
+        answer(&text[..n], first.value as usize, wanted.value as usize);
+    }
+}
+
+pub fn window() {
+    let words = os::arg_count();
+    if words < 3 {
+        return asked::missing(b"FILE");
+    }
+    if words < 4 {
+        return asked::missing(b"FIRST");
+    }
+    if words < 5 {
+        return asked::missing(b"COUNT");
+    }
+    if asked::no_more(5) {
+        file();
+    }
+}

@@ -1,0 +1,12 @@
+-- `room` meets its contract.
+use Prim.Native.Nat.{ℕ}
+use mathlib.Core.Path.{sym}
+use lib.ListN.{length-replicate}
+use Rattle.streams.proofs.room.Statement.{statement}
+use Rattle.streams.proofs.room.Tie as tie
+
+returns : tie.Need-returns
+returns c = sym (length-replicate {A = ℕ} 65537 0)
+
+pub room-spec : {M : Type 1} → statement M
+room-spec = tie.close (tie.spec returns)

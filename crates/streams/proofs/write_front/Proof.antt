@@ -1,0 +1,25 @@
+-- `write_front` is safe: a front is no longer than its page.
+use native.Mathlib.Omega.{arith}
+use lib.ListN.{length-take}
+use borrow.Author.Needs.{needs}
+use Rattle.streams.proofs.write_front.Statement.{statement}
+use Rattle.streams.proofs.write_front.Tie as tie
+
+write-all-requires : tie.Need-write-all-requires
+write-all-requires c κs = search needs
+
+returns : tie.Need-returns
+returns c = search needs
+
+slice-aggregate-write-all : tie.Need-slice-aggregate-write-all
+slice-aggregate-write-all c = simp length-take (omega arith)
+
+write-all-requires-2 : tie.Need-write-all-requires-2
+write-all-requires-2 c κs = search needs
+
+returns-2 : tie.Need-returns-2
+returns-2 c = search needs
+
+pub write-front-spec : {M : Type 1} → statement M
+write-front-spec =
+    tie.close (tie.spec write-all-requires returns slice-aggregate-write-all write-all-requires-2 returns-2)
