@@ -47,7 +47,7 @@ rows-are-cycles n b = length-play 0 b (start n)
 
 -- ---- over n signals every cycle has n values
 
-abbrev Wide : ℕ → State → Type 0
+abbrev pub Wide : ℕ → State → Type 0
 Wide n s = length (s .pins) ≡ n
 
 abbrev pub AllWide : ℕ → List Cycle → Type 0
@@ -59,7 +59,7 @@ wide-++ n [] ds h k = k
 wide-++ n (c ∷ cs) ds h k = (h .0, wide-++ n cs ds (h .1) k)
 
 -- what is played from n values leaves n, and so has every cycle on the way
-abbrev Keeps : ℕ → (State → Played) → Type 0
+abbrev pub Keeps : ℕ → (State → Played) → Type 0
 Keeps n f = (s : State) → Wide n s → Wide n (f s .0) × AllWide n (f s .1)
 
 keeps-follow : (n : ℕ) (x : Played) (f : State → Played) → Wide n (x .0) × AllWide n (x .1) → Keeps n f → Wide n (follow x f .0) × AllWide n (follow x f .1)
@@ -105,7 +105,7 @@ unfolding changed
 wide-changed n (assigning a) s w = wide-puts n a s w
 wide-changed n (choosing k) s w = w
 
-keeps-play : (n t : ℕ) (b : Body) → Keeps n (play t b)
+pub keeps-play : (n t : ℕ) (b : Body) → Keeps n (play t b)
 unfolding play cycleAt
 keeps-play n t done s w = (w, tt)
 keeps-play n t (vec p a r) s w =

@@ -67,16 +67,13 @@ module _ (m : Meaning) where
       (take-at (windowRows m first wanted) (drop (rowsDue m first wanted * widthOf m) buffer) (rowsDue m first wanted * widthOf m) (window-width first wanted))
       ∙ window-rows first wanted
 
-  from-first : (text : List ℕ) → meaning text ≡ given m → (first : ℕ) (ls : List Lent) → Roomy m first ls
+  -- THE LAW: laid end to end from any cycle
+  pub windows-join : (text : List ℕ) → meaning text ≡ given m → (first : ℕ) (ls : List Lent) → Roomy m first ls
       → joined text (widthOf m) first ls ≡ rows (take (reach ls) (drop first all))
   unfolding joined Roomy reach rows
-  from-first text e first [] h = refl
-  from-first text e first (l ∷ ls) h =
-      ap₂ (λ (a b : List ℕ). a ++ b) (window-gives text e first (l .wanted) (l .buffer) (h .0)) (from-first text e (first + l .wanted) ls (h .1))
+  windows-join text e first [] h = refl
+  windows-join text e first (l ∷ ls) h =
+      ap₂ (λ (a b : List ℕ). a ++ b) (window-gives text e first (l .wanted) (l .buffer) (h .0)) (windows-join text e (first + l .wanted) ls (h .1))
       ∙ ap (λ (d : List Cycle). rows (take (l .wanted) (drop first all)) ++ rows (take (reach ls) d)) (sym (drop-drop (l .wanted) first all))
       ∙ sym (rows-++ (take (l .wanted) (drop first all)) (take (reach ls) (drop (l .wanted) (drop first all))))
       ∙ ap rows (sym (take-add (l .wanted) (reach ls) (drop first all)))
-
-  -- THE LAW: laid end to end from cycle 0
-  pub windows-join : (text : List ℕ) → meaning text ≡ given m → (ls : List Lent) → Roomy m 0 ls → joined text (widthOf m) 0 ls ≡ rows (take (reach ls) all)
-  windows-join text e ls h = from-first text e 0 ls h

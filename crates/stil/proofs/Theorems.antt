@@ -1,20 +1,18 @@
 -- What follows from the promises of the services, whatever keeps them: the visits, windows laid end to end, one answer only, and nothing written where a call is refused.
 use Prim.Native.Nat.{ℕ, _+_, _*_, _≤_}
-use native.Mathlib.Nat.{zero-add, add-zero}
 use native.Mathlib.Omega.{arith}
 use mathlib.Core.Path.{_≡_, refl, sym, ap, ap₂, _∙_}
 use mathlib.Core.Bool.{Bool, true, false}
-use mathlib.Core.List.{List, [], _∷_, _++_, append-nil, append-cancel-left}
+use mathlib.Core.List.{List, [], _∷_, _++_}
 use lib.Dec.{leb}
-use lib.ListN.{length, take, drop, replicate, length-replicate}
-use lib.Seq.{take-add}
+use lib.ListN.{length, take, drop}
 use Rattle.meaning.specs.Refusals.{noRoom}
 use Rattle.meaning.specs.Run.{Cycle, size, visits, cyclesOf}
 use Rattle.meaning.specs.Meaning.{Answer, given, refused, answering, Meaning, meaning}
 use Rattle.meaning.specs.Services.{Counts, rows, Window, rowsDue, widthOf, windowOf, window, Waveform}
 use Rattle.meaning.specs.Windows.{Lent, rowsGiven, joined, Roomy, reach}
 use Rattle.meaning.proofs.Accepted.{visits-bounded}
-use Rattle.meaning.proofs.Windows.{rows-++, windows-join}
+use Rattle.meaning.proofs.Windows.{windows-join}
 use Rattle.stil.specs.Answers.{checkedOf, locatedOf, shownOf, shapedOf, afterwards}
 use Rattle.stil.specs.Calls.{Call, lent, Kept, fronts}
 use Rattle.stil.specs.Interface.{withRoom, packed, Hands, Opens, Draws}
@@ -59,35 +57,14 @@ fronts-joined text width first [] h = refl
 fronts-joined text width first (c ∷ cs) h =
     ap₂ (λ (a b : List ℕ). a ++ b) (ap (rowsGiven width) (h .0 .answers)) (fronts-joined text width (first + c .wanted) cs (h .1))
 
--- what stands behind the same front
-behind : (g a b c : List ℕ) → g ++ [] ≡ a → g ++ b ≡ a ++ c → b ≡ c
-behind g a b c p q = append-cancel-left g b c (q ∙ ap (λ (l : List ℕ). l ++ c) (sym p ∙ append-nil g))
-
 module _ (text : List ℕ) (m : Meaning) (e : meaning text ≡ given m) where
   abbrev all : List Cycle
   all = cyclesOf (length (m .signals)) (m .run)
 
-  -- from any cycle: as if one window more had gone before, from cycle 0
-  joined-from : (first : ℕ) (ls : List Lent) → Roomy m first ls → joined text (widthOf m) first ls ≡ rows (take (reach ls) (drop first all))
-  unfolding joined Roomy reach
-  joined-from first ls h =
-      let bytes = rowsDue m 0 first * widthOf m in
-      let before : Lent = record { wanted = first; buffer = replicate bytes 0 } in
-      let room : bytes ≤ length (before .buffer) = omega (arith, length-replicate {A = ℕ} bytes 0) in
-      let front = rowsGiven (widthOf m) (window text 0 first (before .buffer)) in
-      let one : front ++ [] ≡ rows (take (first + 0) all) = windows-join m text e (before ∷ []) (room, tt) in
-      let more : front ++ joined text (widthOf m) (0 + first) ls ≡ rows (take (first + reach ls) all) =
-      windows-join m text e (before ∷ ls) (room, rw zero-add h) in
-      behind front (rows (take first all)) _ _ (one ∙ ap (λ (k : ℕ). rows (take k all)) (add-zero first))
-      (ap (λ (k : ℕ). front ++ joined text (widthOf m) k ls) (sym (zero-add first))
-      ∙ more
-      ∙ ap rows (take-add first (reach ls) all)
-      ∙ rows-++ (take first all) (take (reach ls) (drop first all)))
-
   -- THE LAW
   pub calls-join : (first : ℕ) (cs : List Call) → Kept text first cs → Roomy m first (lent cs)
       → fronts (widthOf m) cs ≡ rows (take (reach (lent cs)) (drop first all))
-  calls-join first cs h room = fronts-joined text (widthOf m) first cs h ∙ joined-from first (lent cs) room
+  calls-join first cs h room = fronts-joined text (widthOf m) first cs h ∙ windows-join m text e first (lent cs) room
 
 -- ---- one answer only, and one content of each buffer afterwards
 
