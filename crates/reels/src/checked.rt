@@ -4,8 +4,6 @@ ghost use Prim.Native.Nat.{_+_, _≤_, _<_};
 ghost use lib.ListN.{length};
 use crate::asked;
 use crate::files;
-use libc::STDERR_FILENO;
-use libc::STDOUT_FILENO;
 use stil::Checked;
 
 enum Found {
@@ -118,17 +116,6 @@ fn added(t: Tally, found: Found) -> Tally
     }
 }
 
-// Is somebody looking who does not see the lines themselves?
-fn is_watched() -> bool {
-    (libc::isatty(STDERR_FILENO) != 0) & (libc::isatty(STDOUT_FILENO) == 0)
-}
-
-fn progress(done: usize, all: usize) {
-    let mut page = asked::page();
-    let end = lines::progress(&mut page, 0, done, all);
-    streams::tell(&page, end);
-}
-
 fn sum(t: Tally) {
     let mut page = asked::page();
     let end = lines::sum(&mut page, 0, t.good, t.hurt, t.unread);
@@ -137,7 +124,7 @@ fn sum(t: Tally) {
 
 pub fn check() {
     let words = os::arg_count();
-    let watched = is_watched();
+    let watched = streams::is_watched();
     let mut tally = Tally {
         good: 0,
         hurt: 0,
@@ -153,7 +140,7 @@ pub fn check() {
         tally = added(tally, found);
         i += 1;
         if watched {
-            progress(i - 2, words - 2);
+            streams::progress(i - 2, words - 2);
         }
     }
     sum(tally);

@@ -65,10 +65,11 @@ pub fn read(fd: i32, text: &mut [u8]) -> Text
 
 // ---- pages to standard output and standard error
 
-// The first bytes of a page, as far as there are so many.
+// The first bytes of a page. A page that is shorter is never cut silently.
 fn write_front(fd: i32, page: &[u8], length: usize) -> bool {
     if page.len() < length {
-        return io::write_all(fd, page);
+        io::write_all(libc::STDERR_FILENO, b"a page is too short for its line\n");
+        return false;
     }
     io::write_all(fd, &page[..length])
 }
@@ -87,22 +88,38 @@ pub fn tell(page: &[u8], length: usize) {
     write_front(libc::STDERR_FILENO, page, length);
 }
 
-// A text's listing to standard output, page by page.
+// Is somebody looking at standard error who does not see standard output?
+pub fn is_watched() -> bool {
+    (libc::isatty(libc::STDERR_FILENO) != 0) & (libc::isatty(libc::STDOUT_FILENO) == 0)
+}
+
+// How far it is, to standard error.
+pub fn progress(done: usize, all: usize) {
+    let mut line = [0; lines::LINE];
+    let end = lines::progress(&mut line, 0, done, all);
+    tell(&line, end);
+}
+
+// ---- a listing
+
+// A text's listing to standard output, page by page. Where a page brings no row nearer to the end, that is told, and nothing is passed over silently.
 pub fn list(text: &[u8]) {
     let mut space = rows();
     let page: &mut [u8] = &mut space;
+    let watched = is_watched();
     let mut p = listing::begin(text, page);
-    if !write(page, p.length) {
-        return;
-    }
-    while 0 < p.left {
+    let all = p.left;
+    let mut going = write(page, p.length);
+    while going & (0 < p.left) {
         let next = listing::go_on(text, p, page);
-        if !write(page, next.length) {
-            return;
-        }
+        going = write(page, next.length);
         if p.left <= next.left {
+            io::write_all(libc::STDERR_FILENO, b"the listing stands still\n");
             return;
         }
         p = next;
+        if watched {
+            progress(all - p.left, all);
+        }
     }
 }

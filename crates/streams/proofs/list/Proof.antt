@@ -1,70 +1,68 @@
+-- A listing ends: at each turn of its loop fewer rows are left.
 use borrow.Author.Needs.{needs}
+use Prim.Native.Nat.{_≤_}
 use Rattle.streams.proofs.list.Statement.{statement}
 use Rattle.streams.proofs.list.Tie as tie
-use Rattle.streams.proofs.list.Reads as reads
-use Rattle.streams.proofs.list.Lts as lts
-use Rattle.listing.proofs.begin.Reads as begin-reads
-use Rattle.listing.proofs.go_on.Reads as go-on-reads
-use Rattle.streams.proofs.rows.Reads as rows-reads
-use Rattle.streams.proofs.write.Reads as write-reads
 
 abbrev Inv-loop : tie.InvT-loop
-Inv-loop text page₀ p₀ page p = Unit {0}
+Inv-loop text page₀ watched p₀ all going₀ t9 page p going = p .left ≤ all
 
 abbrev μ-loop : tie.MeasureT-loop
-μ-loop text page₀ p₀ page p = p .left
+μ-loop text page₀ watched p₀ all going₀ t9 page p going = p .left
 
--- src/lib.rt:86:21
 rows-requires : tie.Need-rows-requires Inv-loop μ-loop
 rows-requires c κs = search needs
 
--- src/lib.rt:87:9
 slice-aggregate-page : tie.Need-slice-aggregate-page Inv-loop μ-loop
 slice-aggregate-page c = search needs
 
--- src/lib.rt:88:9
+is-watched-requires : tie.Need-is-watched-requires Inv-loop μ-loop
+is-watched-requires c κs = search needs
+
 begin-requires : tie.Need-begin-requires Inv-loop μ-loop
 begin-requires c κs = search needs
 
--- src/lib.rt:89:9
 write-requires : tie.Need-write-requires Inv-loop μ-loop
 write-requires c κs = search needs
 
--- src/lib.rt:90:9
-returns : tie.Need-returns Inv-loop μ-loop
-returns c = search needs
-
--- src/lib.rt:92:5
 loop-holds : tie.Need-loop-holds Inv-loop μ-loop
 loop-holds c = search needs
 
--- src/lib.rt:93:13
 go-on-requires : tie.Need-go-on-requires Inv-loop μ-loop
 go-on-requires c κs = search needs
 
--- src/lib.rt:94:13
 write-requires-2 : tie.Need-write-requires-2 Inv-loop μ-loop
 write-requires-2 c κs = search needs
 
--- src/lib.rt:95:13
-returns-2 : tie.Need-returns-2 Inv-loop μ-loop
-returns-2 c = search needs
+slice-aggregate-write-all : tie.Need-slice-aggregate-write-all Inv-loop μ-loop
+slice-aggregate-write-all c = search needs
 
--- src/lib.rt:98:13
-returns-3 : tie.Need-returns-3 Inv-loop μ-loop
-returns-3 c = search needs
+write-all-requires : tie.Need-write-all-requires Inv-loop μ-loop
+write-all-requires c κs = search needs
 
--- src/lib.rt:92:5
+returns : tie.Need-returns Inv-loop μ-loop
+returns c = search needs
+
+sub-progress : tie.Need-sub-progress Inv-loop μ-loop
+sub-progress c = search needs
+
+progress-requires : tie.Need-progress-requires Inv-loop μ-loop
+progress-requires c κs = search needs
+
 loop-less : tie.Need-loop-less Inv-loop μ-loop
 loop-less c = search needs
 
--- src/lib.rt:92:5
 loop-again : tie.Need-loop-again Inv-loop μ-loop
 loop-again c = search needs
 
--- src/lib.rt:85:1
-returns-4 : tie.Need-returns-4 Inv-loop μ-loop
-returns-4 c = search needs
+loop-less-2 : tie.Need-loop-less-2 Inv-loop μ-loop
+loop-less-2 c = search needs
+
+loop-again-2 : tie.Need-loop-again-2 Inv-loop μ-loop
+loop-again-2 c = search needs
+
+returns-2 : tie.Need-returns-2 Inv-loop μ-loop
+returns-2 c = search needs
 
 pub list-spec : {M : Type 1} → statement M
 list-spec =
@@ -74,14 +72,19 @@ list-spec =
     μ-loop
     rows-requires
     slice-aggregate-page
+    is-watched-requires
     begin-requires
     write-requires
-    returns
     loop-holds
     go-on-requires
     write-requires-2
-    returns-2
-    returns-3
+    slice-aggregate-write-all
+    write-all-requires
+    returns
+    sub-progress
+    progress-requires
     loop-less
     loop-again
-    returns-4)
+    loop-less-2
+    loop-again-2
+    returns-2)
