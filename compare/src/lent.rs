@@ -1,5 +1,8 @@
 //! What is lent to a call, with a margin around each slice, so that a write outside of it shows too.
 
+use std::collections::hash_map::DefaultHasher;
+use std::hash::{Hash, Hasher};
+
 /// Items before and behind each slice.
 const MARGIN: usize = 16;
 
@@ -11,7 +14,7 @@ pub struct Rooms {
     pub bytes: usize,
 }
 
-#[derive(Clone, PartialEq, Eq)]
+#[derive(Clone, Hash, PartialEq, Eq)]
 pub struct Lent {
     numbers: Vec<u64>,
     times: Vec<u64>,
@@ -38,6 +41,13 @@ impl Lent {
 
     pub fn slices(&mut self) -> Slices<'_> {
         Slices { numbers: within(&mut self.numbers), times: within(&mut self.times), bytes: within(&mut self.bytes) }
+    }
+
+    /// One number for all that it holds, so that what two processes were lent can be held against each other.
+    pub fn digest(&self) -> u64 {
+        let mut hasher = DefaultHasher::new();
+        self.hash(&mut hasher);
+        hasher.finish()
     }
 
     /// The first item at which the two are not the same, and what each holds there.

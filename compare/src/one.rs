@@ -59,7 +59,8 @@ pub fn one(service: &str, reader: &str, file: &str, numbers: &[&str]) -> Result<
     let call = call_of(service, &text, numbers)?;
     let mut lent = Lent::new(call.rooms());
     let answer = measured_call(of_second, &text, &*call, lent.slices());
-    println!("{}; numbers {:?}", say(answer), lent.slices().numbers);
+    let digest = lent.digest();
+    println!("{}; numbers {:?}; all lent {digest:016x}", say(answer), lent.slices().numbers);
     Ok(ExitCode::SUCCESS)
 }
 

@@ -6,13 +6,15 @@ mod large;
 mod nested;
 mod plan;
 pub mod random;
+mod runs;
 mod statements;
 mod tokens;
 
-pub use large::{large, LARGE_KINDS};
+pub use large::{large, sized, LARGE_KINDS, SIZED_KINDS};
 pub use nested::nested;
 use plan::{Plan, Slip};
 use random::Random;
+pub use runs::{run, RUN_KINDS};
 use tokens::Tokens;
 
 /// The text of one seed; the same seed gives the same text.

@@ -1,6 +1,6 @@
 //! What the generator reaches, and that large texts are accepted.
 
-use second::generate::{large, text, LARGE_KINDS};
+use second::generate::{large, run, sized, text, LARGE_KINDS, RUN_KINDS, SIZED_KINDS};
 use second::{check, listing, name, token, waveform, window, Declared, Refusal};
 use std::time::Instant;
 
@@ -52,6 +52,32 @@ fn large_texts_are_accepted() {
         assert!(made.len() > 50_000 && made.len() <= 65_536, "{kind} is {} bytes", made.len());
     }
     assert!(large("other").is_none());
+}
+
+#[test]
+fn sized_texts_are_accepted() {
+    for (kind, least) in SIZED_KINDS {
+        for (bytes, signals) in [(1_024, 8), (4_096, 8), (16_384, least), (16_384, 64), (65_536, 64)] {
+            let made = sized(kind, bytes, signals).expect("a kind");
+            let sum = check(&made).unwrap_or_else(|refusal| panic!("{kind} {bytes} {signals}: {refusal:?}"));
+            assert_eq!(sum.signals, signals as u64);
+            assert!(made.len() <= bytes && made.len() > bytes * 4 / 5, "{kind} is {} of {bytes} bytes", made.len());
+        }
+        assert!(sized(kind, 256, 8).is_none() && sized(kind, 16_384, least - 1).is_none());
+    }
+    assert!(sized("other", 16_384, 8).is_none());
+}
+
+#[test]
+fn long_runs_are_accepted() {
+    let cycles = [3_000_000, 8_000, 32_768, 65_536 * 16_777_215];
+    for (kind, cycles) in RUN_KINDS.iter().zip(cycles) {
+        for signals in [1, 64] {
+            let sum =
+                check(&run(kind, signals).expect("a kind")).unwrap_or_else(|refusal| panic!("{kind}: {refusal:?}"));
+            assert_eq!((sum.signals, sum.cycles), (signals as u64, cycles), "{kind}");
+        }
+    }
 }
 
 /// A refused text is refused alike by every service, and no buffer is touched.

@@ -1,6 +1,7 @@
-//! Writes generated texts: `generate SEED`, `generate nested SEED`, `generate DIR FIRST COUNT`, `generate big KIND`.
+//! Writes generated texts: `generate SEED`, `generate nested SEED`, `generate DIR FIRST COUNT`, `generate big KIND`, `generate big KIND BYTES SIGNALS`,
+//! `generate run KIND SIGNALS`.
 
-use second::generate::{large, nested, text, LARGE_KINDS};
+use second::generate::{large, nested, run, sized, text, LARGE_KINDS, RUN_KINDS, SIZED_KINDS};
 use std::io::{self, Write};
 use std::path::Path;
 use std::process::ExitCode;
@@ -8,7 +9,7 @@ use std::process::ExitCode;
 fn main() -> ExitCode {
     let words: Vec<String> = std::env::args().skip(1).collect();
     let words: Vec<&str> = words.iter().map(String::as_str).collect();
-    match run(&words) {
+    match answer(&words) {
         Ok(()) => ExitCode::SUCCESS,
         Err(line) => {
             eprintln!("{line}");
@@ -17,17 +18,30 @@ fn main() -> ExitCode {
     }
 }
 
-fn run(words: &[&str]) -> Result<(), String> {
+const USAGE: &str = "generate SEED | generate nested SEED | generate DIR FIRST COUNT | generate big KIND
+generate big KIND BYTES SIGNALS | generate run KIND SIGNALS";
+
+fn answer(words: &[&str]) -> Result<(), String> {
     match *words {
         ["big", kind] => {
             let made =
                 large(kind).ok_or_else(|| format!("no such kind: {kind}; there are {}", LARGE_KINDS.join(" ")))?;
             write_out(&made)
         }
+        ["big", kind, bytes, signals] => {
+            let made = sized(kind, number(bytes)? as usize, number(signals)? as usize);
+            write_out(&made.ok_or_else(|| {
+                format!("no such kind, or too few bytes or signals; kinds and least signals: {SIZED_KINDS:?}")
+            })?)
+        }
+        ["run", kind, signals] => {
+            let made = run(kind, number(signals)? as usize);
+            write_out(&made.ok_or_else(|| format!("no such kind: {kind}; there are {}", RUN_KINDS.join(" ")))?)
+        }
         ["nested", seed] => write_out(&nested(number(seed)?)),
         [seed] => write_out(&text(number(seed)?)),
         [dir, first, count] => write_files(Path::new(dir), number(first)?, number(count)?),
-        _ => Err("generate SEED | generate nested SEED | generate DIR FIRST COUNT | generate big KIND".into()),
+        _ => Err(USAGE.into()),
     }
 }
 

@@ -1,4 +1,4 @@
-//! Texts of about 64 KB, each heavy in one way, all accepted: for measuring.
+//! Texts heavy in one way, all accepted, for measuring: ten kinds of about 64 KB, and some of them in any size.
 
 use super::random::Random;
 use crate::bounds::MAX_TEXT;
@@ -6,27 +6,61 @@ use crate::bounds::MAX_TEXT;
 pub const LARGE_KINDS: [&str; 10] =
     ["vectors", "wide", "comments", "waveforms", "macros", "calls", "loops", "shifts", "arguments", "groups"];
 
+/// Those that `sized` makes, with the least signals that each needs.
+pub const SIZED_KINDS: [(&str, usize); 5] = [("straight", 1), ("vectors", 2), ("wide", 1), ("calls", 5), ("shifts", 2)];
+
 const SIGNALS: usize = 32;
+const LARGE: Size = Size { heavy: 60_000, signals: SIGNALS, shorter: 1 };
+
+/// Sized texts have shorter bodies and Shifts, so that one of 1 KB is made like one of 64 KB.
+const SHORTER: usize = 16;
+
+/// The bytes of a text's heavy part, its signals, and how many times shorter than in a large text its bodies and Shifts are.
+#[derive(Clone, Copy)]
+struct Size {
+    heavy: usize,
+    signals: usize,
+    shorter: usize,
+}
 
 pub fn large(kind: &str) -> Option<Vec<u8>> {
     let mut random = Random::new(kind.len() as u64);
     let text = match kind {
-        "vectors" => pattern("", &fill(60_000, |_| vector(&mut random))),
-        "wide" => pattern("", &fill(60_000, |_| wide_vector(&mut random))),
         "comments" => {
-            pattern("", &fill(60_000, |at| format!("// {} note {at} of many\n/* V {{ }} */ V {{ }}\n", "-".repeat(60))))
+            plain(fill(LARGE.heavy, |at| format!("// {} note {at} of many\n/* V {{ }} */ V {{ }}\n", "-".repeat(60))))
         }
         "waveforms" => waveforms(),
         "macros" => macros(),
-        "calls" => calls(),
-        "loops" => pattern("", &fill(60_000, |_| loops())),
-        "shifts" => shifts(&mut random),
+        "loops" => plain(fill(LARGE.heavy, |_| loops())),
         "arguments" => arguments(&mut random),
         "groups" => groups(&mut random),
-        _ => return None,
+        _ => scaled(kind, LARGE)?,
     };
     debug_assert!(text.len() <= MAX_TEXT);
     Some(text.into_bytes())
+}
+
+/// A text of at most so many bytes; none where they are too few for what stands around its heavy part.
+pub fn sized(kind: &str, bytes: usize, signals: usize) -> Option<Vec<u8>> {
+    let &(_, least) = SIZED_KINDS.iter().find(|(name, _)| *name == kind)?;
+    if signals < least {
+        return None;
+    }
+    let size = Size { heavy: 0, signals, shorter: SHORTER };
+    let heavy = bytes.checked_sub(scaled(kind, size)?.len())?;
+    scaled(kind, Size { heavy, ..size }).map(String::into_bytes)
+}
+
+fn scaled(kind: &str, size: Size) -> Option<String> {
+    let mut random = Random::new(kind.len() as u64);
+    match kind {
+        "straight" => Some(pattern(size.signals, "", &fill(size.heavy, |_| straight(size.signals, &mut random)))),
+        "vectors" => Some(pattern(size.signals, "", &fill(size.heavy, |_| vector(size.signals, &mut random)))),
+        "wide" => Some(pattern(size.signals, "", &fill(size.heavy, |_| wide_vector(size.signals, &mut random)))),
+        "calls" => Some(calls(size)),
+        "shifts" => Some(shifts(size, &mut random)),
+        _ => None,
+    }
 }
 
 /// Items until the next would pass the length.
@@ -46,10 +80,10 @@ fn join(count: usize, between: &str, item: impl Fn(usize) -> String) -> String {
     (0..count).map(item).collect::<Vec<String>>().join(between)
 }
 
-fn head() -> String {
-    let signals = join(SIGNALS, " ", |pin| format!("pin_number_{pin} InOut;"));
-    let all = join(SIGNALS, "+", |pin| format!("pin_number_{pin}"));
-    format!("STIL 1.0;\nSignals {{ {signals} }}\nSignalGroups {{ all = '{all}'; }}\n")
+fn head(signals: usize) -> String {
+    let declared = join(signals, " ", |pin| format!("pin_number_{pin} InOut;"));
+    let all = join(signals, "+", |pin| format!("pin_number_{pin}"));
+    format!("STIL 1.0;\nSignals {{ {declared} }}\nSignalGroups {{ all = '{all}'; }}\n")
 }
 
 fn timing() -> String {
@@ -61,17 +95,27 @@ fn tail(body: &str) -> String {
     format!("PatternBurst b {{ PatList {{ p; }} }}\nPatternExec {{ PatternBurst b; }}\nPattern p {{ W t;\n{body}}}\n")
 }
 
-fn pattern(blocks: &str, body: &str) -> String {
-    format!("{}{}{blocks}{}", head(), timing(), tail(body))
+pub(super) fn pattern(signals: usize, blocks: &str, body: &str) -> String {
+    format!("{}{}{blocks}{}", head(signals), timing(), tail(body))
 }
 
-fn vector(random: &mut Random) -> String {
-    let (one, other) = (random.below(SIGNALS / 2), SIGNALS / 2 + random.below(SIGNALS / 2));
+fn plain(body: String) -> String {
+    pattern(SIGNALS, "", &body)
+}
+
+/// One signal, however many there are.
+fn straight(signals: usize, random: &mut Random) -> String {
+    format!("V {{ pin_number_{} = {}; }}\n", random.below(signals), random.below(2))
+}
+
+fn vector(signals: usize, random: &mut Random) -> String {
+    let half = signals / 2;
+    let (one, other) = (random.below(half), half + random.below(half));
     format!("V {{ pin_number_{one} = {}; pin_number_{other} = H; }}\n", random.below(2))
 }
 
-fn wide_vector(random: &mut Random) -> String {
-    let data: String = (0..SIGNALS).map(|_| b"01LH"[random.below(4)] as char).collect();
+fn wide_vector(signals: usize, random: &mut Random) -> String {
+    let data: String = (0..signals).map(|_| b"01LH"[random.below(4)] as char).collect();
     format!("V {{ all = {data}; }}\n")
 }
 
@@ -84,7 +128,7 @@ fn waveforms() -> String {
         let name = if number == 0 { "t".to_string() } else { format!("t{number}") };
         format!("WaveformTable {name} {{ Period '100ns'; Waveforms {{\n{pins}\n}} }}\n")
     };
-    format!("{}Timing {{\n{}}}\n{}", head(), join(8, "", table), tail("V { all = \\r32 0; }\n"))
+    format!("{}Timing {{\n{}}}\n{}", head(SIGNALS), join(8, "", table), tail("V { all = \\r32 0; }\n"))
 }
 
 /// Thirty-two bodies, each a page of statements, used once.
@@ -96,22 +140,23 @@ fn macros() -> String {
         )
     };
     let uses = join(32, "", |number| format!("Macro macro_number_{number};\n"));
-    pattern(&format!("MacroDefs {{\n{}}}\n", join(32, "", body)), &uses)
+    pattern(SIGNALS, &format!("MacroDefs {{\n{}}}\n", join(32, "", body)), &uses)
 }
 
-/// A run of nearly the largest size: bodies using bodies within nested Loops.
-fn calls() -> String {
-    let inner = "V { pin_number_3 = 1; } V { pin_number_4 = H; } ".repeat(7);
+/// Where it is large, a run of nearly the largest size: bodies using bodies within nested Loops.
+fn calls(size: Size) -> String {
+    let share = |count: usize| count * size.heavy / LARGE.heavy;
+    let inner = "V { pin_number_3 = 1; } V { pin_number_4 = H; } ".repeat((7 / size.shorter).max(1));
     let blocks = format!(
         "MacroDefs {{ low {{ {inner}}} mid {{ {}}} arg {{ V {{ pin_number_1 = #; }} }} }}\n",
         "Loop 2 { Macro low; } ".repeat(3)
     );
     let body = format!(
         "Loop 2 {{ Loop 2 {{ Loop 2 {{ Loop 2 {{\n{}{}}} }} }} }}\n",
-        "Macro mid;\n".repeat(1200),
-        "Macro arg { pin_number_1 = 0; }\n".repeat(1300)
+        "Macro mid;\n".repeat(share(1200)),
+        "Macro arg { pin_number_1 = 0; }\n".repeat(share(1300))
     );
-    pattern(&blocks, &body)
+    pattern(size.signals, &blocks, &body)
 }
 
 /// Loops eight deep whose later turns differ from the first.
@@ -122,16 +167,17 @@ fn loops() -> String {
 }
 
 /// Long arguments, plain and by repeats.
-fn shifts(random: &mut Random) -> String {
+fn shifts(size: Size, random: &mut Random) -> String {
     let blocks = "MacroDefs { load { Shift { V { pin_number_0 = #; pin_number_1 = #; } } } }\n";
-    let body = fill(60_000, |number| {
+    let (long, short) = (4_096 / size.shorter, 1_500 / size.shorter);
+    let body = fill(size.heavy, |number| {
         if number % 2 == 0 {
-            return "Macro load { pin_number_0 = \\r4095 01; pin_number_1 = \\r4096 H; }\n".into();
+            return format!("Macro load {{ pin_number_0 = \\r{} 01; pin_number_1 = \\r{long} H; }}\n", long - 1);
         }
-        let bits: String = (0..1500).map(|_| if random.percent(50) { '0' } else { '1' }).collect();
-        format!("Macro load {{ pin_number_0 = {bits}; pin_number_1 = \\r1500 L; }}\n")
+        let bits: String = (0..short).map(|_| if random.percent(50) { '0' } else { '1' }).collect();
+        format!("Macro load {{ pin_number_0 = {bits}; pin_number_1 = \\r{short} L; }}\n")
     });
-    pattern(blocks, &body)
+    pattern(size.signals, blocks, &body)
 }
 
 /// A macro with arguments that uses another with long ones, itself used often.
@@ -142,7 +188,7 @@ fn arguments(random: &mut Random) -> String {
         format!("Macro low {{ pin_number_0 = {bits}; }}\n")
     });
     let blocks = format!("MacroDefs {{ {load} high {{ {uses} V {{ pin_number_1 = #; }} }} }}\n");
-    pattern(&blocks, &"Macro high { pin_number_1 = L; }\n".repeat(1_100))
+    pattern(SIGNALS, &blocks, &"Macro high { pin_number_1 = L; }\n".repeat(1_100))
 }
 
 /// Thirty-two long expressions with brackets.
