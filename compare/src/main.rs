@@ -9,6 +9,8 @@ mod lent;
 mod name;
 mod one;
 mod proved;
+#[path = "../../examples/rust/src/raw.rs"]
+mod raw;
 mod reader;
 #[cfg(test)]
 mod slips;

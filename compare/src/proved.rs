@@ -1,43 +1,8 @@
-//! The proved reader, behind its C interface: a slice is a pointer and a length.
+//! The proved reader, behind its C interface.
 
+use crate::raw::{lutemeteor_check, lutemeteor_name, lutemeteor_token, lutemeteor_waveform, lutemeteor_window};
 use crate::reader::Reader;
 use second::timing::Asked;
-
-extern "C" {
-    fn lutemeteor_check(text: *const u8, length: usize, numbers: *mut u64, room: usize) -> u64;
-    fn lutemeteor_name(
-        text: *const u8,
-        length: usize,
-        table: u8,
-        number: usize,
-        numbers: *mut u64,
-        numbers_room: usize,
-    ) -> u64;
-    fn lutemeteor_waveform(
-        text: *const u8,
-        length: usize,
-        table: usize,
-        signal: usize,
-        character: u8,
-        times: *mut u64,
-        times_room: usize,
-        letters: *mut u8,
-        letters_room: usize,
-        count: *mut u64,
-        count_room: usize,
-    ) -> u64;
-    fn lutemeteor_window(
-        text: *const u8,
-        length: usize,
-        first: usize,
-        wanted: usize,
-        rows: *mut u8,
-        rows_room: usize,
-        numbers: *mut u64,
-        numbers_room: usize,
-    ) -> u64;
-    fn lutemeteor_token(text: *const u8, length: usize, at: u64, numbers: *mut u64, room: usize) -> u64;
-}
 
 /// The proved reader with one text, which it reads at each call.
 pub struct Proved<'t>(pub &'t [u8]);
@@ -52,7 +17,7 @@ impl Reader for Proved<'_> {
     fn name(&self, table: u8, number: u64, numbers: &mut [u64]) -> u64 {
         let text = self.0;
         unsafe {
-            lutemeteor_name(text.as_ptr(), text.len(), table, number as usize, numbers.as_mut_ptr(), numbers.len())
+            lutemeteor_name(text.as_ptr(), text.len(), table, number, numbers.as_mut_ptr(), numbers.len())
         }
     }
 
@@ -61,8 +26,8 @@ impl Reader for Proved<'_> {
             lutemeteor_waveform(
                 self.0.as_ptr(),
                 self.0.len(),
-                asked.table as usize,
-                asked.signal as usize,
+                asked.table,
+                asked.signal,
                 asked.character,
                 times.as_mut_ptr(),
                 times.len(),
@@ -79,8 +44,8 @@ impl Reader for Proved<'_> {
             lutemeteor_window(
                 self.0.as_ptr(),
                 self.0.len(),
-                first as usize,
-                wanted as usize,
+                first,
+                wanted,
                 rows.as_mut_ptr(),
                 rows.len(),
                 numbers.as_mut_ptr(),

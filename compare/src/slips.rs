@@ -11,9 +11,20 @@ use second::timing::Asked;
 use second::tokens::check_bytes;
 use second::{token, Located, Refusal};
 
-#[derive(Clone, Copy, Debug, PartialEq, Eq)]
-enum Slip {
-    None,
+/// The slips, and a list of them all.
+macro_rules! slips {
+    ($($slip:ident,)*) => {
+        #[derive(Clone, Copy, Debug, PartialEq, Eq)]
+        enum Slip {
+            None,
+            $($slip,)*
+        }
+
+        const ALL: &[Slip] = &[$(Slip::$slip,)*];
+    };
+}
+
+slips! {
     CheckCycles,
     CheckPlace,
     CheckWritesThoughRefused,
@@ -236,66 +247,6 @@ fn found(slip: Slip) -> bool {
 
 #[test]
 fn each_slip_is_found() {
-    use Slip::*;
-    assert!(!found(None));
-    let slips = [
-        CheckCycles,
-        CheckPlace,
-        CheckWritesThoughRefused,
-        CheckWritesBehind,
-        NameCut,
-        NameLength,
-        NameAnswersWithoutRoom,
-        WaveformTableCut,
-        WaveformSignalCut,
-        WaveformCharacterCut,
-        WaveformRest,
-        WaveformShortTimes,
-        WaveformLastLetter,
-    ];
-    slips.iter().for_each(|&slip| assert!(found(slip), "{slip:?}"));
-}
-
-#[test]
-fn each_slip_of_windows_is_found() {
-    use Slip::*;
-    let slips = [
-        WindowVisits,
-        WindowVisitsOfLaterTurns,
-        WindowOneRowOnly,
-        WindowFirstCut,
-        WindowWantedCut,
-        WindowRest,
-        WindowShortByWanted,
-        WindowWritesThoughRefused,
-    ];
-    slips.iter().for_each(|&slip| assert!(found(slip), "{slip:?}"));
-}
-
-#[test]
-fn each_slip_of_tokens_is_found() {
-    use Slip::*;
-    let slips = [
-        TokenCut,
-        TokenCutShort,
-        TokenWholeWord,
-        TokenLineKnown,
-        TokenReturnEndsLine,
-        TokenStarCloses,
-        TokenPlaceInRest,
-        TokenLength,
-        TokenLastByte,
-        TokenEndRefused,
-        TokenTooLongPastEnd,
-        TokenWholeText,
-        TokenOpenFirst,
-        TokenRoomFirst,
-        TokenTwoNumbers,
-        TokenNoneWithoutRoom,
-        TokenNoneKeeps,
-        TokenRest,
-        TokenWritesThoughRefused,
-        TokenWritesThoughShort,
-    ];
-    slips.iter().for_each(|&slip| assert!(found(slip), "{slip:?}"));
+    assert!(!found(Slip::None));
+    ALL.iter().for_each(|&slip| assert!(found(slip), "{slip:?}"));
 }

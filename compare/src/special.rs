@@ -8,17 +8,7 @@ use second::generate::random::Random;
 use second::{check, token, Refusal, Summary};
 
 /// Document 01's own text.
-pub const SAMPLE: &str = "STIL 1.0;
-Signals { A In; B Out; }
-SignalGroups { ab = 'A+B'; }
-Timing { WaveformTable t0 { Period '100ns'; Waveforms {
- A { 01 { '0ns' D/U; } } B { LHX { '0ns' Z; '50ns' L/H/X; } } } } }
-MacroDefs { m { Shift { V { ab = ##; } } V { A = #; } } }
-PatternBurst b { PatList { p; } }
-PatternExec { PatternBurst b; }
-Pattern p { W t0; C { B = X; } Loop 2 { V { A = 1; } V { ab = 0H; } }
- Macro m { A = 101; B = LH; } }
-";
+pub const SAMPLE: &str = include_str!("../../examples/worked.stil");
 
 /// In t1 only B has the character x.
 const HEAD: &str = "STIL 1.0; Signals { A In; B In; D In; } SignalGroups { ab = 'A+B'; }

@@ -3,17 +3,8 @@
 
 use second::{check, Refusal, Summary};
 
-pub const SAMPLE: &str = "STIL 1.0;
-Signals { A In; B Out; }
-SignalGroups { ab = 'A+B'; }
-Timing { WaveformTable t0 { Period '100ns'; Waveforms {
- A { 01 { '0ns' D/U; } } B { LHX { '0ns' Z; '50ns' L/H/X; } } } } }
-MacroDefs { m { Shift { V { ab = ##; } } V { A = #; } } }
-PatternBurst b { PatList { p; } }
-PatternExec { PatternBurst b; }
-Pattern p { W t0; C { B = X; } Loop 2 { V { A = 1; } V { ab = 0H; } }
- Macro m { A = 101; B = LH; } }
-";
+/// Document 01's own text.
+pub const SAMPLE: &str = include_str!("../../../examples/worked.stil");
 
 const SIGNALS: &str = "Signals { A In; B Out; D InOut; }\n";
 const GROUPS: &str = "SignalGroups { ab = 'A+B'; one = 'D'; dab = 'D+ab'; }\n";
