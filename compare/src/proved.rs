@@ -16,9 +16,7 @@ impl Reader for Proved<'_> {
 
     fn name(&self, table: u8, number: u64, numbers: &mut [u64]) -> u64 {
         let text = self.0;
-        unsafe {
-            lutemeteor_name(text.as_ptr(), text.len(), table, number, numbers.as_mut_ptr(), numbers.len())
-        }
+        unsafe { lutemeteor_name(text.as_ptr(), text.len(), table, number, numbers.as_mut_ptr(), numbers.len()) }
     }
 
     fn waveform(&self, asked: Asked, times: &mut [u64], letters: &mut [u8], count: &mut [u64]) -> u64 {
