@@ -12,3 +12,4 @@ pub mod Single
 pub mod Patterns
 pub mod Running
 pub mod Texts
+pub mod Summing

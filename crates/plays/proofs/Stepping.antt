@@ -1,5 +1,5 @@
 -- One statement of a body that is held: what it plays, and the rest of the body behind it.
-use Prim.Native.Nat.{ℕ, _+_, _-_, _<_}
+use Prim.Native.Nat.{ℕ, _+_, _-_, _<_, _≤_}
 use native.Mathlib.Omega.{arith}
 use mathlib.Core.Path.{_≡_, refl, sym, ap, _∙_, subst}
 use mathlib.Core.Bool.{Bool, true, false, _||_}
@@ -7,9 +7,9 @@ use mathlib.Core.List.{List, []}
 use lib.Dec.{eqb, ltb}
 use borrow.Author.Tests.{lt-ltb, eqb-true}
 use Rattle.tokens.specs.Tokens.{Toks, toks, left}
-use Rattle.meaning.specs.Lists.{has, inside}
+use Rattle.meaning.specs.Lists.{has, inside, count}
 use Rattle.meaning.specs.Timing.{Tables}
-use Rattle.meaning.specs.Body.{Assigns, Args, assigning, choosing, Way, looped, shifted, entered, Body, done, vec, inner, marked, outside, supplied}
+use Rattle.meaning.specs.Body.{Assigns, Args, assigning, choosing, Way, looped, shifted, entered, Body, done, vec, inner, marked, outside, shifting, supplied}
 use Rattle.meaning.specs.Data.{assigned}
 use Rattle.meaning.specs.Run.{shiftOf, State, Played as Play, puts, changed, follow, again, entering}
 use Rattle.meaning.specs.Meaning.{firstFailing}
@@ -24,6 +24,7 @@ use Rattle.timing.specs.Held.{Held}
 use Rattle.measures.specs.Uses.{Given}
 use Rattle.measures.specs.Book.{bodies, startAt}
 use Rattle.arguments.specs.Supplied.{Supplied}
+use Rattle.sums.specs.Parts.{Exact}
 use Rattle.heads.specs.declared.What.{What}
 use Rattle.heads.specs.declared.What.the-variants.{Ends, Vector, Assigns as AssignsOnly, Chooses, Loops, Shifts, Uses as UsesBody}
 use Rattle.heads.specs.Heads.{kindOf, Tells}
@@ -33,7 +34,7 @@ use Rattle.plays.specs.Plays.{Ground, Holding, Single, Fits, Arrays, Sho
 use Rattle.plays.proofs.Supply.{same-puts, same-changed, same-playing, same-play}
 use Rattle.plays.proofs.Fitting.{inside-parts, fits-behind-vec, fits-behind-set, fits-behind-inner, fits-some, fits-looped, fits-shifted, fits-entered}
 use Rattle.plays.proofs.Following.{first-fails, second-alike, alike-same, alike-then}
-use Rattle.plays.proofs.Heading.{holds-less, Met, met, met-split, met-fine, met-less}
+use Rattle.plays.proofs.Heading.{holds-less, Met, met, met-split, met-fine, met-exact, met-less}
 
 -- ---- from the first statement to the rest
 
@@ -177,6 +178,7 @@ pub record Called (g : Ground) (c r : Cursor) (more level : ℕ) (E : Env) (b : 
   pub behind : Holds E (stream (g .text) r) rest us
   pub less : left (stream (g .text) r) < left (stream (g .text) c)
   pub supplied : Supplied (g .text) arguments given args
+  pub exact : ((j : ℕ) → count j (shifting body) ≤ 1) → Exact t body arguments
 
 module _ {g : Ground} {c r : Cursor} {more level table : ℕ} {x : Arrays} {E : Env} {b : Body} {us : Toks} {s : State} (st : Standing g (stream (g .text) c) more level table x E b us s)
     (on : alive c ≡ true) (given args : List ℕ) (what : What) (m : Makes (g .text) c (freeHead E) r (Tells (g .text) (g .book) (g .rows) given args (g .known .tables) what)) where
@@ -239,6 +241,7 @@ module _ {g : Ground} {c r : Cursor} {more level table : ℕ} {x : Arrays} {E : 
         behind = d .3;
         less = met-less w;
         supplied = w .told .6;
+        exact = met-exact w (kindOf i) z t a e;
       }
 
 -- a Shift holds one V
