@@ -18,11 +18,13 @@ ghost use Rattle.arguments.specs.Supplied.{Supplied, DataAt};
 ghost use Rattle.sums.specs.Parts.{Nothing, Assigned, Chosen, Shows, Cycled, InPlace, Called, Alone, lastOf, behind};
 ghost use Rattle.pins.specs.Shown.{tableOf};
 ghost use Rattle.sums.specs.Sums.{okAt, orTable};
-ghost use Rattle.tallies.specs.Rows.{slots, rowSize, byteAt, shownOf, sumAt, Only, Stored, More, Marked, Inherits, Needed, Tabled, Asked, ShownWhere, FedWhere, Passed, OnSignal, Retabled, isSummed, isShifted, Grants, Holds, FitsWhere, FedFits, OnPin, Suits};
+ghost use Rattle.tallies.specs.Rows.{slots, rowSize, byteAt, flagAt, shownOf, sumAt, Only, Stored, More, Marked, Inherits, Needed, Tabled, Asked, ShownWhere, FedWhere, Passed, OnSignal, Retabled, isSummed, isShifted, Grants, Holds, FitsWhere, FedFits, OnPin, Suits};
 
 const MARK: u8 = 35;
 
 const CHARS: usize = 128;
+
+const BYTES: usize = 256;
 // The text's tables, and the one before.
 const SLOTS: usize = timing::TABLES + 1;
 
@@ -288,7 +290,7 @@ fn show_where(sums: &mut [u8], to: usize, from: usize, place: usize, waves: &[u8
     }
 }
 
-// A signal's argument, of so many characters: each is shown wherever the body shows the argument. The answer is the last one, 0 for none.
+// A signal's argument, of so many characters: each is shown, once, wherever the body shows the argument. The answer is the last one, 0 for none.
 fn feed(
     text: &[u8],
     sums: &mut [u8],
@@ -302,6 +304,7 @@ fn feed(
     requires { ⌜ (to * rowSize + rowSize ≤ length (now sums)) × (from * rowSize + rowSize ≤ length (now sums)) × (from ≡ to → ⊥) × (length (now waves) ≡ tablesMost * tableSize) × (s < signalsMost) ⌝ }
     ensures { λ r. ⌜ More to (now (sums .entry)) (now (sums .exit)) × ((cs : List ℕ) → DataAt (now (text .entry)) place cs → length cs ≡ count → (r ≡ lastOf cs 0) × ((tabs : Tables) → Marked (now (waves .entry)) tabs → FedWhere tabs to from s cs (now (sums .entry)) (now (sums .exit)))) ⌝ }
 {
+    let mut seen = [0u8; BYTES];
     let mut f = feeds::start(place);
     let mut last = 0;
     let mut i = 0;
@@ -309,7 +312,10 @@ fn feed(
         let x = feeds::next(text, f);
         last = x.char;
         f = x.feed;
-        show_where(sums, to, from, GIVEN + s * SLOTS, waves, s, last);
+        if seen[last as usize] == 0 {
+            show_where(sums, to, from, GIVEN + s * SLOTS, waves, s, last);
+            seen[last as usize] = 1;
+        }
         i += 1;
     }
     last
@@ -493,6 +499,17 @@ fn fits(waves: &[u8], t: usize, s: usize, x: u8) -> bool
     has(waves, t, s, x)
 }
 
+// Can it where the byte at a place of the row marks that slot?
+fn fits_slot(sums: &[u8], r: usize, p: usize, waves: &[u8], t: usize, s: usize, x: u8) -> bool
+    requires { ⌜ (r * rowSize + rowSize ≤ length (now sums)) × (p < rowSize) × (length (now waves) ≡ tablesMost * tableSize) × (s < signalsMost) ⌝ }
+    ensures { λ b. ⌜ (b ≡ true → (tabs : Tables) → Marked (now (waves .entry)) tabs → flagAt (now (sums .entry)) r p ≡ true → okAt tabs (tableOf t) s x ≡ true) ⌝ }
+{
+    if byte(sums, r, p) == 0 {
+        return true;
+    }
+    fits(waves, t, s, x)
+}
+
 // Can it wherever the row shows what stood on the signal before, or its argument? `place` is where the slots of that stand.
 fn fits_where(
     sums: &[u8],
@@ -508,20 +525,15 @@ fn fits_where(
 {
     let mut t = 0;
     while t < timing::TABLES {
-        if byte(sums, r, place + t) != 0 {
-            if !fits(waves, t, s, x) {
-                return false;
-            }
+        if !fits_slot(sums, r, place + t, waves, t, s, x) {
+            return false;
         }
         t += 1;
     }
-    if byte(sums, r, place + timing::TABLES) == 0 {
-        return true;
-    }
-    fits(waves, table, s, x)
+    fits_slot(sums, r, place + timing::TABLES, waves, table, s, x)
 }
 
-// So each character of an argument, which has so many; the pin is the last of them, 0 for none. A character is looked at once.
+// So each character of an argument, which has so many; the pin is the last of them, 0 for none. Each is looked at once.
 fn fed_fits(
     text: &[u8],
     sums: &[u8],
@@ -535,7 +547,7 @@ fn fed_fits(
     requires { ⌜ (r * rowSize + rowSize ≤ length (now sums)) × (length (now waves) ≡ tablesMost * tableSize) × (s < signalsMost) ⌝ }
     ensures { λ o. ⌜ ((cs : List ℕ) → DataAt (now (text .entry)) place cs → length cs ≡ count → o .fits ≡ true → (o .pin ≡ lastOf cs 0) × ((tabs : Tables) → Marked (now (waves .entry)) tabs → FedFits tabs r s cs (tableOf table) (now (sums .entry)))) ⌝ }
 {
-    let mut seen = [false; 256];
+    let mut seen = [0u8; BYTES];
     let mut f = feeds::start(place);
     let mut last = 0;
     let mut i = 0;
@@ -543,14 +555,14 @@ fn fed_fits(
         let x = feeds::next(text, f);
         last = x.char;
         f = x.feed;
-        if !seen[last as usize] {
+        if seen[last as usize] == 0 {
             if !fits_where(sums, r, GIVEN + s * SLOTS, waves, s, last, table) {
                 return On {
                     fits: false,
                     pin: last,
                 };
             }
-            seen[last as usize] = true;
+            seen[last as usize] = 1;
         }
         i += 1;
     }
@@ -558,6 +570,35 @@ fn fed_fits(
         fits: true,
         pin: last,
     }
+}
+
+// The same, where the signal has one.
+fn signal_fits(
+    text: &[u8],
+    sums: &[u8],
+    r: usize,
+    waves: &[u8],
+    s: usize,
+    given: &[u8],
+    args: &[usize],
+    table: usize,
+) -> On
+    requires { ⌜ (r * rowSize + rowSize ≤ length (now sums)) × (length (now waves) ≡ tablesMost * tableSize) × (s < signalsMost) × (length (now given) ≡ signalsMost) × (length (now args) ≡ signalsMost * 2) ⌝ }
+    ensures { λ o. ⌜ ((xs : Args) → Supplied (now (text .entry)) xs (now (given .entry)) (now (args .entry)) → o .fits ≡ true → (o .pin ≡ lastOf (argOf s xs) 0) × ((tabs : Tables) → Marked (now (waves .entry)) tabs → FedFits tabs r s (argOf s xs) (tableOf table) (now (sums .entry)))) ⌝ }
+{
+    if given[s] == 0 {
+        return On { fits: true, pin: 0 };
+    }
+    fed_fits(
+        text,
+        sums,
+        r,
+        waves,
+        s,
+        args[sets::MOST + s],
+        args[s],
+        table,
+    )
 }
 
 // A signal with the character x before: its argument too, and what the row leaves on it.
@@ -581,19 +622,7 @@ fn on_signal(
             pin: x,
         };
     }
-    let mut o = On { fits: true, pin: 0 };
-    if given[s] != 0 {
-        o = fed_fits(
-            text,
-            sums,
-            r,
-            waves,
-            s,
-            args[sets::MOST + s],
-            args[s],
-            table,
-        );
-    }
+    let o = signal_fits(text, sums, r, waves, s, given, args, table);
     let u = byte(sums, r, PINS + s);
     if u == 0 {
         return On {
