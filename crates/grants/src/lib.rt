@@ -1,10 +1,9 @@
 // Is it plain that no cycle of a text's run fails? Every body that the run uses is summed up once, where the text holds it: what it asks of the state in which it
 // begins. Where no listed pattern asks for anything that isn't there, no cycle fails. The sums may ask for too much; then nothing is said, and the run is played.
 ghost use mathlib.Core.Path.{_≡_};
-ghost use mathlib.Core.Bool.{true, false, not, _||_, _&&_};
+ghost use mathlib.Core.Bool.{true, false};
 ghost use mathlib.Core.Option.{none};
 ghost use Prim.Native.Nat.{ℕ, _+_, _*_, _≤_};
-ghost use lib.Dec.{eqb};
 ghost use mathlib.Core.List.{List};
 ghost use lib.ListN.{length};
 ghost use Rattle.words.specs.Cursor.{alive, stream};
