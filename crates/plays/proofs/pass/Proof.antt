@@ -37,7 +37,7 @@ asks-requires c κs =
     let pre′ = c .before .before .before .before .before .before .before .before .before .before .before .before .before .before .pre in
     let args′ = c .before .before .before .before .before .before .before .before .before .before .before .before .before .before .args in
     let if1′ = c .before .before .before .before .before .before .if1 in
-    (room (args′ .marks .now) (args′ .sums .now) (args′ .i) (if1′ .left) .1, pre′ .0, pre′ .1, pre′ .3, pre′ .4, omega (arith, pre′ .5), length-replicate {A = ℕ} 64 0, ?standin)
+    (room (args′ .marks .now) (args′ .sums .now) (args′ .i) (if1′ .left) .1, pre′ .0, pre′ .1, pre′ .3, pre′ .4, omega (arith, pre′ .5), length-replicate {A = ℕ} 64 0)
 
 same-length : tie.Need-same-length
 same-length c = search needs
@@ -55,7 +55,7 @@ table-behind-requires : tie.Need-table-behind-requires
 table-behind-requires c κs =
     let args′ = c .before .before .before .before .before .before .before .before .before .before .before .before .before .before .before .before .before .before .before .before .before .before .args in
     let if1′ = c .before .before .before .before .before .before .before .before .before .before .before .before .before .before .if1 in
-    (room (args′ .marks .now) (args′ .sums .now) (args′ .i) (if1′ .left) .1, ?standin)
+    room (args′ .marks .now) (args′ .sums .now) (args′ .i) (if1′ .left) .1
 
 same-length-2 : tie.Need-same-length-2
 same-length-2 c = search needs
@@ -84,7 +84,7 @@ asks-requires-2 c κs =
     let pre′ = c .before .before .before .before .before .before .before .before .before .before .before .before .before .before .pre in
     let args′ = c .before .before .before .before .before .before .before .before .before .before .before .before .before .before .args in
     let if1′ = c .before .before .before .before .before .before .if1 in
-    (room (args′ .marks .now) (args′ .sums .now) (args′ .i) (if1′ .left) .1, pre′ .0, pre′ .1, pre′ .3, pre′ .4, omega (arith, length-replicate {A = ℕ} 64 0), length-replicate {A = ℕ} 64 0, ?standin)
+    (room (args′ .marks .now) (args′ .sums .now) (args′ .i) (if1′ .left) .1, pre′ .0, pre′ .1, pre′ .3, pre′ .4, omega (arith, length-replicate {A = ℕ} 64 0), length-replicate {A = ℕ} 64 0)
 
 returns-5 : tie.Need-returns-5
 returns-5 c =
