@@ -13,3 +13,5 @@ pub mod Patterns
 pub mod Running
 pub mod Texts
 pub mod Summing
+mod Settling
+mod Passing

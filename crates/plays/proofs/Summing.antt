@@ -3,7 +3,7 @@ use Prim.Native.Nat.{ℕ, _<_, _≤_}
 use native.Mathlib.Omega.{arith}
 use mathlib.Core.Path.{_≡_, refl}
 use mathlib.Core.Bool.{Bool, true, false, not, _||_, _&&_}
-use mathlib.Core.List.{List}
+use mathlib.Core.List.{List, []}
 use lib.ListN.{getD}
 use lib.Dec.{eqb}
 use borrow.Author.Tests.{eqb-true, eqb-false, not-true}
@@ -22,6 +22,9 @@ use Rattle.plays.proofs.Fitting.{both}
 -- nothing, where no mark is set
 pub summed-none : (g : Ground) (E : Env) (marks sums : List ℕ) → ((i : ℕ) → getD marks i 0 ≡ 0) → Summed g marks sums E
 summed-none g E marks sums h = record { each = λ i b e. absurd (omega (arith, h i)); shifted-each = λ i b e. absurd (omega (arith, h i)) }
+
+pub summed-empty : (g : Ground) (E : Env) → Summed g [] [] E
+summed-empty g E = summed-none g E [] [] (λ i. refl)
 
 -- is the sum of the body of number i known, with its Shift played t times?
 abbrev pub usable : List ℕ → (i t : ℕ) → Bool

@@ -79,7 +79,7 @@ module _ (text places lists tplaces waves book rows list : List ℕ) (known : Kn
         few-decides 0 run (good-listed env (d .patterns) all-fit (d .listed) run is-listed) (start signals) (env .tables) .1 ∙ (rw (is-whole .tables, n))
 
     -- the pattern of a listed name
-    listed-at : {k : ℕ} {x : Decl} → find (d .patterns) (nameOf text list k .word) ≡ some x → Stands env x → ListedAt all list patterns k env (d .patterns) x
+    pub listed-at : {k : ℕ} {x : Decl} → find (d .patterns) (nameOf text list k .word) ≡ some x → Stands env x → ListedAt all list patterns k env (d .patterns) x
     listed-at {k} {x} found stands = record {
       holding = holding;
       book = h .tabled .patterns-are;
@@ -128,24 +128,26 @@ module _ (text places lists tplaces waves book rows list : List ℕ) (known : Kn
           pub run-left : r .failed ≡ false → Left (env .tables) signals env (d .patterns) run (listFrom text list listed (k + 1))
           run-left e = next-left upcoming (s .sound env (d .patterns) (upcoming .decl) listed-next m (start signals) (opening-long signals) e)
 
-  -- from the listed name of number k on, whatever text the tables hold, its patterns are left
-  pub record Unplayed (k : ℕ) (x : Arrays) : Type 0 where
+  -- before the first pattern
+  pub opening-sized : SomeRun text places lists tplaces waves book rows list known signals listed patterns → Sized all 0 (arrays (replicate 640 0) (replicate 1_728 0) (replicate 128 0))
+  opening-sized s = record {
+    roomy = record {
+      few = rw (s .runs .signals-is) at (s .runs .tabled .few-signals);
+      values-long = length-replicate {A = ℕ} 640 0;
+      feeds-long = length-replicate {A = ℕ} 1_728 0;
+      inside-levels = omega arith;
+    };
+    args-long = length-replicate {A = ℕ} 128 0;
+    waves-long = s .runs .tabled .waves-long;
+  }
+
+  -- from the listed name of number k on, whatever text the tables hold and whose sums are known, its patterns are left
+  pub record Unplayed (marks sums : List ℕ) (k : ℕ) (x : Arrays) : Type 0 where
     pub sized : Sized all 0 x
     pub left : (p : Parts) (d : Read) (run : Body) (h : Runs text places lists tplaces waves book rows list known signals listed patterns p d run)
+        → Summed all marks sums (h .tabled .parts .env)
         → Left (h .tabled .parts .env .tables) signals (h .tabled .parts .env) (d .patterns) run (listFrom text list listed k)
 
-  -- before the first
-  pub unplayed : SomeRun text places lists tplaces waves book rows list known signals listed patterns → Unplayed 0 (arrays (replicate 640 0) (replicate 1_728 0) (replicate 128 0))
-  unplayed s = record {
-    sized = record {
-      roomy = record {
-        few = rw (s .runs .signals-is) at (s .runs .tabled .few-signals);
-        values-long = length-replicate {A = ℕ} 640 0;
-        feeds-long = length-replicate {A = ℕ} 1_728 0;
-        inside-levels = omega arith;
-      };
-      args-long = length-replicate {A = ℕ} 128 0;
-      waves-long = s .runs .tabled .waves-long;
-    };
-    left = λ p d run h. run-begins h;
-  }
+  pub unplayed : {marks sums : List ℕ} → SomeRun text places lists tplaces waves book rows list known signals listed patterns
+      → Unplayed marks sums 0 (arrays (replicate 640 0) (replicate 1_728 0) (replicate 128 0))
+  unplayed s = record { sized = opening-sized s; left = λ p d run h m. run-begins h }

@@ -156,9 +156,22 @@ pub record Plays (g : Ground) (tabs : Tables) (level : ℕ) (y : Arrays) (us : T
   pub told : Telling g tabs level y r p
   pub behind : r .failed ≡ false → (alive (r .cursor) ≡ true) × (stream (g .text) (r .cursor) ≡ us)
 
+-- whatever the sums say, some of the arguments a is left
+pub record Fed (g : Ground) (level : ℕ) (y : Arrays) (a : Args) : Type 0 where
+  pub rest : Args
+  pub same : supplied rest ≡ supplied a
+  pub feeding : Feeding (g .text) (y .feeds) level rest
+
+-- and a body was gone through to its end, behind which us stand
+pub record Ended (g : Ground) (level : ℕ) (y : Arrays) (us : Toks) (a : Args) (c : Cursor) : Type 0 where
+  pub on : alive c ≡ true
+  pub there : stream (g .text) c ≡ us
+  pub fed : Fed g level y a
+
 -- whatever body is held from ts on, f of it was played, where the sums that are known are those of its bodies
 pub record Promised (g : Ground) (marks sums : List ℕ) (ts : Toks) (more level table : ℕ) (x y : Arrays) (f : Body → State → Play) (r : Played) : Type 0 where
   pub kept : Kept level x y
+  pub ended : (E : Env) (b : Body) (us : Toks) (s : State) → Standing g ts more level table x E b us s → r .failed ≡ false → Ended g level y us (s .args) (r .cursor)
   pub plays : (E : Env) (b : Body) (us : Toks) (s : State) → Standing g ts more level table x E b us s → Summed g marks sums E → Plays g (E .tables) level y us r (f b s)
 
 -- ---- one statement
@@ -183,8 +196,21 @@ pub record Steps (g : Ground) (ts : Toks) (more level : ℕ) (y : Arrays) (E : E
   pub goes : r .failed ≡ false → r .ends ≡ false
       → Onward g more level (r .table) y E us k t b s (r .cursor) × (left (stream (g .text) (r .cursor)) < left ts)
 
+-- whatever the sums say, at the cursor a rest of a body is held, and some of the arguments a is left for it
+pub record Resumed (g : Ground) (more level : ℕ) (y : Arrays) (E : Env) (us : Toks) (a : Args) (c : Cursor) : Type 0 where
+  pub rest : Body
+  pub on : alive c ≡ true
+  pub holds : Holds E (stream (g .text) c) rest us
+  pub fits : Fits more level a rest
+  pub fed : Fed g level y a
+
+pub record Moves (g : Ground) (ts : Toks) (more level : ℕ) (y : Arrays) (E : Env) (us : Toks) (a : Args) (r : Played) : Type 0 where
+  pub ended : r .failed ≡ false → r .ends ≡ true → Ended g level y us a (r .cursor)
+  pub goes : r .failed ≡ false → r .ends ≡ false → Resumed g more level y E us a (r .cursor) × (left (stream (g .text) (r .cursor)) < left ts)
+
 pub record Stepped (g : Ground) (marks sums : List ℕ) (ts : Toks) (more level table : ℕ) (x y : Arrays) (k t : ℕ) (r : Played) : Type 0 where
   pub kept : Kept level x y
+  pub moves : (E : Env) (b : Body) (us : Toks) (s : State) → Standing g ts more level table x E b us s → Moves g ts more level y E us (s .args) r
   pub steps : (E : Env) (b : Body) (us : Toks) (s : State) → Standing g ts more level table x E b us s → Summed g marks sums E
       → Steps g ts more level y E us k t b s r
 
@@ -220,6 +246,7 @@ pub record Used (g : Ground) (i more level table : ℕ) (x : Arrays) : Type 0 wh
 -- procedure the caller's pins and table
 pub record Entered (g : Ground) (marks sums : List ℕ) (i more level table : ℕ) (x y : Arrays) (k t : ℕ) (r : Played) : Type 0 where
   pub kept : Kept level x y
+  pub own : (s : ℕ) → s < signalsMost → feedAt (y .feeds) level s ≡ feedAt (x .feeds) level s
   pub told : (E : Env) (b : Body) (us : Toks) (a : Args) (s : State) → Using g i more level table x E b us a s → Summed g marks sums E
       → Telling g (E .tables) level y r (entering (kindOf i) a (playFew k t b) s)
 
