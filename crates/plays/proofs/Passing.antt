@@ -1,35 +1,31 @@
 -- A used body that is passed: its sum is known, and the state grants what that asks. So no cycle of it fails, and what it leaves is known.
 use Prim.Native.Nat.{ℕ, _+_, _*_, _<_, _≤_}
 use native.Mathlib.Omega.{arith}
-use mathlib.Core.Path.{_≡_, refl, sym, ap, _∙_, subst}
+use mathlib.Core.Path.{_≡_, refl, sym, ap, _∙_}
 use mathlib.Core.Bool.{Bool, true, false, _||_}
-use lib.Dec.{leb, ltb}
-use borrow.Author.Tests.{leb-false, ltb-false}
 use mathlib.Core.Option.{none}
 use mathlib.Core.List.{List, [], _∷_, _++_}
+use lib.Dec.{leb, ltb}
 use lib.ListN.{length, getD, take, drop, replicate, length-replicate, getD-replicate}
 use lib.Seq.{length-take-le, getD-take, ext-getD, drop-length}
-use Rattle.tokens.specs.Tokens.{Toks}
+use borrow.Author.Tests.{leb-false, ltb-false}
 use Rattle.meaning.specs.Bounds.{signalsMost}
 use Rattle.meaning.specs.Timing.{Tables}
-use Rattle.meaning.specs.Body.{Args, macro, procedure, Body, argOf}
+use Rattle.meaning.specs.Body.{Body, argOf}
 use Rattle.meaning.specs.Run.{State, unassigned, bare, entering, play}
 use Rattle.meaning.specs.Meaning.{firstFailing}
-use Rattle.meaning.specs.Statements.{Env}
 use Rattle.meaning.proofs.Turns.{Good}
 use Rattle.turns.specs.Few.{playFew}
 use Rattle.turns.proofs.Shows.{seen, With}
-use Rattle.turns.proofs.Thinned.{Thinned, thinning}
+use Rattle.turns.proofs.Thinned.{thinning}
 use Rattle.turns.proofs.Decides.{few-left}
 use Rattle.measures.specs.Book.{bodies, firstProcedure}
-use Rattle.heads.specs.Heads.{kindOf}
-use Rattle.pins.specs.Shown.{tableOf, valuesLength, Shows, Told}
-use Rattle.sums.specs.Sums.{Shown, before, argument, char, Sum, orTable, Asks, Stands, Leaves, Sums}
+use Rattle.pins.specs.Shown.{tableOf, valuesLength, Shows}
+use Rattle.sums.specs.Sums.{Shown, before, argument, char, Sum, orTable, Stands, Leaves, Sums}
 use Rattle.sums.specs.Parts.{Exact, lastOf}
 use Rattle.sums.proofs.Left.{last-at}
 use Rattle.tallies.specs.Rows.{rowSize, sumAt, Marked, leftOn, Grants, Holds}
-use Rattle.plays.specs.declared.Passed.{Passed}
-use Rattle.plays.specs.Plays.{Ground, Calling, Settles, Passing}
+use Rattle.plays.specs.Plays.{Ground, Settles, Passing}
 use Rattle.plays.proofs.Fitting.{neither}
 use Rattle.plays.proofs.Summing.{usable, known-sum}
 use Rattle.plays.proofs.Entering.{kind-macro, kind-procedure}
@@ -116,7 +112,8 @@ module _ {g : Ground} {marks sums : List ℕ} {i t table : ℕ} {given args valu
       untouched = λ e. (let z : _≡_ {A = ℕ} 0 1 = cc in absurd (omega arith));
       told = λ e E b us a s feeds level few-turns p c shows. (
           let known = known-sum i t b us (c .summed) (omega arith) (c .holds) (c .exact) usable-is in
-          let holds : Holds (g .text) values given args (g .signals) table (record { pins = s .pins; table = s .table; args = a }) = record { pins-are = shows .pins-are; table-is = shows .table-is; args-are = c .supplied } in
+          let holds : Holds (g .text) values given args (g .signals) table (record { pins = s .pins; table = s .table; args = a }) =
+          record { pins-are = shows .pins-are; table-is = shows .table-is; args-are = c .supplied } in
           let grants = granted (E .tables) (record { pins = s .pins; table = s .table; args = a }) (g .text, g .tplaces, g .known .tables, c .held) holds in
           let wide = pins-long shows (omega arith) in
           rw (kind-macro i is-macro) (record {
@@ -131,7 +128,7 @@ module _ {g : Ground} {marks sums : List ℕ} {i t table : ℕ} {given args valu
     }
 
     -- a procedure begins with every signal unassigned, and what it leaves is the caller's
-    pub passes-procedure : {done : Bool} {left : List ℕ} → firstProcedure ≤ i → i < bodies → (done ≡ true → Granted g sums i table given args (replicate 64 0) left)
+    pub passes-procedure : {done : Bool} {left : List ℕ} → firstProcedure ≤ i → i < bodies → (done ≡ true → Granted g sums i table given args (replicate signalsMost 0) left)
         → Passing g marks sums i t table given args values values (record { done = done; table = table })
     unfolding entering bare
     passes-procedure is-procedure declared granted = record {
@@ -141,7 +138,8 @@ module _ {g : Ground} {marks sums : List ℕ} {i t table : ℕ} {given args valu
       told = λ e E b us a s feeds level few-turns p c shows. (
           let known = known-sum i t b us (c .summed) declared (c .holds) (c .exact) usable-is in
           let wide = pins-long shows (omega arith) in
-          let holds : Holds (g .text) (replicate 64 0) given args (g .signals) table (record { pins = bare (s .pins); table = s .table; args = a }) = record { pins-are = ap (λ (n : ℕ). replicate n unassigned) wide ∙ sym (zeros-front (g .signals) 64 few); table-is = shows .table-is; args-are = c .supplied } in
+          let holds : Holds (g .text) (replicate signalsMost 0) given args (g .signals) table (record { pins = bare (s .pins); table = s .table; args = a }) =
+          record { pins-are = ap (λ (n : ℕ). replicate n unassigned) wide ∙ sym (zeros-front (g .signals) signalsMost few); table-is = shows .table-is; args-are = c .supplied } in
           let grants = granted e (E .tables) (record { pins = bare (s .pins); table = s .table; args = a }) (g .text, g .tplaces, g .known .tables, c .held) holds in
           rw (kind-procedure i is-procedure) (record {
             fails = λ q. (let z : _≡_ {A = ℕ} 0 1 = cc in absurd (omega arith));
