@@ -1,27 +1,24 @@
 -- Statements that are added to what a row sums up: one after the other, and each that has no body in it.
 use Prim.Native.Nat.{ℕ, suc, _+_, _≤_}
 use native.Mathlib.Omega.{arith}
-use mathlib.Core.Path.{_≡_, refl, sym, ap, _∙_, subst}
+use mathlib.Core.Path.{_≡_, refl, sym, ap, subst}
 use mathlib.Core.Bool.{Bool, true, false, _||_, _&&_}
 use mathlib.Core.List.{List, [], _∷_, _++_, append-nil}
 use lib.Dec.{eqb}
 use lib.ListN.{getD}
-use Rattle.meaning.specs.Lists.{count, repeats}
-use Rattle.meaning.specs.Body.{Assigns, mark, assigning, choosing, Kind, Setting, looped, shifted, entered, Way, Body, done, vec, set′, inner, marked, outside, inShift, shifting}
+use Rattle.meaning.specs.Lists.{count}
+use Rattle.meaning.specs.Body.{Assigns, mark, Kind, Setting, looped, shifted, entered, Body, done, vec, set′, inner, marked, outside, inShift, shifting}
 use Rattle.meaning.specs.Data.{assigned}
 use Rattle.meaning.specs.Statements.{Env}
 use Rattle.walks.proofs.Arguments.{or-false}
 use Rattle.measures.specs.Measures.{joined}
 use Rattle.measures.specs.Uses.{flag, Given}
-use Rattle.measures.specs.Book.{bodies}
 use Rattle.measures.proofs.Joined.{joined-done, joined-assoc}
-use Rattle.plays.specs.Plays.{Ground}
+use Rattle.plays.specs.Plays.{Ground, SumOf, Summed}
 use Rattle.sums.specs.Sums.{Sum, Sums}
-use Rattle.sums.specs.Parts.{Assigned, Chosen, Cycled}
-use Rattle.sums.proofs.Statements.{assigned-sums, chosen-sums, vector-sums, shift-sums}
 use Rattle.sums.proofs.Exact.{no-more-than-once}
 use Rattle.tallies.specs.Rows.{sumAt, Only}
-use Rattle.grants.specs.Grants.{isBegun, Open, SumOf, Summed, Added, Once}
+use Rattle.grants.specs.Grants.{Open, Added, Once}
 use Rattle.grants.proofs.Same.{other-sum}
 
 -- ---- sums of bodies

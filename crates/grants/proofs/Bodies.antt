@@ -20,13 +20,13 @@ use Rattle.arguments.proofs.Lists.{differ}
 use Rattle.measures.specs.Measures.{joined}
 use Rattle.measures.specs.Uses.{flag}
 use Rattle.measures.specs.Book.{bodies, startAt}
-use Rattle.plays.specs.Plays.{Ground}
+use Rattle.plays.specs.Plays.{Ground, SumOf, Summed}
 use Rattle.sums.specs.Sums.{Sums}
 use Rattle.sums.specs.Parts.{Nothing}
 use Rattle.sums.proofs.Statements.{nothing-sums}
-use Rattle.tallies.specs.Rows.{sumAt, Only}
+use Rattle.tallies.specs.Rows.{sumAt, isSummed, isShifted, Only}
 use Rattle.grants.specs.declared.Tallied.{Tallied}
-use Rattle.grants.specs.Grants.{isSummed, isShifted, isBegun, Kept, SumOf, Summed, Standing, Sized, Gone, Promised, Declared, BodyStood, Bodied}
+use Rattle.grants.specs.Grants.{isBegun, Kept, Standing, Sized, Gone, Promised, Declared, BodyStood, Bodied}
 use Rattle.grants.proofs.Same.{other-sum}
 use Rattle.grants.proofs.Keeping.{kept-then, kept-only, kept-begun, open-begun, kept-body, kept-marked}
 use Rattle.grants.proofs.Adding.{sum-of-same}

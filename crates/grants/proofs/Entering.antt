@@ -1,34 +1,33 @@
 -- Bodies that are entered: a Loop's, and those of macros and procedures; a spoilt row tells nothing.
 use Prim.Native.Nat.{ℕ, _-_, _<_, _≤_}
 use native.Mathlib.Omega.{arith}
-use mathlib.Core.Path.{_≡_, refl, sym, ap, _∙_, subst}
-use mathlib.Core.Bool.{Bool, true, false, not, _||_, _&&_}
+use mathlib.Core.Path.{_≡_, refl, sym, _∙_, subst}
+use mathlib.Core.Bool.{Bool, true, false}
 use mathlib.Core.List.{List, []}
-use lib.Dec.{eqb, ltb}
-use lib.ListN.{getD, replicate, length-replicate}
-use borrow.Author.Tests.{eqb-true, eqb-false, lt-ltb, le-ltb, not-true}
+use lib.ListN.{replicate, length-replicate}
+use borrow.Author.Tests.{lt-ltb, le-ltb}
 use Rattle.tokens.specs.Tokens.{Toks}
 use Rattle.meaning.specs.Bounds.{depthMost}
 use Rattle.meaning.specs.Lists.{has, repeats}
 use Rattle.meaning.specs.Timing.{Tables}
-use Rattle.meaning.specs.Body.{Args, macro, procedure, looped, entered, Body, done, inner, supplied, argOf}
+use Rattle.meaning.specs.Body.{Args, looped, entered, Body, done, inner, supplied, argOf}
 use Rattle.meaning.specs.Statements.{Env}
 use Rattle.meaning.proofs.Turns.{Plain}
 use Rattle.arguments.specs.Supplied.{marksOf, Supplied}
-use Rattle.arguments.proofs.Lists.{both, differ}
+use Rattle.arguments.proofs.Lists.{differ}
 use Rattle.assigns.proofs.Table.{gave-zeros}
 use Rattle.measures.specs.Measures.{joined}
 use Rattle.measures.specs.Book.{firstProcedure}
 use Rattle.heads.specs.Heads.{kindOf}
-use Rattle.plays.specs.Plays.{Ground}
+use Rattle.plays.specs.Plays.{Ground, Summed}
+use Rattle.plays.proofs.Summing.{usable, known-sum}
 use Rattle.sums.specs.Sums.{Sum, Sums}
 use Rattle.sums.specs.Parts.{Nothing, InPlace, Called, Exact, noArgs, Looped}
 use Rattle.sums.proofs.Statements.{nothing-sums}
 use Rattle.sums.proofs.Bodies.{spoilt-loop, spoilt-use, loop-sums, macro-sums, procedure-sums}
 use Rattle.tallies.specs.Rows.{sumAt, Only}
 use Rattle.grants.specs.declared.Tallied.{Tallied}
-use Rattle.grants.specs.Grants.{loopRow, isSummed, isShifted, rows, Open, Kept, SumOf, Summed, Added, Gone, Using, UseStood}
-use Rattle.grants.proofs.Same.{other-sum}
+use Rattle.grants.specs.Grants.{loopRow, rows, Open, Kept, Added, Gone, Using, UseStood}
 use Rattle.grants.proofs.Keeping.{open-fixed, open-kept, kept-sum, kept-deeper, open-loop, below-loop, kept-loop}
 use Rattle.grants.proofs.Adding.{summed-only, once-loop}
 
@@ -97,25 +96,9 @@ module _ {g : Ground} {E : Env} {us : Toks} {more r row : ℕ} {b : Body} {marks
 
 -- ---- a body that is used
 
--- what is known of a body that may be used
-pub known-sum : {g : Ground} {E : Env} {marks sums : List ℕ} {more i t : ℕ} {given args : List ℕ} {b : Body} {us : Toks} {a : Args} → Summed g marks sums E
-    → Using g more i t given args E b us a → (eqb (getD marks i 0) isSummed || (eqb (getD marks i 0) isShifted && not (eqb t 0))) ≡ true
-    → Sums (E .tables) (g .signals) t b (sumAt sums i) × Exact t b a
-known-sum {g} {E} {marks} {sums} {more} {i} {t} {given} {args} {b} {us} {a} u x e = by (eqb (getD marks i 0) isSummed) refl e
-  where
-    held : (least : ℕ) → least ≤ t → SumOf g E sums i least → Sums (E .tables) (g .signals) t b (sumAt sums i) × Exact t b a
-    held least l s = let h = x .declared .standing .holds in (s .sums-are b us h t l, x .exact (s .once b us h))
-
-    by : (w : Bool) → eqb (getD marks i 0) isSummed ≡ w → (w || (eqb (getD marks i 0) isShifted && not (eqb t 0))) ≡ true
-        → Sums (E .tables) (g .signals) t b (sumAt sums i) × Exact t b a
-    by true q e = held 0 (omega arith) (u .each i (x .declared .number) (eqb-true _ _ q))
-    by false q e =
-        let d = both (eqb (getD marks i 0) isShifted) (not (eqb t 0)) e in
-        held 1 (omega (arith, eqb-false t 0 (not-true _ (d .1)))) (u .shifted-each i (x .declared .number) (eqb-true _ _ (d .0)))
-
 -- such a body's row is another
 pub other-body : {g : Ground} {more i t r : ℕ} {given args marks marks₁ sums sums₁ : List ℕ} → UseStood g more i t r given args marks sums
-    → ((q : ℕ) → Kept (more - 1) q marks marks₁ sums sums₁) → (eqb (getD marks₁ i 0) isSummed || (eqb (getD marks₁ i 0) isShifted && not (eqb t 0))) ≡ true → i ≡ r → ⊥
+    → ((q : ℕ) → Kept (more - 1) q marks marks₁ sums sums₁) → usable marks₁ i t ≡ true → i ≡ r → ⊥
 other-body {r = r} s k e z =
     let o = open-kept (kept-deeper (k r)) (s .sized .row) in
     differ (sym e ∙ rw (z, o .begun (omega (arith, s .use′ .declared .number))))
@@ -141,7 +124,10 @@ module _ {more r : ℕ} {marks marks₁ sums sums₁ : List ℕ} (o : Open more 
     pub use-spoilt : sumAt sums₂ r .bad ≡ true → Added g E r marks marks₁ sums sums₂ false one
     use-spoilt e = use-added (λ front u s v. spoilt-use v e (kindOf i) t a b)
 
-    module _ (usable : (eqb (getD marks₁ i 0) isSummed || (eqb (getD marks₁ i 0) isShifted && not (eqb t 0))) ≡ true) where
+    module _ (known : usable marks₁ i t ≡ true) where
+      sum-known : Summed g marks₁ sums₁ E → Sums (E .tables) (g .signals) t b (sumAt sums₁ i) × Exact t b a
+      sum-known s = known-sum i t b us s (x .declared .number) (x .declared .standing .holds) (x .exact) known
+
       pub use-macro : i < firstProcedure → (sumAt sums₂ r .bad ≡ false → InPlace (E .tables) (g .signals) (sumAt sums₁ r) (sumAt sums₁ i) (λ j. argOf j a) (sumAt sums₂ r))
           → Added g E r marks marks₁ sums sums₂ false one
       unfolding kindOf
@@ -150,7 +136,7 @@ module _ {more r : ℕ} {marks marks₁ sums sums₁ : List ℕ} (o : Open more 
           by : (front : Body) (u : ℕ) → Summed g marks₁ sums₁ E → Sums (E .tables) (g .signals) u front (sumAt sums₁ r) → (w : Bool) → sumAt sums₂ r .bad ≡ w
               → Sums (E .tables) (g .signals) u (joined front one) (sumAt sums₂ r)
           by front u s v true e = spoilt-use v e (kindOf i) t a b
-          by front u s v false e = let z = known-sum s x usable in rw (lt-ltb i firstProcedure l, kindOf) (macro-sums (z .0) (z .1) v (f e))
+          by front u s v false e = let z = sum-known s in rw (lt-ltb i firstProcedure l, kindOf) (macro-sums (z .0) (z .1) v (f e))
 
       pub use-procedure : firstProcedure ≤ i → (sumAt sums₂ r .bad ≡ false → Called (E .tables) (g .signals) (sumAt sums₁ r) (sumAt sums₁ i) (λ j. argOf j a) (sumAt sums₂ r))
           → Added g E r marks marks₁ sums sums₂ false one
@@ -160,4 +146,4 @@ module _ {more r : ℕ} {marks marks₁ sums sums₁ : List ℕ} (o : Open more 
           by : (front : Body) (u : ℕ) → Summed g marks₁ sums₁ E → Sums (E .tables) (g .signals) u front (sumAt sums₁ r) → (w : Bool) → sumAt sums₂ r .bad ≡ w
               → Sums (E .tables) (g .signals) u (joined front one) (sumAt sums₂ r)
           by front u s v true e = spoilt-use v e (kindOf i) t a b
-          by front u s v false e = let z = known-sum s x usable in rw (le-ltb i firstProcedure l, kindOf) (procedure-sums (z .0) (z .1) v (f e))
+          by front u s v false e = let z = sum-known s in rw (le-ltb i firstProcedure l, kindOf) (procedure-sums (z .0) (z .1) v (f e))

@@ -1,36 +1,35 @@
 -- A listed pattern that asks for nothing that isn't there plays, and behind it the rest of the run is left.
-use Prim.Native.Nat.{ℕ, _+_, _<_}
+use Prim.Native.Nat.{ℕ, _+_}
 use native.Mathlib.Omega.{arith}
-use mathlib.Core.Path.{_≡_, refl, sym, ap, _∙_, subst}
-use mathlib.Core.Bool.{Bool, true, false}
+use mathlib.Core.Path.{_≡_, refl, sym, _∙_}
+use mathlib.Core.Bool.{true, false}
 use mathlib.Core.Option.{none}
 use mathlib.Core.List.{List, [], _∷_}
-use lib.ListN.{length, replicate, length-replicate, getD, getD-replicate}
-use Rattle.tokens.specs.Tokens.{Tok, Toks, toks}
+use lib.ListN.{length-replicate}
+use Rattle.tokens.specs.Tokens.{Tok, Toks}
 use Rattle.meaning.specs.Bounds.{depthMost}
 use Rattle.meaning.specs.Lists.{has, inside}
 use Rattle.meaning.specs.Timing.{Tables}
 use Rattle.meaning.specs.Body.{listed, Body, done, outside, supplied}
-use Rattle.meaning.specs.Run.{bare, start, entering, cyclesOf}
+use Rattle.meaning.specs.Run.{bare, start, entering}
 use Rattle.meaning.specs.Meaning.{firstFailing}
 use Rattle.meaning.specs.Statements.{Decl, Decls, Env}
-use Rattle.meaning.specs.Document.{Read}
 use Rattle.meaning.proofs.Turns.{Good}
 use Rattle.turns.specs.Few.{playFew, openMost}
 use Rattle.turns.proofs.Decides.{few-decides}
-use Rattle.words.specs.Cursor.{alive, stream, Stands}
+use Rattle.words.specs.Cursor.{stream, Stands}
 use Rattle.words.specs.declared.Cursor.{Cursor}
 use Rattle.arguments.proofs.Lists.{differ}
 use Rattle.measures.specs.Measures.{joined}
 use Rattle.measures.specs.Book.{firstPattern, startAt, Entry}
-use Rattle.plays.specs.Plays.{Ground}
+use Rattle.plays.specs.Plays.{Ground, Summed}
 use Rattle.plays.specs.Run.{ListedAt}
 use Rattle.sums.specs.Parts.{Nothing, Alone, Cleared}
 use Rattle.sums.proofs.Statements.{nothing-sums}
 use Rattle.sums.proofs.Runs.{pattern-plays}
 use Rattle.tallies.specs.Rows.{sumAt, Only}
 use Rattle.grants.specs.declared.Tallied.{Tallied}
-use Rattle.grants.specs.Grants.{patternRow, Open, Summed, Standing, Sized, Gone, Promised, Roomy, Patterned}
+use Rattle.grants.specs.Grants.{patternRow, Open, Standing, Sized, Gone, Roomy}
 use Rattle.grants.proofs.Adding.{summed-only}
 
 -- nothing is inside of none
@@ -78,10 +77,3 @@ module _ {g : Ground} {list : List ℕ} {patterns k : ℕ} {E : Env} {ps : Decls
 pub cleared-plays : (tabs : Tables) (n : ℕ) {b : Body} → Good b → Cleared tabs n b → firstFailing tabs (entering listed [] (playFew openMost 0 b) (start n) .1) ≡ none
 unfolding entering bare start
 cleared-plays tabs n {b} good x = few-decides 0 b good _ tabs .1 ∙ rw (length-replicate {A = ℕ} n 0) (pattern-plays tabs n x)
-
--- nothing is summed up before the run
-pub summed-none : (g : Ground) (E : Env) (sums : List ℕ) → Summed g (replicate 64 0) sums E
-summed-none g E sums = record {
-  each = λ i b e. absurd (omega (arith, getD-replicate {A = ℕ} 64 i 0 0 b));
-  shifted-each = λ i b e. absurd (omega (arith, getD-replicate {A = ℕ} 64 i 0 0 b));
-}

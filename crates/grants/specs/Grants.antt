@@ -18,7 +18,7 @@ use Rattle.measures.specs.Uses.{flag}
 use Rattle.measures.specs.Book.{bodies, startAt}
 use Rattle.arguments.specs.Supplied.{Supplied}
 use Rattle.heads.specs.Heads.{kindOf}
-use Rattle.plays.specs.Plays.{Ground, Holding, Single}
+use Rattle.plays.specs.Plays.{Ground, Holding, Summed, Single}
 use Rattle.sums.specs.Sums.{Sums}
 use Rattle.plays.specs.Run.{ListedAt}
 use Rattle.sums.specs.Parts.{Exact, Cleared}
@@ -41,13 +41,7 @@ rows = loops + depthMost
 abbrev pub loopRow : ℕ → ℕ
 loopRow more = rows - more
 
--- a body's sum; its sum where its Shift plays at all; it is being summed up
-abbrev pub isSummed : ℕ
-isSummed = 1
-
-abbrev pub isShifted : ℕ
-isShifted = 2
-
+-- a body's mark where it is being summed up
 abbrev pub isBegun : ℕ
 isBegun = 3
 
@@ -67,16 +61,6 @@ pub record Kept (more r : ℕ) (marks marks′ sums sums′ : List ℕ) : Type 0
   pub sums-long : length sums′ ≡ length sums
   pub marks-kept : (q : ℕ) → (getD marks q 0 ≡ 0 → ⊥) → getD marks′ q 0 ≡ getD marks q 0
   pub rows-kept : (q : ℕ) → Fixed more marks q → (q ≡ r → ⊥) → (p : ℕ) → p < rowSize → byteAt sums′ q p ≡ byteAt sums q p
-
--- the row of the body of number i holds its sum, for so many turns of its Shift at least; no `#` stands twice in its Shift
-pub record SumOf (g : Ground) (E : Env) (sums : List ℕ) (i least : ℕ) : Type 0 where
-  pub sums-are : (b : Body) (us : Toks) → Holds E (toks (g .text) (startAt (g .book) i)) b us → (t : ℕ) → least ≤ t → Sums (E .tables) (g .signals) t b (sumAt sums i)
-  pub once : (b : Body) (us : Toks) → Holds E (toks (g .text) (startAt (g .book) i)) b us → (s : ℕ) → count s (shifting b) ≤ 1
-
--- of each body that is summed up the row holds its sum
-pub record Summed (g : Ground) (marks sums : List ℕ) (E : Env) : Type 0 where
-  pub each : (i : ℕ) → i < bodies → getD marks i 0 ≡ isSummed → SumOf g E sums i 0
-  pub shifted-each : (i : ℕ) → i < bodies → getD marks i 0 ≡ isShifted → SumOf g E sums i 1
 
 -- the statements `one` were added to what the row r sums up; where there was a Shift, for a turn of it at least
 pub record Added (g : Ground) (E : Env) (r : ℕ) (marks marks′ sums sums′ : List ℕ) (shifts : Bool) (one : Body) : Type 0 where
@@ -231,6 +215,12 @@ pub record Roomy (g : Ground) (marks sums : List ℕ) : Type 0 where
   pub sums-long : length sums ≡ rows * rowSize
   pub waves-long : length (g .waves) ≡ tablesMost * tableSize
   pub few : g .signals ≤ signalsMost
+
+-- nothing is known
+pub record Unknown (marks sums : List ℕ) : Type 0 where
+  pub marks-long : length marks ≡ bodies
+  pub sums-long : length sums ≡ rows * rowSize
+  pub unmarked : (i : ℕ) → getD marks i 0 ≡ 0
 
 pub record SomePattern (g : Ground) (list : List ℕ) (patterns k : ℕ) (marks sums : List ℕ) : Type 0 where
   pub env : Env

@@ -1,10 +1,9 @@
 // Is it plain that no cycle of a text's run fails? Every body that the run uses is summed up once, where the text holds it: what it asks of the state in which it
 // begins. Where no listed pattern asks for anything that isn't there, no cycle fails. The sums may ask for too much; then nothing is said, and the run is played.
 ghost use mathlib.Core.Path.{_≡_};
-ghost use mathlib.Core.Bool.{true, false, not, _||_, _&&_};
+ghost use mathlib.Core.Bool.{true, false};
 ghost use mathlib.Core.Option.{none};
 ghost use Prim.Native.Nat.{ℕ, _+_, _*_, _≤_};
-ghost use lib.Dec.{eqb};
 ghost use mathlib.Core.List.{List};
 ghost use lib.ListN.{length};
 ghost use Rattle.words.specs.Cursor.{alive, stream};
@@ -15,14 +14,14 @@ ghost use Rattle.meaning.specs.Run.{cyclesOf};
 ghost use Rattle.meaning.specs.Meaning.{firstFailing};
 ghost use Rattle.meaning.specs.Document.{Read};
 ghost use Rattle.texts.specs.declared.Parts.{Parts};
-ghost use Rattle.plays.specs.Plays.{ground};
+ghost use Rattle.plays.specs.Plays.{ground, Summed};
 ghost use Rattle.plays.specs.Run.{SomeRun, Runs};
 ghost use Rattle.timing.specs.Marks.{tableSize};
 ghost use Rattle.measures.specs.Uses.{Given};
 ghost use Rattle.sums.specs.Sums.{Sum};
 ghost use Rattle.sums.specs.Parts.{Assigned, Cycled, Looped as LoopedSum};
 ghost use Rattle.tallies.specs.Rows.{rowSize, sumAt, Only, Marked};
-ghost use Rattle.grants.specs.Grants.{isSummed, isShifted, Sized, Stood, Promised, Stepped, LoopStood, Looped, ShiftStood, Shifted, UseStood, Used, BodyStood, Bodied, SomePattern, Patterned};
+ghost use Rattle.grants.specs.Grants.{Unknown, Sized, Stood, Promised, Stepped, LoopStood, Looped, ShiftStood, Shifted, UseStood, Used, BodyStood, Bodied, SomePattern, Patterned};
 use heads::Known;
 use words::Cursor;
 
@@ -32,13 +31,9 @@ const PATTERN: usize = measures::BODIES;
 
 const LOOPS: usize = PATTERN + 1;
 
-const SUMS: usize = (LOOPS + DEPTH) * tallies::ROW;
+pub const SUMS: usize = (LOOPS + DEPTH) * tallies::ROW;
 
-// What is known of a body: nothing (0); its sum; its sum where its Shift plays at all; it is being summed up.
-const SUMMED: u8 = 1;
-
-const SHIFTED: u8 = 2;
-
+// What is known of a body: nothing (0), its sum (see tallies), or that it is being summed up.
 const BEGUN: u8 = 3;
 
 // The cursor behind what was summed up; was it the `}`, was there a Shift, and were there two?
@@ -214,17 +209,10 @@ fn body<'a>(
         return;
     }
     if x.shifts {
-        marks[i] = SHIFTED;
+        marks[i] = tallies::SHIFTED;
         return;
     }
-    marks[i] = SUMMED;
-}
-
-// Is it known of a body with that mark what it asks, with its Shift played t times?
-fn usable(mark: u8, t: usize) -> bool
-    ensures { λ r. ⌜ r ≡ (eqb mark isSummed || (eqb mark isShifted && not (eqb t 0))) ⌝ }
-{
-    (mark == SUMMED) | ((mark == SHIFTED) & (t != 0))
+    marks[i] = tallies::SUMMED;
 }
 
 // Macro or Call: the body of number i, with its Shift played t times, behind the row r.
@@ -265,7 +253,7 @@ fn used<'a>(
         marks,
         sums,
     );
-    if !usable(marks[i], t) {
+    if !tallies::usable(marks[i], t) {
         tallies::spoil(sums, r);
         return;
     }
@@ -506,7 +494,7 @@ fn pattern<'a>(
     tallies::grants(sums, PATTERN, signals)
 }
 
-// Does no listed pattern ask for anything that isn't there where it begins?
+// Does no listed pattern ask for anything that isn't there where it begins? Behind it the marks and sums of every body that the run uses are known.
 pub fn granted<'a>(
     text: &'a [u8],
     places: &'a [usize],
@@ -520,15 +508,16 @@ pub fn granted<'a>(
     signals: usize,
     listed: usize,
     patterns: usize,
+    marks: &mut [u8],
+    sums: &mut [u8],
 ) -> bool
-    requires { ⌜ SomeRun (now text) (now places) (now lists) (now tplaces) (now waves) (now book) (now rows) (now list) known signals listed patterns ⌝ }
-    ensures { λ r. ⌜ (r ≡ true → (p : Parts) (d : Read) (run : Body) → Runs (now (text .entry)) (now (places .entry)) (now (lists .entry)) (now (tplaces .entry)) (now (waves .entry)) (now (book .entry)) (now (rows .entry)) (now (list .entry)) known signals listed patterns p d run → firstFailing (d .tables) (cyclesOf (length (d .signals)) run) ≡ none) ⌝ }
+    requires { ⌜ SomeRun (now text) (now places) (now lists) (now tplaces) (now waves) (now book) (now rows) (now list) known signals listed patterns × Unknown (now marks) (now sums) ⌝ }
+    ensures { λ r. ⌜ (length (now (marks .exit)) ≡ length (now (marks .entry))) × (length (now (sums .exit)) ≡ length (now (sums .entry))) × ((p : Parts) (d : Read) (run : Body) (h : Runs (now (text .entry)) (now (places .entry)) (now (lists .entry)) (now (tplaces .entry)) (now (waves .entry)) (now (book .entry)) (now (rows .entry)) (now (list .entry)) known signals listed patterns p d run) → Summed (ground (now (text .entry)) (now (places .entry)) (now (lists .entry)) (now (tplaces .entry)) (now (book .entry)) (now (rows .entry)) (now (waves .entry)) known signals) (now (marks .exit)) (now (sums .exit)) (h .tabled .parts .env) × (r ≡ true → firstFailing (d .tables) (cyclesOf (length (d .signals)) run) ≡ none)) ⌝ }
 {
-    let mut marks = [0u8; measures::BODIES];
-    let mut sums = [0u8; SUMS];
+    let mut all = true;
     let mut k = 0;
     while k < listed {
-        if !pattern(
+        let one = pattern(
             text,
             places,
             lists,
@@ -541,12 +530,11 @@ pub fn granted<'a>(
             signals,
             patterns,
             k,
-            &mut marks,
-            &mut sums,
-        ) {
-            return false;
-        }
+            marks,
+            sums,
+        );
+        all = all & one;
         k += 1;
     }
-    true
+    all
 }

@@ -15,9 +15,9 @@ use Rattle.meaning.specs.Statements.{Env}
 use Rattle.turns.specs.Few.{playFew}
 use Rattle.measures.specs.Book.{firstProcedure, startAt}
 use Rattle.heads.specs.Heads.{kindOf}
-use Rattle.pins.specs.Shown.{Leaves, Returns, Told}
+use Rattle.pins.specs.Shown.{Feeding, Leaves, Returns, Told}
 use Rattle.plays.specs.declared.Played.{Played}
-use Rattle.plays.specs.Plays.{Ground, Arrays, arrays, Sized, Standing, Kept, Telling, Plays, Using}
+use Rattle.plays.specs.Plays.{Ground, Arrays, arrays, Sized, Standing, Kept, Telling, Plays, Using, Entered}
 use Rattle.plays.proofs.Keeping.{feeding-kept}
 
 -- ---- which kind it is
@@ -138,6 +138,11 @@ module _ {g : Ground} {i more level table : ℕ} {x : Arrays} {E : Env} {b : Bod
         args-are = feeding-kept (u .shows .args-are) (λ j l. kept .arguments level j l (omega arith));
       };
     })
+
+-- the caller's arguments are there again
+pub entered-fed : {g : Ground} {marks sums : List ℕ} {i more level table : ℕ} {x y : Arrays} {k t : ℕ} {r : Played} {E : Env} {b : Body} {us : Toks} {a : Args} {s : State}
+    → Entered g marks sums i more level table x y k t r → Using g i more level table x E b us a s → Feeding (g .text) (y .feeds) level (s .args)
+entered-fed v u = feeding-kept (u .shows .args-are) (v .own)
 
 -- ---- the part of the text that begins with it
 

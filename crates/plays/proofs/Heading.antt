@@ -1,5 +1,5 @@
 -- What a statement's head tells that was read where a body is held.
-use Prim.Native.Nat.{ℕ, _<_}
+use Prim.Native.Nat.{ℕ, _<_, _≤_}
 use Prim.Native.String.{String}
 use native.Mathlib.Omega.{arith}
 use mathlib.Core.Path.{_≡_, refl, sym, _∙_, subst}
@@ -11,11 +11,11 @@ use Rattle.tokens.specs.Written.{bytes, same}
 use Rattle.tokens.specs.Tokens.{Tok, Toks, stop, tok, toks, left}
 use Rattle.tokens.proofs.Laws.{left-most}
 use Rattle.meaning.specs.Reader.{Reader, ok, refuse, after, _>>=_, give, refuseIf, any, due, dueOf, oneOf, choose}
-use Rattle.meaning.specs.Lists.{has}
+use Rattle.meaning.specs.Lists.{has, count}
 use Rattle.meaning.specs.Signals.{Names}
-use Rattle.meaning.specs.Body.{Assigns, mark, assigning, choosing, Kind, looped, shifted, entered, Body, done, vec, set′, inner, marked, fits}
+use Rattle.meaning.specs.Body.{Assigns, Args, mark, assigning, choosing, Kind, macro, procedure, looped, shifted, entered, Body, done, vec, set′, inner, marked, shifting, turns, fits}
 use Rattle.meaning.specs.Data.{assigned, assigns}
-use Rattle.meaning.specs.Statements.{Decls, Env, Head, ends, vecs, sets, loops, shifts, uses, used, chosen, looping, shiftHead, head}
+use Rattle.meaning.specs.Statements.{Decl, Decls, Env, Head, ends, vecs, sets, loops, shifts, uses, used, chosen, looping, shiftHead, head}
 use Rattle.meaning.proofs.Gives.{Gives, gives-bind, gives-after, gives-give, gives-if, gives-choose}
 use Rattle.meaning.proofs.Choices.{_also_}
 use Rattle.held.specs.Held.{freeHead, HeadAt, Holds}
@@ -30,6 +30,8 @@ use Rattle.signals.specs.Names.{AllTidy}
 use Rattle.timing.specs.Makes.{Makes}
 use Rattle.assigns.specs.Given.{chars}
 use Rattle.assigns.proofs.Read.{differ-assigns, no-mark-assigned}
+use Rattle.sums.specs.Parts.{Exact}
+use Rattle.sums.proofs.Exact.{fits-exact}
 
 -- ---- a reader that the code followed from where it answers
 
@@ -183,6 +185,33 @@ fine-head e n h = gives-choose F _ (
     F : Head → Type 0
     F = Fine n
 
+-- ---- a used body's Shift plays as often as its arguments say
+
+abbrev Turned : Head → Type 0
+Turned ends = Unit {0}
+Turned (vecs p a) = Unit {0}
+Turned (sets x) = Unit {0}
+Turned (loops n) = Unit {0}
+Turned shifts = Unit {0}
+Turned (uses k x t a) = t ≡ turns (x .body) a
+
+turned-used : (k : Kind) (d : ℕ) (ns : Names) (l : Decls) → Gives Turned (used k d ns l)
+unfolding used
+turned-used k d ns l = gives-after Turned _ _ λ x. gives-after Turned _ _ λ u. gives-after Turned _ _ λ a. gives-after Turned _ _ λ v. gives-give Turned _ refl
+
+turned-head : (e : Env) → Gives Turned (freeHead e)
+unfolding head chosen looping shiftHead
+turned-head e = gives-choose Turned _ (
+    (λ p. gives-after Turned _ _ λ a. gives-give Turned _ tt)
+    also (λ p. gives-after Turned _ _ λ a. gives-give Turned _ tt)
+    also (λ p. gives-after Turned _ _ λ x. gives-after Turned _ _ λ q. gives-give Turned _ tt)
+    also (λ p. gives-after Turned _ _ λ u. gives-after Turned _ _ λ n. gives-after Turned _ _ λ q. gives-give Turned _ tt)
+    also (λ p. turned-used macro _ (e .names) (e .macros))
+    also (λ p. turned-used procedure _ (e .names) (e .procs))
+    also (λ p. gives-after Turned _ _ λ u. gives-after Turned _ _ λ v. gives-after Turned _ _ λ q. gives-give Turned _ tt)
+    also (λ p. gives-give Turned _ tt)
+    also tt)
+
 -- ---- where a body is held
 
 -- the head that the code read from c to r, of which P holds, begins the body b
@@ -214,6 +243,12 @@ module _ {text : List ℕ} {E : Env} {n : ℕ} {b : Body} {us : Toks} {c r : Cur
 
   pub met-fine : (h : Head) → i .it ≡ h → Fine n h
   met-fine h e = subst (Fine n) e (i .fine)
+
+  -- its arguments are just as long as is due
+  pub met-exact : (k : Kind) (z : Decl) (t : ℕ) (a : Args) → i .it ≡ uses k z t a → ((s : ℕ) → count s (shifting (z .body)) ≤ 1) → Exact t (z .body) a
+  met-exact k z t a e once =
+      let same : t ≡ turns (z .body) a = subst Turned e (turned-head E .all _ (i .it) _ (i .read)) in
+      subst (λ (k : ℕ). Exact k (z .body) a) (sym same) (fits-exact (z .body) a once (met-fine (uses k z t a) e))
 
   -- fewer tokens are behind it
   pub met-less : left (stream text r) < left (stream text c)

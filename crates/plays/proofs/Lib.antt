@@ -12,3 +12,6 @@ pub mod Single
 pub mod Patterns
 pub mod Running
 pub mod Texts
+pub mod Summing
+mod Settling
+mod Passing

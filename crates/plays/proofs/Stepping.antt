@@ -1,5 +1,5 @@
 -- One statement of a body that is held: what it plays, and the rest of the body behind it.
-use Prim.Native.Nat.{ℕ, _+_, _-_, _<_}
+use Prim.Native.Nat.{ℕ, _+_, _-_, _<_, _≤_}
 use native.Mathlib.Omega.{arith}
 use mathlib.Core.Path.{_≡_, refl, sym, ap, _∙_, subst}
 use mathlib.Core.Bool.{Bool, true, false, _||_}
@@ -7,9 +7,9 @@ use mathlib.Core.List.{List, []}
 use lib.Dec.{eqb, ltb}
 use borrow.Author.Tests.{lt-ltb, eqb-true}
 use Rattle.tokens.specs.Tokens.{Toks, toks, left}
-use Rattle.meaning.specs.Lists.{has, inside}
+use Rattle.meaning.specs.Lists.{has, inside, count}
 use Rattle.meaning.specs.Timing.{Tables}
-use Rattle.meaning.specs.Body.{Assigns, Args, assigning, choosing, Way, looped, shifted, entered, Body, done, vec, inner, marked, outside, supplied}
+use Rattle.meaning.specs.Body.{Assigns, Args, assigning, choosing, Way, looped, shifted, entered, Body, done, vec, inner, marked, outside, shifting, supplied}
 use Rattle.meaning.specs.Data.{assigned}
 use Rattle.meaning.specs.Run.{shiftOf, State, Played as Play, puts, changed, follow, again, entering}
 use Rattle.meaning.specs.Meaning.{firstFailing}
@@ -24,16 +24,17 @@ use Rattle.timing.specs.Held.{Held}
 use Rattle.measures.specs.Uses.{Given}
 use Rattle.measures.specs.Book.{bodies, startAt}
 use Rattle.arguments.specs.Supplied.{Supplied}
+use Rattle.sums.specs.Parts.{Exact}
 use Rattle.heads.specs.declared.What.{What}
 use Rattle.heads.specs.declared.What.the-variants.{Ends, Vector, Assigns as AssignsOnly, Chooses, Loops, Shifts, Uses as UsesBody}
 use Rattle.heads.specs.Heads.{kindOf, Tells}
 use Rattle.pins.specs.Shown.{tableOf, Feeding, Shows, Playable, Told, vector}
 use Rattle.plays.specs.declared.Played.{Played}
-use Rattle.plays.specs.Plays.{Ground, Holding, Single, Fits, Arrays, Showing, Standing, Telling, Plays, Steps, Using}
+use Rattle.plays.specs.Plays.{Ground, Holding, Summed, Single, Fits, Arrays, Showing, Standing, Telling, Plays, Ended, Steps, Moves, Using, Calling}
 use Rattle.plays.proofs.Supply.{same-puts, same-changed, same-playing, same-play}
-use Rattle.plays.proofs.Fitting.{inside-parts, fits-behind-vec, fits-behind-set, fits-behind-inner, fits-some, fits-looped, fits-shifted, fits-entered}
+use Rattle.plays.proofs.Fitting.{inside-parts, fits-again, fits-behind-vec, fits-behind-set, fits-behind-inner, fits-some, fits-looped, fits-shifted, fits-entered}
 use Rattle.plays.proofs.Following.{first-fails, second-alike, alike-same, alike-then}
-use Rattle.plays.proofs.Heading.{holds-less, Met, met, met-split, met-fine, met-less}
+use Rattle.plays.proofs.Heading.{holds-less, Met, met, met-split, met-fine, met-exact, met-less}
 
 -- ---- from the first statement to the rest
 
@@ -57,6 +58,31 @@ module _ {g : Ground} {ts : Toks} {more level : ℕ} {y : Arrays} {E : Env} {us 
       on h .2,
     );
   }
+
+-- what holds of the arguments whatever the sums say
+pub steps-moves : {g : Ground} {ts : Toks} {more level : ℕ} {y : Arrays} {E : Env} {us : Toks} {k t : ℕ} {b : Body} {s : State} {r : Played}
+    → Steps g ts more level y E us k t b s r → Moves g ts more level y E us (s .args) r
+steps-moves {k = k} {t = t} {b = b} {s = s} h = record {
+  ended = λ e f. (
+      let p = h .ended e f in
+      record {
+        on = p .behind e .0;
+        there = p .behind e .1;
+        fed = record { rest = playFew k t b s .0 .args; same = same-play k t b s; feeding = p .told .shows e .args-are };
+      });
+  goes = λ e f. (
+      let o = h .goes e f .0 in
+      let same = sym (same-play k t (o .rest) (o .state)) ∙ ap (λ (z : State). supplied (z .args)) (sym (o .same .left-same)) ∙ same-play k t b s in (
+        record {
+          rest = o .rest;
+          on = o .on;
+          holds = o .standing .holds;
+          fits = fits-again (sym same) (o .standing .fits);
+          fed = record { rest = o .state .args; same = same; feeding = o .standing .shows .args-are };
+        },
+        h .goes e f .1,
+      ));
+}
 
 -- no cycle was played
 pub told-none : {tabs : Tables} {text : List ℕ} {n : ℕ} {values : List ℕ} {table : ℕ} {feeds : List ℕ} {level place : ℕ} {s : State}
@@ -177,6 +203,7 @@ pub record Called (g : Ground) (c r : Cursor) (more level : ℕ) (E : Env) (b : 
   pub behind : Holds E (stream (g .text) r) rest us
   pub less : left (stream (g .text) r) < left (stream (g .text) c)
   pub supplied : Supplied (g .text) arguments given args
+  pub exact : ((j : ℕ) → count j (shifting body) ≤ 1) → Exact t body arguments
 
 module _ {g : Ground} {c r : Cursor} {more level table : ℕ} {x : Arrays} {E : Env} {b : Body} {us : Toks} {s : State} (st : Standing g (stream (g .text) c) more level table x E b us s)
     (on : alive c ≡ true) (given args : List ℕ) (what : What) (m : Makes (g .text) c (freeHead E) r (Tells (g .text) (g .book) (g .rows) given args (g .known .tables) what)) where
@@ -239,6 +266,7 @@ module _ {g : Ground} {c r : Cursor} {more level table : ℕ} {x : Arrays} {E : 
         behind = d .3;
         less = met-less w;
         supplied = w .told .6;
+        exact = met-exact w (kindOf i) z t a e;
       }
 
 -- a Shift holds one V
@@ -257,6 +285,30 @@ inside-step {s = s} {w = w} {k = k} {t = t} holding i more-comes p =
     steps-on _ (i .rest) (ap (λ (q : Body). playFew k t q s) (i .is)) holding
     (fits-behind-inner (same-playing k t w (λ j. playFew j (shiftOf t w) (i .body)) (λ j. same-play j (shiftOf t w) (i .body)) s) (i .fits)) more-comes (p .told)
     λ h. let q = p .behind h in (q .0, rw (q .1) (i .behind), rw (q .1) (i .less))
+
+-- a body that was gone through, and the rest behind it
+pub inside-moves : {g : Ground} {c r : Cursor} {more level : ℕ} {y : Arrays} {E : Env} {b : Body} {us : Toks} {s : State} {w : Way} {z : Played}
+    (i : Inside g c r more level E b us s w) → z .ends ≡ false → (z .failed ≡ false → Ended g level y (i .between) (s .args) (z .cursor))
+    → Moves g (stream (g .text) c) more level y E us (s .args) z
+inside-moves i more-comes h = record {
+  ended = λ e f. (let q : true ≡ false = sym f ∙ more-comes in let w : _≡_ {A = ℕ} 0 1 = cc in absurd (omega arith));
+  goes = λ e f. (
+      let q = h e in
+      (record { rest = i .rest; on = q .on; holds = rw (q .there) (i .behind); fits = fits-behind-inner refl (i .fits); fed = q .fed }, rw (q .there) (i .less)));
+}
+
+-- where the sums are known, a used body may be passed
+pub called-calling : {g : Ground} {c r : Cursor} {more level : ℕ} {E : Env} {b : Body} {us : Toks} {s : State} {i u : ℕ} {given args marks sums : List ℕ} → Holding g E
+    → (d : Called g c r more level E b us s i u given args) → Summed g marks sums E → Calling g marks sums i u given args E (d .body) (d .after) (d .arguments)
+called-calling holding d m = record { held = holding .held; holds = d .holds; good = d .body-fits .good; supplied = d .supplied; exact = d .exact; summed = m }
+
+pub called-moves : {g : Ground} {c r : Cursor} {more level : ℕ} {y : Arrays} {E : Env} {b : Body} {us : Toks} {s : State} {i u : ℕ} {given args : List ℕ} {f : Bool} {p table : ℕ}
+    → Called g c r more level E b us s i u given args → Feeding (g .text) (y .feeds) level (s .args)
+    → Moves g (stream (g .text) c) more level y E us (s .args) (record { cursor = r; failed = f; place = p; table = table; ends = false })
+called-moves {s = s} d fed = record {
+  ended = λ e f. (let w : _≡_ {A = ℕ} 0 1 = cc in absurd (omega arith));
+  goes = λ e f. (record { rest = d .rest; on = d .on; holds = d .behind; fits = fits-behind-inner refl (d .fits); fed = record { rest = s .args; same = refl; feeding = fed } }, d .less);
+}
 
 module _ {g : Ground} {c r : Cursor} {more level table : ℕ} {x y : Arrays} {E : Env} {b : Body} {us : Toks} {s : State} (st : Standing g (stream (g .text) c) more level table x E b us s)
   where

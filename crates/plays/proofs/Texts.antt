@@ -1,5 +1,5 @@
 -- From the tables of a text to its run, and from the listed patterns to refusal 17.
-use Prim.Native.Nat.{ℕ, _+_, _-_, _<_, _≤_}
+use Prim.Native.Nat.{ℕ, zero, suc, _+_, _-_, _<_, _≤_}
 use native.Mathlib.Omega.{arith}
 use mathlib.Core.Path.{_≡_, sym, ap, _∙_, subst}
 use mathlib.Core.Bool.{true, false}
@@ -10,9 +10,10 @@ use Rattle.tokens.specs.Tokens.{Tok, toks}
 use Rattle.meaning.specs.Body.{listed, Body}
 use Rattle.meaning.specs.Run.{start, cyclesOf}
 use Rattle.meaning.specs.Meaning.{firstFailing}
-use Rattle.meaning.specs.Statements.{Env}
+use Rattle.meaning.specs.Names.{find}
+use Rattle.meaning.specs.Statements.{Decl, Env}
 use Rattle.meaning.specs.Document.{Read}
-use Rattle.held.specs.Held.{All, Listed}
+use Rattle.held.specs.Held.{All, Stands, Listed}
 use Rattle.held.proofs.All.{all-found}
 use Rattle.held.proofs.Whole.{Whole, whole, listed-stand}
 use Rattle.turns.specs.Few.{playFew, openMost}
@@ -23,7 +24,7 @@ use Rattle.heads.specs.declared.Known.{Known}
 use Rattle.texts.specs.declared.Parts.{Parts}
 use Rattle.texts.proofs.Runs.{listFrom, list-cut, list-end}
 use Rattle.plays.specs.declared.Played.{Played}
-use Rattle.plays.specs.Plays.{Ground, ground, Holding, Arrays, arrays, Sized}
+use Rattle.plays.specs.Plays.{Ground, ground, Holding, Summed, Arrays, arrays, Sized}
 use Rattle.plays.specs.Run.{ListedAt, PlaysListed, Runs, SomeRun, Decides}
 use Rattle.plays.proofs.Patterns.{Playing, patterns-fit}
 use Rattle.plays.proofs.Running.{Left, left-all, left-none, Next, next, next-fails, next-left, opening-long, good-listed}
@@ -77,6 +78,36 @@ module _ (text places lists tplaces waves book rows list : List ℕ) (known : Kn
         let n : length (d .signals) ≡ signals = ap length (h .tabled .signals-are) ∙ names-length text places lists (p .signals) ∙ h .signals-is in
         few-decides 0 run (good-listed env (d .patterns) all-fit (d .listed) run is-listed) (start signals) (env .tables) .1 ∙ (rw (is-whole .tables, n))
 
+    -- the pattern of a listed name
+    pub listed-at : {k : ℕ} {x : Decl} → find (d .patterns) (nameOf text list k .word) ≡ some x → Stands env x → ListedAt all list patterns k env (d .patterns) x
+    listed-at {k} {x} found stands = record {
+      holding = holding;
+      book = h .tabled .patterns-are;
+      counted = h .tabled .patterns-counted ∙ h .patterns-is;
+      few = rw (h .patterns-is) at (h .tabled .few-patterns);
+      found = found;
+      stands = stands;
+      fits = all-found (λ x. Playing (x .1 .body)) (d .patterns) all-fit (nameOf text list k .word) x found .1;
+    }
+
+    -- from the listed name of number k on there are patterns, whatever failed before
+    listed-from : (k : ℕ) → k ≤ listed → (r : Body) × Listed env (d .patterns) (listFrom text list listed k) r
+    unfolding Listed
+    listed-from zero q = (run-begins .rest, run-begins .listed)
+    listed-from (suc k) q =
+        let e : k + 1 ≡ suc k = omega arith in
+        let x = listed-from k (omega arith) in
+        let y = subst (λ (l : List Tok). Listed env (d .patterns) l (x .0)) (list-cut text list listed k (omega arith)) (x .1) in
+        (y .1, subst (λ (n : ℕ). Listed env (d .patterns) (listFrom text list listed n) (y .1)) e (y .5))
+
+    -- each of them
+    pub listed-any : {k : ℕ} → k < listed → (x : Decl) × ListedAt all list patterns k env (d .patterns) x
+    unfolding Listed
+    listed-any {k} q =
+        let x = listed-from k (omega arith) in
+        let y = subst (λ (l : List Tok). Listed env (d .patterns) l (x .0)) (list-cut text list listed k q) (x .1) in
+        (y .0, listed-at (y .3) (y .4))
+
     module _ {k : ℕ} (l : Left (env .tables) signals env (d .patterns) run (listFrom text list listed k)) where
       -- none is left: no cycle fails
       pub run-sound : listed ≤ k → firstFailing (d .tables) (cyclesOf (length (d .signals)) run) ≡ none
@@ -88,41 +119,35 @@ module _ (text places lists tplaces waves book rows list : List ℕ) (known : Kn
 
         -- the next one
         pub listed-next : ListedAt all list patterns k env (d .patterns) (upcoming .decl)
-        listed-next = record {
-          holding = holding;
-          book = h .tabled .patterns-are;
-          counted = h .tabled .patterns-counted ∙ h .patterns-is;
-          few = rw (h .patterns-is) at (h .tabled .few-patterns);
-          found = upcoming .found;
-          stands = upcoming .stands;
-          fits = all-found (λ x. Playing (x .1 .body)) (d .patterns) all-fit (nameOf text list k .word) (upcoming .decl) (upcoming .found) .1;
-        }
+        listed-next = listed-at (upcoming .found) (upcoming .stands)
 
-        module _ {y : Arrays} {r : Played} (s : PlaysListed all list patterns k y r) where
+        module _ {marks sums : List ℕ} {y : Arrays} {r : Played} (s : PlaysListed all marks sums list patterns k y r) (m : Summed all marks sums env) where
           pub run-fails : r .failed ≡ true → firstFailing (d .tables) (cyclesOf (length (d .signals)) run) ≡ some (r .place)
-          run-fails e = sym decided ∙ next-fails upcoming (s .fails env (d .patterns) (upcoming .decl) listed-next (start signals) (opening-long signals) e)
+          run-fails e = sym decided ∙ next-fails upcoming (s .fails env (d .patterns) (upcoming .decl) listed-next m (start signals) (opening-long signals) e)
 
           pub run-left : r .failed ≡ false → Left (env .tables) signals env (d .patterns) run (listFrom text list listed (k + 1))
-          run-left e = next-left upcoming (s .sound env (d .patterns) (upcoming .decl) listed-next (start signals) (opening-long signals) e)
+          run-left e = next-left upcoming (s .sound env (d .patterns) (upcoming .decl) listed-next m (start signals) (opening-long signals) e)
 
-  -- from the listed name of number k on, whatever text the tables hold, its patterns are left
-  pub record Unplayed (k : ℕ) (x : Arrays) : Type 0 where
+  -- before the first pattern
+  pub opening-sized : SomeRun text places lists tplaces waves book rows list known signals listed patterns → Sized all 0 (arrays (replicate 640 0) (replicate 1_728 0) (replicate 128 0))
+  opening-sized s = record {
+    roomy = record {
+      few = rw (s .runs .signals-is) at (s .runs .tabled .few-signals);
+      values-long = length-replicate {A = ℕ} 640 0;
+      feeds-long = length-replicate {A = ℕ} 1_728 0;
+      inside-levels = omega arith;
+    };
+    args-long = length-replicate {A = ℕ} 128 0;
+    waves-long = s .runs .tabled .waves-long;
+  }
+
+  -- from the listed name of number k on, whatever text the tables hold and whose sums are known, its patterns are left
+  pub record Unplayed (marks sums : List ℕ) (k : ℕ) (x : Arrays) : Type 0 where
     pub sized : Sized all 0 x
     pub left : (p : Parts) (d : Read) (run : Body) (h : Runs text places lists tplaces waves book rows list known signals listed patterns p d run)
+        → Summed all marks sums (h .tabled .parts .env)
         → Left (h .tabled .parts .env .tables) signals (h .tabled .parts .env) (d .patterns) run (listFrom text list listed k)
 
-  -- before the first
-  pub unplayed : SomeRun text places lists tplaces waves book rows list known signals listed patterns → Unplayed 0 (arrays (replicate 640 0) (replicate 1_728 0) (replicate 128 0))
-  unplayed s = record {
-    sized = record {
-      roomy = record {
-        few = rw (s .runs .signals-is) at (s .runs .tabled .few-signals);
-        values-long = length-replicate {A = ℕ} 640 0;
-        feeds-long = length-replicate {A = ℕ} 1_728 0;
-        inside-levels = omega arith;
-      };
-      args-long = length-replicate {A = ℕ} 128 0;
-      waves-long = s .runs .tabled .waves-long;
-    };
-    left = λ p d run h. run-begins h;
-  }
+  pub unplayed : {marks sums : List ℕ} → SomeRun text places lists tplaces waves book rows list known signals listed patterns
+      → Unplayed marks sums 0 (arrays (replicate 640 0) (replicate 1_728 0) (replicate 128 0))
+  unplayed s = record { sized = opening-sized s; left = λ p d run h m. run-begins h }

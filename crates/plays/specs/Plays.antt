@@ -7,7 +7,7 @@ use mathlib.Core.List.{List}
 use lib.ListN.{length, getD}
 use Rattle.tokens.specs.Tokens.{Toks, toks, left}
 use Rattle.meaning.specs.Bounds.{signalsMost, tablesMost, depthMost}
-use Rattle.meaning.specs.Lists.{inside}
+use Rattle.meaning.specs.Lists.{inside, count}
 use Rattle.meaning.specs.Timing.{Tables}
 use Rattle.meaning.specs.Body.{Assigns, Args, Way, looped, shifted, entered, Body, done, vec, set′, inner, depth, outside, shifting, supplied}
 use Rattle.meaning.specs.Run.{State, Played as Play, again, entering}
@@ -22,11 +22,16 @@ use Rattle.signals.specs.Names.{AllTidy}
 use Rattle.timing.specs.Marks.{tableSize}
 use Rattle.timing.specs.Held.{Held}
 use Rattle.measures.specs.Book.{bodies, startAt}
+use Rattle.arguments.specs.Supplied.{Supplied}
+use Rattle.sums.specs.Sums.{Sums}
+use Rattle.sums.specs.Parts.{Exact}
+use Rattle.tallies.specs.Rows.{sumAt, isSummed, isShifted}
 use Rattle.heads.specs.declared.Known.{Known}
 use Rattle.heads.specs.Known.{Describes}
 use Rattle.heads.specs.Heads.{kindOf}
 use Rattle.pins.specs.Shown.{Shows, Told, Roomy, Feeding, feedAt}
 use Rattle.plays.specs.declared.Played.{Played}
+use Rattle.plays.specs.declared.Passed.{Passed}
 
 -- ---- what is played
 
@@ -60,6 +65,20 @@ pub record Holding (g : Ground) (E : Env) : Type 0 where
   pub describes : Describes (g .text) (g .places) (g .lists) (g .tplaces) (g .book) (g .rows) (g .known) E
   pub held : Held (g .text) (g .tplaces) (g .waves) (g .known .tables) (E .tables)
   pub tidy : AllTidy (g .signals) (E .names)
+
+-- ---- sums that are known
+
+-- the row of the body of number i holds its sum, for so many turns of its Shift at least; no `#` stands twice in its Shift
+pub record SumOf (g : Ground) (E : Env) (sums : List ℕ) (i least : ℕ) : Type 0 where
+  pub sums-are : (b : Body) (us : Toks) → Holds E (toks (g .text) (startAt (g .book) i)) b us → (t : ℕ) → least ≤ t → Sums (E .tables) (g .signals) t b (sumAt sums i)
+  pub once : (b : Body) (us : Toks) → Holds E (toks (g .text) (startAt (g .book) i)) b us → (s : ℕ) → count s (shifting b) ≤ 1
+
+-- of each body that is summed up the row holds its sum
+pub record Summed (g : Ground) (marks sums : List ℕ) (E : Env) : Type 0 where
+  pub each : (i : ℕ) → i < bodies → getD marks i 0 ≡ isSummed → SumOf g E sums i 0
+  pub shifted-each : (i : ℕ) → i < bodies → getD marks i 0 ≡ isShifted → SumOf g E sums i 1
+
+-- ---- bodies that can be played
 
 -- every Shift in it, at any depth, holds one V
 abbrev pub OneVector : Way → Body → Type 0
@@ -137,10 +156,23 @@ pub record Plays (g : Ground) (tabs : Tables) (level : ℕ) (y : Arrays) (us : T
   pub told : Telling g tabs level y r p
   pub behind : r .failed ≡ false → (alive (r .cursor) ≡ true) × (stream (g .text) (r .cursor) ≡ us)
 
--- whatever body is held from ts on, f of it was played
-pub record Promised (g : Ground) (ts : Toks) (more level table : ℕ) (x y : Arrays) (f : Body → State → Play) (r : Played) : Type 0 where
+-- whatever the sums say, some of the arguments a is left
+pub record Fed (g : Ground) (level : ℕ) (y : Arrays) (a : Args) : Type 0 where
+  pub rest : Args
+  pub same : supplied rest ≡ supplied a
+  pub feeding : Feeding (g .text) (y .feeds) level rest
+
+-- and a body was gone through to its end, behind which us stand
+pub record Ended (g : Ground) (level : ℕ) (y : Arrays) (us : Toks) (a : Args) (c : Cursor) : Type 0 where
+  pub on : alive c ≡ true
+  pub there : stream (g .text) c ≡ us
+  pub fed : Fed g level y a
+
+-- whatever body is held from ts on, f of it was played, where the sums that are known are those of its bodies
+pub record Promised (g : Ground) (marks sums : List ℕ) (ts : Toks) (more level table : ℕ) (x y : Arrays) (f : Body → State → Play) (r : Played) : Type 0 where
   pub kept : Kept level x y
-  pub plays : (E : Env) (b : Body) (us : Toks) (s : State) → Standing g ts more level table x E b us s → Plays g (E .tables) level y us r (f b s)
+  pub ended : (E : Env) (b : Body) (us : Toks) (s : State) → Standing g ts more level table x E b us s → r .failed ≡ false → Ended g level y us (s .args) (r .cursor)
+  pub plays : (E : Env) (b : Body) (us : Toks) (s : State) → Standing g ts more level table x E b us s → Summed g marks sums E → Plays g (E .tables) level y us r (f b s)
 
 -- ---- one statement
 
@@ -164,9 +196,23 @@ pub record Steps (g : Ground) (ts : Toks) (more level : ℕ) (y : Arrays) (E : E
   pub goes : r .failed ≡ false → r .ends ≡ false
       → Onward g more level (r .table) y E us k t b s (r .cursor) × (left (stream (g .text) (r .cursor)) < left ts)
 
-pub record Stepped (g : Ground) (ts : Toks) (more level table : ℕ) (x y : Arrays) (k t : ℕ) (r : Played) : Type 0 where
+-- whatever the sums say, at the cursor a rest of a body is held, and some of the arguments a is left for it
+pub record Resumed (g : Ground) (more level : ℕ) (y : Arrays) (E : Env) (us : Toks) (a : Args) (c : Cursor) : Type 0 where
+  pub rest : Body
+  pub on : alive c ≡ true
+  pub holds : Holds E (stream (g .text) c) rest us
+  pub fits : Fits more level a rest
+  pub fed : Fed g level y a
+
+pub record Moves (g : Ground) (ts : Toks) (more level : ℕ) (y : Arrays) (E : Env) (us : Toks) (a : Args) (r : Played) : Type 0 where
+  pub ended : r .failed ≡ false → r .ends ≡ true → Ended g level y us a (r .cursor)
+  pub goes : r .failed ≡ false → r .ends ≡ false → Resumed g more level y E us a (r .cursor) × (left (stream (g .text) (r .cursor)) < left ts)
+
+pub record Stepped (g : Ground) (marks sums : List ℕ) (ts : Toks) (more level table : ℕ) (x y : Arrays) (k t : ℕ) (r : Played) : Type 0 where
   pub kept : Kept level x y
-  pub steps : (E : Env) (b : Body) (us : Toks) (s : State) → Standing g ts more level table x E b us s → Steps g ts more level y E us k t b s r
+  pub moves : (E : Env) (b : Body) (us : Toks) (s : State) → Standing g ts more level table x E b us s → Moves g ts more level y E us (s .args) r
+  pub steps : (E : Env) (b : Body) (us : Toks) (s : State) → Standing g ts more level table x E b us s → Summed g marks sums E
+      → Steps g ts more level y E us k t b s r
 
 -- whatever V a Shift holds from ts on, it was played t times
 pub record Shifted (g : Ground) (ts : Toks) (more level table : ℕ) (x y : Arrays) (k t : ℕ) (r : Played) : Type 0 where
@@ -198,7 +244,34 @@ pub record Used (g : Ground) (i more level table : ℕ) (x : Arrays) : Type 0 wh
 
 -- it was played with its Shift t times, to its end or to the first cycle that fails, and the caller's arguments are there again, and where it is a
 -- procedure the caller's pins and table
-pub record Entered (g : Ground) (i more level table : ℕ) (x y : Arrays) (k t : ℕ) (r : Played) : Type 0 where
+pub record Entered (g : Ground) (marks sums : List ℕ) (i more level table : ℕ) (x y : Arrays) (k t : ℕ) (r : Played) : Type 0 where
   pub kept : Kept level x y
-  pub told : (E : Env) (b : Body) (us : Toks) (a : Args) (s : State) → Using g i more level table x E b us a s
+  pub own : (s : ℕ) → s < signalsMost → feedAt (y .feeds) level s ≡ feedAt (x .feeds) level s
+  pub told : (E : Env) (b : Body) (us : Toks) (a : Args) (s : State) → Using g i more level table x E b us a s → Summed g marks sums E
       → Telling g (E .tables) level y r (entering (kindOf i) a (playFew k t b) s)
+
+-- ---- a used body that is passed
+
+-- the declared body b of number i, used with the arguments a for t turns of its Shift
+pub record Calling (g : Ground) (marks sums : List ℕ) (i t : ℕ) (given args : List ℕ) (E : Env) (b : Body) (us : Toks) (a : Args) : Type 0 where
+  pub held : Held (g .text) (g .tplaces) (g .waves) (g .known .tables) (E .tables)
+  pub holds : Holds E (toks (g .text) (startAt (g .book) i)) b us
+  pub good : Good b
+  pub supplied : Supplied (g .text) a given args
+  pub exact : ((s : ℕ) → count s (shifting b) ≤ 1) → Exact t b a
+  pub summed : Summed g marks sums E
+
+-- the first n values are those of `left`
+pub record Settles (n : ℕ) (left values values′ : List ℕ) : Type 0 where
+  pub long : length values′ ≡ length values
+  pub here : (s : ℕ) → s < n → getD values′ s 0 ≡ getD left s 0
+  pub else : (i : ℕ) → n ≤ i → getD values′ i 0 ≡ getD values i 0
+
+-- it was played without a failing cycle, or nothing was done
+pub record Passing (g : Ground) (marks sums : List ℕ) (i t table : ℕ) (given args values values′ : List ℕ) (r : Passed) : Type 0 where
+  pub long : length values′ ≡ length values
+  pub rows : (j : ℕ) → signalsMost ≤ j → getD values′ j 0 ≡ getD values j 0
+  pub untouched : r .done ≡ false → values′ ≡ values
+  pub told : r .done ≡ true → (E : Env) (b : Body) (us : Toks) (a : Args) (s : State) (feeds : List ℕ) (level k p : ℕ)
+      → Calling g marks sums i t given args E b us a → Shows (g .text) (g .signals) values table feeds level s
+      → Told (E .tables) (g .text) (g .signals) values′ (r .table) feeds level false p (entering (kindOf i) a (playFew k t b) s)

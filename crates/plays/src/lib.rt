@@ -1,17 +1,24 @@
 // Playing bodies where the text holds them, to find the first cycle that fails: one without a table, or with an assigned character that has no waveform
-// in it. Every Loop plays its first turn, and its second where fewer than two second turns are open.
+// in it. Every Loop plays its first turn, and its second where fewer than two second turns are open. A used body whose sum is known (`marks`, `sums`) and granted is
+// passed; only one that may fail is entered.
 ghost use mathlib.Core.Path.{_≡_};
 ghost use mathlib.Core.Bool.{true};
-ghost use Prim.Native.Nat.{_-_, _<_, _≤_};
+ghost use mathlib.Core.List.{List};
+ghost use Prim.Native.Nat.{ℕ, _-_, _*_, _<_, _≤_};
 ghost use lib.ListN.{length};
 ghost use Rattle.tokens.specs.Tokens.{toks};
 ghost use Rattle.words.specs.Cursor.{alive, stream};
 ghost use Rattle.turns.specs.Few.{loopFew, playFew};
+ghost use Rattle.meaning.specs.Bounds.{signalsMost, tablesMost};
 ghost use Rattle.meaning.specs.Body.{Body};
 ghost use Rattle.meaning.specs.Document.{Read};
+ghost use Rattle.timing.specs.Marks.{tableSize};
+ghost use Rattle.measures.specs.Book.{bodies};
+ghost use Rattle.pins.specs.Shown.{valuesLength};
+ghost use Rattle.heads.specs.declared.Known.{Known};
 ghost use Rattle.texts.specs.declared.Parts.{Parts};
 ghost use Rattle.plays.specs.Run.{SomeListed, PlaysListed, SomeRun, Runs, Decides};
-ghost use Rattle.plays.specs.Plays.{ground, arrays, Stood, Used, Promised, Stepped, Shifted, Entered};
+ghost use Rattle.plays.specs.Plays.{ground, arrays, Stood, Used, Promised, Stepped, Shifted, Entered, Summed, Settles, Passing};
 use heads::Known;
 use words::Cursor;
 
@@ -34,6 +41,12 @@ pub struct Played {
     pub place: usize,
     pub table: usize,
     pub ends: bool,
+}
+
+// Was a used body passed, and what table is in force behind it?
+pub struct Passed {
+    pub done: bool,
+    pub table: usize,
 }
 
 // Does a cycle of the run fail, and where does the first one's V stand?
@@ -113,6 +126,8 @@ pub fn turns<'a>(
     book: &'a [usize],
     rows: &'a [u16],
     waves: &'a [u8],
+    marks: &'a [u8],
+    sums: &'a [u8],
     known: Known,
     signals: usize,
     frame: Frame,
@@ -123,7 +138,7 @@ pub fn turns<'a>(
     args: &mut [usize],
 ) -> Played
     requires { ⌜ (alive c ≡ true) × (0 < n) × (0 < frame .depth) × Stood (ground (now text) (now places) (now lists) (now tplaces) (now book) (now rows) (now waves) known signals) (stream (now text) c) (frame .depth - 1) (frame .level) table (arrays (now values) (now feeds) (now args)) ⌝ }
-    ensures { λ r. ⌜ Promised (ground (now (text .entry)) (now (places .entry)) (now (lists .entry)) (now (tplaces .entry)) (now (book .entry)) (now (rows .entry)) (now (waves .entry)) known signals) (stream (now (text .entry)) c) (frame .depth - 1) (frame .level) table (arrays (now (values .entry)) (now (feeds .entry)) (now (args .entry))) (arrays (now (values .exit)) (now (feeds .exit)) (now (args .exit))) (λ b. loopFew n (frame .seconds) (λ j. playFew j (frame .turns) b)) r ⌝ }
+    ensures { λ r. ⌜ Promised (ground (now (text .entry)) (now (places .entry)) (now (lists .entry)) (now (tplaces .entry)) (now (book .entry)) (now (rows .entry)) (now (waves .entry)) known signals) (now (marks .entry)) (now (sums .entry)) (stream (now (text .entry)) c) (frame .depth - 1) (frame .level) table (arrays (now (values .entry)) (now (feeds .entry)) (now (args .entry))) (arrays (now (values .exit)) (now (feeds .exit)) (now (args .exit))) (λ b. loopFew n (frame .seconds) (λ j. playFew j (frame .turns) b)) r ⌝ }
 {
     let first = Frame {
         seconds: frame.seconds,
@@ -140,6 +155,8 @@ pub fn turns<'a>(
         book,
         rows,
         waves,
+        marks,
+        sums,
         known,
         signals,
         first,
@@ -166,6 +183,8 @@ pub fn turns<'a>(
         book,
         rows,
         waves,
+        marks,
+        sums,
         known,
         signals,
         second,
@@ -186,6 +205,8 @@ pub fn enter<'a>(
     book: &'a [usize],
     rows: &'a [u16],
     waves: &'a [u8],
+    marks: &'a [u8],
+    sums: &'a [u8],
     known: Known,
     signals: usize,
     frame: Frame,
@@ -197,7 +218,7 @@ pub fn enter<'a>(
     args: &mut [usize],
 ) -> Played
     requires { ⌜ Used (ground (now text) (now places) (now lists) (now tplaces) (now book) (now rows) (now waves) known signals) i (frame .depth) (frame .level) table (arrays (now values) (now feeds) (now args)) ⌝ }
-    ensures { λ r. ⌜ Entered (ground (now (text .entry)) (now (places .entry)) (now (lists .entry)) (now (tplaces .entry)) (now (book .entry)) (now (rows .entry)) (now (waves .entry)) known signals) i (frame .depth) (frame .level) table (arrays (now (values .entry)) (now (feeds .entry)) (now (args .entry))) (arrays (now (values .exit)) (now (feeds .exit)) (now (args .exit))) (frame .seconds) t r ⌝ }
+    ensures { λ r. ⌜ Entered (ground (now (text .entry)) (now (places .entry)) (now (lists .entry)) (now (tplaces .entry)) (now (book .entry)) (now (rows .entry)) (now (waves .entry)) known signals) (now (marks .entry)) (now (sums .entry)) i (frame .depth) (frame .level) table (arrays (now (values .entry)) (now (feeds .entry)) (now (args .entry))) (arrays (now (values .exit)) (now (feeds .exit)) (now (args .exit))) (frame .seconds) t r ⌝ }
 {
     let inner = Frame {
         seconds: frame.seconds,
@@ -217,6 +238,8 @@ pub fn enter<'a>(
             book,
             rows,
             waves,
+            marks,
+            sums,
             known,
             signals,
             inner,
@@ -236,6 +259,8 @@ pub fn enter<'a>(
         book,
         rows,
         waves,
+        marks,
+        sums,
         known,
         signals,
         inner,
@@ -255,6 +280,80 @@ pub fn enter<'a>(
     }
 }
 
+// A body's pins are those that it leaves.
+fn settle(values: &mut [u8], left: &[u8], signals: usize)
+    requires { ⌜ (length (now values) ≡ valuesLength) × (length (now left) ≡ signalsMost) × (signals ≤ signalsMost) ⌝ }
+    ensures { λ _. ⌜ Settles signals (now (left .entry)) (now (values .entry)) (now (values .exit)) ⌝ }
+{
+    let mut s = 0;
+    while s < signals {
+        values[s] = left[s];
+        s += 1;
+    }
+}
+
+// Macro or Call of the body of number i, whose sum may be known: where the state grants what that asks, no cycle of the body fails, and what it leaves is left.
+fn pass(
+    text: &[u8],
+    waves: &[u8],
+    marks: &[u8],
+    sums: &[u8],
+    signals: usize,
+    i: usize,
+    t: usize,
+    given: &[u8],
+    args: &[usize],
+    table: usize,
+    values: &mut [u8],
+) -> Passed
+    requires { ⌜ (length (now waves) ≡ tablesMost * tableSize) × (signals ≤ signalsMost) × (i < bodies) × (length (now given) ≡ signalsMost) × (length (now args) ≡ signalsMost * 2) × (length (now values) ≡ valuesLength) ⌝ }
+    ensures { λ r. ⌜ ((places lists tplaces book rows : List ℕ) (known : Known) → Passing (ground (now (text .entry)) places lists tplaces book rows (now (waves .entry)) known signals) (now (marks .entry)) (now (sums .entry)) i t table (now (given .entry)) (now (args .entry)) (now (values .entry)) (now (values .exit)) r) ⌝ }
+{
+    let stay = Passed { done: false, table };
+    if (marks.len() <= i) | (sums.len() < i * tallies::ROW + tallies::ROW) {
+        return stay;
+    }
+    if !tallies::usable(marks[i], t) {
+        return stay;
+    }
+    let mut left = [0; sets::MOST];
+    if i < measures::PROCEDURES {
+        if !tallies::asks(
+            text,
+            sums,
+            i,
+            waves,
+            signals,
+            given,
+            args,
+            table,
+            values,
+            &mut left,
+        ) {
+            return stay;
+        }
+        settle(values, &left, signals);
+        return Passed {
+            done: true,
+            table: tallies::table_behind(sums, i, table),
+        };
+    }
+    let bare = [0; sets::MOST];
+    let done = tallies::asks(
+        text,
+        sums,
+        i,
+        waves,
+        signals,
+        given,
+        args,
+        table,
+        &bare,
+        &mut left,
+    );
+    Passed { done, table }
+}
+
 // The statement at the cursor, or the `}` there.
 fn statement<'a>(
     text: &'a [u8],
@@ -265,6 +364,8 @@ fn statement<'a>(
     book: &'a [usize],
     rows: &'a [u16],
     waves: &'a [u8],
+    marks: &'a [u8],
+    sums: &'a [u8],
     known: Known,
     signals: usize,
     frame: Frame,
@@ -274,7 +375,7 @@ fn statement<'a>(
     args: &mut [usize],
 ) -> Played
     requires { ⌜ (alive c ≡ true) × Stood (ground (now text) (now places) (now lists) (now tplaces) (now book) (now rows) (now waves) known signals) (stream (now text) c) (frame .depth) (frame .level) table (arrays (now values) (now feeds) (now args)) ⌝ }
-    ensures { λ r. ⌜ Stepped (ground (now (text .entry)) (now (places .entry)) (now (lists .entry)) (now (tplaces .entry)) (now (book .entry)) (now (rows .entry)) (now (waves .entry)) known signals) (stream (now (text .entry)) c) (frame .depth) (frame .level) table (arrays (now (values .entry)) (now (feeds .entry)) (now (args .entry))) (arrays (now (values .exit)) (now (feeds .exit)) (now (args .exit))) (frame .seconds) (frame .turns) r ⌝ }
+    ensures { λ r. ⌜ Stepped (ground (now (text .entry)) (now (places .entry)) (now (lists .entry)) (now (tplaces .entry)) (now (book .entry)) (now (rows .entry)) (now (waves .entry)) known signals) (now (marks .entry)) (now (sums .entry)) (stream (now (text .entry)) c) (frame .depth) (frame .level) table (arrays (now (values .entry)) (now (feeds .entry)) (now (args .entry))) (arrays (now (values .exit)) (now (feeds .exit)) (now (args .exit))) (frame .seconds) (frame .turns) r ⌝ }
 {
     let mut given = [0; sets::MOST];
     let h = heads::head(
@@ -349,6 +450,8 @@ fn statement<'a>(
                 book,
                 rows,
                 waves,
+                marks,
+                sums,
                 known,
                 signals,
                 frame,
@@ -385,6 +488,28 @@ fn statement<'a>(
             args,
         ),
         heads::What::Uses(i, t) => {
+            let p = pass(
+                text,
+                waves,
+                marks,
+                sums,
+                signals,
+                i,
+                t,
+                &given,
+                args,
+                table,
+                values,
+            );
+            if p.done {
+                return Played {
+                    cursor,
+                    failed: false,
+                    place: 0,
+                    table: p.table,
+                    ends: false,
+                };
+            }
             pins::supply(&given, args, feeds, frame.level + 1);
             let r = enter(
                 text,
@@ -394,6 +519,8 @@ fn statement<'a>(
                 book,
                 rows,
                 waves,
+                marks,
+                sums,
                 known,
                 signals,
                 frame,
@@ -427,6 +554,8 @@ fn statements<'a>(
     book: &'a [usize],
     rows: &'a [u16],
     waves: &'a [u8],
+    marks: &'a [u8],
+    sums: &'a [u8],
     known: Known,
     signals: usize,
     frame: Frame,
@@ -436,7 +565,7 @@ fn statements<'a>(
     args: &mut [usize],
 ) -> Played
     requires { ⌜ (alive c ≡ true) × Stood (ground (now text) (now places) (now lists) (now tplaces) (now book) (now rows) (now waves) known signals) (stream (now text) c) (frame .depth) (frame .level) table (arrays (now values) (now feeds) (now args)) ⌝ }
-    ensures { λ r. ⌜ Promised (ground (now (text .entry)) (now (places .entry)) (now (lists .entry)) (now (tplaces .entry)) (now (book .entry)) (now (rows .entry)) (now (waves .entry)) known signals) (stream (now (text .entry)) c) (frame .depth) (frame .level) table (arrays (now (values .entry)) (now (feeds .entry)) (now (args .entry))) (arrays (now (values .exit)) (now (feeds .exit)) (now (args .exit))) (playFew (frame .seconds) (frame .turns)) r ⌝ }
+    ensures { λ r. ⌜ Promised (ground (now (text .entry)) (now (places .entry)) (now (lists .entry)) (now (tplaces .entry)) (now (book .entry)) (now (rows .entry)) (now (waves .entry)) known signals) (now (marks .entry)) (now (sums .entry)) (stream (now (text .entry)) c) (frame .depth) (frame .level) table (arrays (now (values .entry)) (now (feeds .entry)) (now (args .entry))) (arrays (now (values .exit)) (now (feeds .exit)) (now (args .exit))) (playFew (frame .seconds) (frame .turns)) r ⌝ }
 {
     let mut cursor = c;
     let mut chosen = table;
@@ -450,6 +579,8 @@ fn statements<'a>(
             book,
             rows,
             waves,
+            marks,
+            sums,
             known,
             signals,
             frame,
@@ -476,6 +607,8 @@ fn body_of<'a>(
     book: &'a [usize],
     rows: &'a [u16],
     waves: &'a [u8],
+    marks: &'a [u8],
+    sums: &'a [u8],
     known: Known,
     signals: usize,
     frame: Frame,
@@ -485,7 +618,7 @@ fn body_of<'a>(
     args: &mut [usize],
 ) -> Played
     requires { ⌜ (length (now body) ≤ length (now text)) × Stood (ground (now text) (now places) (now lists) (now tplaces) (now book) (now rows) (now waves) known signals) (toks (now text) (length (now text) - length (now body))) (frame .depth) (frame .level) table (arrays (now values) (now feeds) (now args)) ⌝ }
-    ensures { λ r. ⌜ Promised (ground (now (text .entry)) (now (places .entry)) (now (lists .entry)) (now (tplaces .entry)) (now (book .entry)) (now (rows .entry)) (now (waves .entry)) known signals) (toks (now (text .entry)) (length (now (text .entry)) - length (now (body .entry)))) (frame .depth) (frame .level) table (arrays (now (values .entry)) (now (feeds .entry)) (now (args .entry))) (arrays (now (values .exit)) (now (feeds .exit)) (now (args .exit))) (playFew (frame .seconds) (frame .turns)) r ⌝ }
+    ensures { λ r. ⌜ Promised (ground (now (text .entry)) (now (places .entry)) (now (lists .entry)) (now (tplaces .entry)) (now (book .entry)) (now (rows .entry)) (now (waves .entry)) known signals) (now (marks .entry)) (now (sums .entry)) (toks (now (text .entry)) (length (now (text .entry)) - length (now (body .entry)))) (frame .depth) (frame .level) table (arrays (now (values .entry)) (now (feeds .entry)) (now (args .entry))) (arrays (now (values .exit)) (now (feeds .exit)) (now (args .exit))) (playFew (frame .seconds) (frame .turns)) r ⌝ }
 {
     let c = words::cursor_at(text, text.len() - body.len());
     statements(
@@ -497,6 +630,8 @@ fn body_of<'a>(
         book,
         rows,
         waves,
+        marks,
+        sums,
         known,
         signals,
         frame,
@@ -518,6 +653,8 @@ fn pattern<'a>(
     book: &'a [usize],
     rows: &'a [u16],
     waves: &'a [u8],
+    marks: &'a [u8],
+    sums: &'a [u8],
     list: &'a [usize],
     known: Known,
     signals: usize,
@@ -528,7 +665,7 @@ fn pattern<'a>(
     args: &mut [usize],
 ) -> Played
     requires { ⌜ SomeListed (ground (now text) (now places) (now lists) (now tplaces) (now book) (now rows) (now waves) known signals) (now list) patterns k (arrays (now values) (now feeds) (now args)) ⌝ }
-    ensures { λ r. ⌜ PlaysListed (ground (now (text .entry)) (now (places .entry)) (now (lists .entry)) (now (tplaces .entry)) (now (book .entry)) (now (rows .entry)) (now (waves .entry)) known signals) (now (list .entry)) patterns k (arrays (now (values .exit)) (now (feeds .exit)) (now (args .exit))) r ⌝ }
+    ensures { λ r. ⌜ PlaysListed (ground (now (text .entry)) (now (places .entry)) (now (lists .entry)) (now (tplaces .entry)) (now (book .entry)) (now (rows .entry)) (now (waves .entry)) known signals) (now (marks .entry)) (now (sums .entry)) (now (list .entry)) patterns k (arrays (now (values .exit)) (now (feeds .exit)) (now (args .exit))) r ⌝ }
 {
     let names = &book[measures::PATTERNS * 2..];
     let i = words::find(text, words::name_bytes(text, list, k), names, patterns);
@@ -550,6 +687,8 @@ fn pattern<'a>(
         book,
         rows,
         waves,
+        marks,
+        sums,
         known,
         signals,
         frame,
@@ -569,6 +708,8 @@ pub fn first_failing<'a>(
     book: &'a [usize],
     rows: &'a [u16],
     waves: &'a [u8],
+    marks: &'a [u8],
+    sums: &'a [u8],
     list: &'a [usize],
     known: Known,
     signals: usize,
@@ -576,7 +717,7 @@ pub fn first_failing<'a>(
     patterns: usize,
 ) -> Failing
     requires { ⌜ SomeRun (now text) (now places) (now lists) (now tplaces) (now waves) (now book) (now rows) (now list) known signals listed patterns ⌝ }
-    ensures { λ r. ⌜ ((p : Parts) (d : Read) (run : Body) → Runs (now (text .entry)) (now (places .entry)) (now (lists .entry)) (now (tplaces .entry)) (now (waves .entry)) (now (book .entry)) (now (rows .entry)) (now (list .entry)) known signals listed patterns p d run → Decides d run r) ⌝ }
+    ensures { λ r. ⌜ ((p : Parts) (d : Read) (run : Body) (h : Runs (now (text .entry)) (now (places .entry)) (now (lists .entry)) (now (tplaces .entry)) (now (waves .entry)) (now (book .entry)) (now (rows .entry)) (now (list .entry)) known signals listed patterns p d run) → Summed (ground (now (text .entry)) (now (places .entry)) (now (lists .entry)) (now (tplaces .entry)) (now (book .entry)) (now (rows .entry)) (now (waves .entry)) known signals) (now (marks .entry)) (now (sums .entry)) (h .tabled .parts .env) → Decides d run r) ⌝ }
 {
     let mut values = [0u8; pins::VALUES];
     let mut feeds = [0usize; pins::FEEDS];
@@ -591,6 +732,8 @@ pub fn first_failing<'a>(
             book,
             rows,
             waves,
+            marks,
+            sums,
             list,
             known,
             signals,

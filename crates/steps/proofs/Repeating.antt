@@ -4,7 +4,7 @@ use native.Mathlib.Nat.{mul-le-mul-right}
 use native.Mathlib.Omega.{arith}
 use mathlib.Core.Path.{_≡_, refl, sym, ap, _∙_, subst}
 use mathlib.Core.Bool.{true, false}
-use mathlib.Core.List.{List}
+use mathlib.Core.List.{List, []}
 use lib.ListN.{length}
 use Rattle.tokens.specs.Tokens.{Toks}
 use Rattle.meaning.specs.Bounds.{signalsMost, sizeMost, cyclesMost}
@@ -21,6 +21,7 @@ use Rattle.words.specs.declared.Cursor.{Cursor}
 use Rattle.measures.specs.Measures.{Measures as MeasureOf}
 use Rattle.plays.specs.declared.Played.{Played}
 use Rattle.plays.specs.Plays.{Ground, Arrays, arrays, Sized, Standing, Stood as PlayStood, Kept, Promised as PlaysAll}
+use Rattle.plays.proofs.Summing.{summed-empty}
 use Rattle.plays.proofs.Keeping.{kept-none, kept-then, kept-args, sized-kept}
 use Rattle.loops.specs.declared.Measured.{Measured}
 use Rattle.loops.specs.Held.{tables, Stood as MeasureStood, Promised as MeasuresAll}
@@ -55,11 +56,11 @@ module _ {g : Ground} {ts : Toks} {more level table t n k : ℕ} {x : Arrays} {w
   }
 
   -- that is a later one: one turn was played
-  pub begun-later : {y : Arrays} {r : Played} → 0 < w .pass / k → PlaysAll g ts more level table x y (λ b. loopFew n 0 (λ j. playFew j t b)) r
+  pub begun-later : {y : Arrays} {r : Played} → 0 < w .pass / k → PlaysAll g [] [] ts more level table x y (λ b. loopFew n 0 (λ j. playFew j t b)) r
       → Begun g ts more level table t n k x w (r .table) y
   begun-later h p = record {
     kept = p .kept;
-    standing = λ E b us s turning. first-left turning h (loop-told t n (turning .standing) (turning .plain) (turning .sound) (p .plays E b us s (turning .standing)));
+    standing = λ E b us s turning. first-left turning h (loop-told t n (turning .standing) (turning .plain) (turning .sound) (p .plays E b us s (turning .standing) (summed-empty g E)));
   }
 
 -- ---- from turn to turn
@@ -247,14 +248,14 @@ module _ {g : Ground} {ts : Toks} {more level table t n : ℕ} {values feeds arg
       }
 
       pub repeat-passed : {y : Arrays} {r : Played} → n * m .measure .cycles ≤ w .pass
-          → PlaysAll g ts more level table (arrays values feeds args′) y (λ b. loopFew n 0 (λ j. playFew j t b)) r
+          → PlaysAll g [] [] ts more level table (arrays values feeds args′) y (λ b. loopFew n 0 (λ j. playFew j t b)) r
           → Looped g ts more level table t n (arrays values feeds args) y w before before
           (record { cursor = r .cursor; table = r .table; walk = past (spent w (m .measure .size + 1)) (n * m .measure .cycles); ends = false })
       repeat-passed h q = record {
         kept = kept-then kept-here (q .kept);
         goes-on = refl;
         walks = λ E b us s st plain ready. loop-passed st plain some ready (p .sums E b us (loop-measurable st plain) .measured) (stood .going) h
-            (q .plays E b us s (standing-args args′ st));
+            (q .plays E b us s (standing-args args′ st) (summed-empty g E));
       }
 
       module _ (h : w .pass < n * m .measure .cycles) where

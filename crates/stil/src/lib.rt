@@ -197,7 +197,8 @@ fn told<'a>(
     }
 }
 
-// The first cycle of a text's run that fails, where 1 to 16 leave the text. Where the sums of its bodies show that none does, nothing is played.
+// The first cycle of a text's run that fails, where 1 to 16 leave the text. Where the sums of its bodies show that none does, nothing is played; else they tell
+// which of them can be passed.
 pub fn failing<'a>(
     text: &'a [u8],
     places: &'a [usize],
@@ -214,6 +215,8 @@ pub fn failing<'a>(
 {
     let parts = v.parts;
     let known = parts.known;
+    let mut marks = [0u8; measures::BODIES];
+    let mut sums = [0u8; grants::SUMS];
     let granted = grants::granted(
         text,
         places,
@@ -227,6 +230,8 @@ pub fn failing<'a>(
         parts.signals,
         parts.listed,
         parts.patterns,
+        &mut marks,
+        &mut sums,
     );
     if granted {
         return Failing {
@@ -242,6 +247,8 @@ pub fn failing<'a>(
         book,
         rows,
         waves,
+        &marks,
+        &sums,
         list,
         known,
         parts.signals,

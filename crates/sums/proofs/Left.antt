@@ -138,7 +138,7 @@ module _ {n : ℕ} {S : Sum} {s s₁ : State} (l : Leaves n S s s₁) {R : Sum} 
 
 -- ---- a body in place
 
-last-at : (front : List ℕ) (c d : ℕ) → lastOf (front ++ c ∷ []) d ≡ c
+pub last-at : (front : List ℕ) (c d : ℕ) → lastOf (front ++ c ∷ []) d ≡ c
 unfolding lastOf
 last-at [] c d = refl
 last-at (x ∷ front) c d = last-at front c x

@@ -1,6 +1,6 @@
 mod Taken
 mod Asked
-mod Left
+pub mod Left
 mod Cycles
 pub mod Exact
 mod Adds

@@ -2,22 +2,21 @@
 use Prim.Native.Nat.{ℕ, _+_, _*_, _≤_, _<_}
 use native.Mathlib.Omega.{arith}
 use mathlib.Core.Path.{_≡_, refl, sym, ap, _∙_, subst}
-use mathlib.Core.Bool.{Bool, true, false, _&&_}
+use mathlib.Core.Bool.{Bool, true, false}
 use mathlib.Core.Option.{Option, none, some}
 use mathlib.Core.List.{List}
-use lib.Dec.{ltb}
 use borrow.Author.Count.{below-more}
 use Rattle.meaning.specs.Bounds.{signalsMost}
 use Rattle.meaning.specs.Timing.{Tables}
 use Rattle.meaning.specs.Body.{Args, argOf}
 use Rattle.arguments.specs.Supplied.{Supplied}
-use Rattle.arguments.proofs.Lists.{both, differ}
+use Rattle.arguments.proofs.Lists.{differ}
 use Rattle.sums.specs.Sums.{Shown, orTable}
 use Rattle.sums.specs.Parts.{Kept, Shows, Entered, InPlace, Called}
 use Rattle.sums.proofs.Statements.{kept-both}
-use Rattle.tallies.specs.Rows.{slots, givenFrom, flagAt, slotOf, isSlot, sumAt, Only, More, Marked, Asked, ShownWhere, FedWhere, Passed, OnSignal, Retabled}
+use Rattle.tallies.specs.Rows.{slots, givenFrom, sumAt, Only, More, Marked, Asked, ShownWhere, FedWhere, Passed, OnSignal, Retabled}
 use Rattle.tallies.proofs.Stored.{only-then}
-use Rattle.tallies.proofs.Grown.{more-none, more-then, shows-kept}
+use Rattle.tallies.proofs.Grown.{under-slot, given-slot, more-none, more-then, shows-kept}
 use Rattle.tallies.proofs.Others.{other-sum}
 use Rattle.tallies.proofs.Feeding.{where-kept}
 use Rattle.tallies.proofs.Entering.{real-char, on-kept, on-later, fed-later}
@@ -26,15 +25,10 @@ use Rattle.tallies.proofs.Entering.{real-char, on-kept, on-later, fed-l
 
 module _ {tabs : Tables} {r from i : ℕ} {x : Shown} {sums sums′ : List ℕ} (t : Option ℕ) where
   where-under : ShownWhere tabs r from (i * slots) i x sums sums′ → sumAt sums from .under i t ≡ true → Shows tabs i x (orTable t (sumAt sums r .table)) (sumAt sums′ r)
-  where-under y e =
-      let b = both (ltb i signalsMost && isSlot t) (flagAt sums from (i * slots + slotOf t)) e in
-      y .shows t (both (ltb i signalsMost) (isSlot t) (b .0) .1) (b .1)
+  where-under y e = let b = under-slot sums from i t e in y .shows t (b .0) (b .1)
 
   where-given : ShownWhere tabs r from (givenFrom + i * slots) i x sums sums′ → sumAt sums from .given i t ≡ true → Shows tabs i x (orTable t (sumAt sums r .table)) (sumAt sums′ r)
-  where-given y e =
-      let b = both (ltb i signalsMost && isSlot t) (flagAt sums from (givenFrom + (i * slots + slotOf t))) e in
-      let p : givenFrom + (i * slots + slotOf t) ≡ (givenFrom + i * slots) + slotOf t = omega arith in
-      y .shows t (both (ltb i signalsMost) (isSlot t) (b .0) .1) (subst (λ (n : ℕ). flagAt sums from n ≡ true) p (b .1))
+  where-given y e = let b = given-slot sums from i t e in y .shows t (b .0) (b .1)
 
 -- ---- what both ways of entering ask
 

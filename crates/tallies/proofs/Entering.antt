@@ -20,7 +20,7 @@ use Rattle.pins.proofs.Callers.{table-some, table-none}
 use Rattle.sums.specs.Sums.{Shown, char, orTable}
 use Rattle.sums.specs.Parts.{lastOf, behind}
 use Rattle.sums.proofs.Statements.{kept-both}
-use Rattle.tallies.specs.Rows.{slots, pinsFrom, badPlace, byteAt, shownOf, sumAt, Only, Stored, More, ShownWhere, FedWhere, Passed, OnSignal, Retabled}
+use Rattle.tallies.specs.Rows.{slots, pinsFrom, badPlace, byteAt, shownOf, sumAt, Only, Stored, More, ShownWhere, FedWhere, Passed, OnSignal, Retabled, leftOn}
 use Rattle.tallies.proofs.Stored.{only-then}
 use Rattle.tallies.proofs.Grown.{pin-at, pin-alike, kept-beside, more-none, more-then}
 use Rattle.tallies.proofs.Others.{other-sum}
@@ -76,49 +76,67 @@ module _ {r i : ℕ} {sums sums′ : List ℕ} where
     pin-stored : sumAt sums′ r .pin i ≡ shownOf v
     pin-stored = pin-at sums′ r i h ∙ ap shownOf (x .here)
 
-module _ (S : Shown) (sums : List ℕ) (from i : ℕ) {b : ℕ} (h : i < signalsMost) (e : b ≡ byteAt sums from (pinsFrom + i)) where
+module _ (sums : List ℕ) (from i : ℕ) {b : ℕ} (h : i < signalsMost) (e : b ≡ byteAt sums from (pinsFrom + i)) where
   left-is : sumAt sums from .pin i ≡ shownOf b
   left-is = pin-at sums from i h ∙ ap shownOf (sym e)
 
+  -- entered from a state with the character c there
+  module _ (c : ℕ) (cs : List ℕ) where
+    pub left-nothing : b ≡ 0 → c ≡ leftOn (sumAt sums from .pin i) c cs
+    unfolding leftOn
+    left-nothing z = rw (left-is ∙ shown-zero b z)
+
+    pub left-last : {v : ℕ} → b ≡ mark → v ≡ lastOf cs 0 → v ≡ leftOn (sumAt sums from .pin i) c cs
+    unfolding leftOn
+    left-last m q = rw (left-is ∙ shown-mark b m) q
+
+    pub left-char : (b ≡ 0 → ⊥) → (b ≡ mark → ⊥) → b ≡ leftOn (sumAt sums from .pin i) c cs
+    unfolding leftOn
+    left-char n m = rw (left-is ∙ shown-char b n m)
+
+module _ (S : Shown) (sums : List ℕ) (from i : ℕ) {b : ℕ} (h : i < signalsMost) (e : b ≡ byteAt sums from (pinsFrom + i)) where
   pub leaves-nothing : b ≡ 0 → (cs : List ℕ) → S ≡ behind S (sumAt sums from .pin i) cs
   unfolding behind
-  leaves-nothing z cs = rw (left-is ∙ shown-zero b z)
+  leaves-nothing z cs = rw (left-is sums from i h e ∙ shown-zero b z)
 
   module _ {r : ℕ} {sums′ sums″ : List ℕ} where
     pub leaves-char : (b ≡ 0 → ⊥) → (b ≡ mark → ⊥) → Stored r (pinsFrom + i) b sums′ sums″ → (cs : List ℕ) → sumAt sums″ r .pin i ≡ behind S (sumAt sums from .pin i) cs
     unfolding behind
-    leaves-char n m x cs = rw (left-is ∙ shown-char b n m) (pin-stored x h ∙ shown-char b n m)
+    leaves-char n m x cs = rw (left-is sums from i h e ∙ shown-char b n m) (pin-stored x h ∙ shown-char b n m)
 
     pub leaves-last : {v : ℕ} → b ≡ mark → (v ≡ 0 → ⊥) → Stored r (pinsFrom + i) v sums′ sums″ → (cs : List ℕ) → v ≡ lastOf cs 0 → has mark cs ≡ false
         → sumAt sums″ r .pin i ≡ behind S (sumAt sums from .pin i) cs
     unfolding behind
     leaves-last {v} m n x cs q k =
-        rw (left-is ∙ shown-mark b m) (pin-stored x h ∙ shown-char v n (λ z. last-not cs 0 k (λ o. omega arith) (sym q ∙ z)) ∙ ap char q)
+        rw (left-is sums from i h e ∙ shown-mark b m) (pin-stored x h ∙ shown-char v n (λ z. last-not cs 0 k (λ o. omega arith) (sym q ∙ z)) ∙ ap char q)
 
 -- ---- the table
 
+module _ (sums : List ℕ) (from : ℕ) {b : ℕ} (e : b ≡ byteAt sums from (badPlace + 2)) where
+  -- in force behind a body that chose one
+  pub table-chosen : (o : Option ℕ) → b < tablesMost → tableOf b ≡ orTable (sumAt sums from .table) o
+  unfolding orTable
+  table-chosen o h = table-some b h ∙ sym (ap (λ (p : Option ℕ). orTable p o) (ap tableOf (sym e) ∙ table-some b h))
+
+  -- or none
+  pub table-before : (o : Option ℕ) → tablesMost ≤ b → o ≡ orTable (sumAt sums from .table) o
+  unfolding orTable
+  table-before o h = sym (ap (λ (p : Option ℕ). orTable p o) (ap tableOf (sym e) ∙ table-none b h))
+
 module _ (sums : List ℕ) (r from : ℕ) {b : ℕ} (e : b ≡ byteAt sums from (badPlace + 2)) where
   pub retabled-one : {sums′ : List ℕ} → b < tablesMost → Stored r (badPlace + 2) b sums sums′ → Retabled r (sumAt sums from) sums sums′
-  unfolding orTable
   retabled-one {sums′} h x =
       record {
         only = x .only;
         kept = kept-beside x (omega arith) (λ q l u z. omega arith);
         pins-are = λ i. pin-alike sums sums′ r i (λ l. x .else (pinsFrom + i) (λ z. omega arith));
-        table-is = ap tableOf (x .here) ∙ table-some b h
-            ∙ sym (ap (λ (o : Option ℕ). orTable o (sumAt sums r .table)) (ap tableOf (sym e) ∙ table-some b h));
+        table-is = ap tableOf (x .here) ∙ table-chosen sums from e _ h;
       }
 
   pub retabled-none : tablesMost ≤ b → Retabled r (sumAt sums from) sums sums
-  unfolding orTable
   retabled-none h =
       let m = more-none {r = r} {sums = sums} in
-      record {
-        only = m .only;
-        kept = m .kept;
-        pins-are = λ i. refl;
-        table-is = sym (ap (λ (o : Option ℕ). orTable o (sumAt sums r .table)) (ap tableOf (sym e) ∙ table-none b h));
-      }
+      record { only = m .only; kept = m .kept; pins-are = λ i. refl; table-is = table-before sums from e _ h }
 
 -- ---- a signal, among other steps
 

@@ -1,7 +1,7 @@
 -- A row that asks for more than before: what was stored in it, and what that makes of its sum.
 use Prim.Native.Nat.{ℕ, _+_, _*_, _≤_, _<_}
 use native.Mathlib.Omega.{arith}
-use mathlib.Core.Path.{_≡_, refl, sym, ap, _∙_}
+use mathlib.Core.Path.{_≡_, refl, sym, ap, _∙_, subst}
 use mathlib.Core.Bool.{Bool, true, false, _&&_}
 use mathlib.Core.Option.{Option, none, some}
 use mathlib.Core.List.{List}
@@ -55,6 +55,17 @@ module _ (sums : List ℕ) (r i : ℕ) (t : Option ℕ) (h : i < signalsMost) (l
 
   pub given-at : flagAt sums r (givenFrom + (i * slots + slotOf t)) ≡ true → sumAt sums r .given i t ≡ true
   given-at e = rw (lt-ltb i signalsMost h, l, sumAt) e
+
+module _ (sums : List ℕ) (r i : ℕ) (t : Option ℕ) where
+  pub under-slot : sumAt sums r .under i t ≡ true → (isSlot t ≡ true) × (flagAt sums r (i * slots + slotOf t) ≡ true)
+  under-slot e = let b = both (ltb i signalsMost && isSlot t) _ e in (both (ltb i signalsMost) _ (b .0) .1, b .1)
+
+  -- by the place where the signal's slots begin
+  pub given-slot : sumAt sums r .given i t ≡ true → (isSlot t ≡ true) × (flagAt sums r (givenFrom + i * slots + slotOf t) ≡ true)
+  given-slot e =
+      let b = both (ltb i signalsMost && isSlot t) _ e in
+      let p : givenFrom + (i * slots + slotOf t) ≡ givenFrom + i * slots + slotOf t = omega arith in
+      (both (ltb i signalsMost) _ (b .0) .1, subst (λ (n : ℕ). flagAt sums r n ≡ true) p (b .1))
 
 -- and what is not
 pub under-off : (sums : List ℕ) (r i : ℕ) (t : Option ℕ) → byteAt sums r (i * slots + slotOf t) ≡ 0 → sumAt sums r .under i t ≡ false

@@ -5,6 +5,8 @@ mod Narrowed
 mod Showing
 pub mod Others
 mod Asking
+mod Reading
 mod Feeding
 mod Entering
 mod Calling
+mod Fitting

@@ -4,17 +4,19 @@ use mathlib.Core.Path.{_≡_}
 use mathlib.Core.Bool.{Bool, true, false, not, _&&_}
 use mathlib.Core.Option.{Option, none, some}
 use mathlib.Core.List.{List}
-use lib.ListN.{length, getD}
+use lib.ListN.{length, getD, take}
 use lib.Dec.{eqb, ltb}
 use Rattle.meaning.specs.Bounds.{signalsMost, tablesMost}
 use Rattle.meaning.specs.Lists.{has}
 use Rattle.meaning.specs.Timing.{Tables}
 use Rattle.meaning.specs.Meaning.{hasWave, tableAt}
-use Rattle.meaning.specs.Body.{mark}
+use Rattle.meaning.specs.Body.{mark, argOf}
+use Rattle.meaning.specs.Run.{State}
+use Rattle.arguments.specs.Supplied.{Supplied}
 use Rattle.timing.specs.Held.{Held}
 use Rattle.pins.specs.Shown.{tableOf}
-use Rattle.sums.specs.Sums.{Shown, before, argument, char, Sum, orTable}
-use Rattle.sums.specs.Parts.{Kept, Shows, behind}
+use Rattle.sums.specs.Sums.{Shown, before, argument, char, Sum, okAt, orTable, Asks}
+use Rattle.sums.specs.Parts.{Kept, Shows, lastOf, behind}
 
 -- ---- where things stand in a row
 
@@ -68,6 +70,13 @@ sumAt sums r = record {
   pin = λ i. elim (ltb i signalsMost) [ true ↦ shownOf (byteAt sums r (pinsFrom + i)) | false ↦ before ];
   table = tableOf (byteAt sums r (badPlace + 2));
 }
+
+-- what is known of a body by its mark: its sum; its sum where its Shift plays at all
+abbrev pub isSummed : ℕ
+isSummed = 1
+
+abbrev pub isShifted : ℕ
+isShifted = 2
 
 -- ---- what a step promises
 
@@ -143,3 +152,41 @@ pub record Retabled (r : ℕ) (U : Sum) (sums sums′ : List ℕ) : Type 0 where
   pub kept : (n : ℕ) → Kept n (sumAt sums r) (sumAt sums′ r)
   pub pins-are : (i : ℕ) → sumAt sums′ r .pin i ≡ sumAt sums r .pin i
   pub table-is : sumAt sums′ r .table ≡ orTable (U .table) (sumAt sums r .table)
+
+-- ---- a body that is entered from a state
+
+-- what signal i has behind a body that leaves u there, where c was before and its argument is l
+unfoldable pub leftOn : Shown → ℕ → List ℕ → ℕ
+leftOn before c l = c
+leftOn (char x) c l = x
+leftOn argument c l = lastOf l 0
+
+-- its bad flag is not set, and where it shows characters by itself under the table before, that one is fine
+pub record Suits (S : Sum) (table : Option ℕ) : Type 0 where
+  pub good : S .bad ≡ false
+  pub tabled : S .needs ≡ true → (k : ℕ) × (table ≡ some k) × (S .fine k ≡ true)
+
+-- the character c can be shown on signal i under each slot that is marked in the row, from a place on; the last slot is the table in force
+pub record FitsWhere (tabs : Tables) (r place i c : ℕ) (table : Option ℕ) (sums : List ℕ) : Type 0 where
+  pub fits : (t : Option ℕ) → isSlot t ≡ true → flagAt sums r (place + slotOf t) ≡ true → okAt tabs (orTable t table) i c ≡ true
+
+-- so can each of these characters, where the row shows the argument
+pub record FedFits (tabs : Tables) (r i : ℕ) (cs : List ℕ) (table : Option ℕ) (sums : List ℕ) : Type 0 where
+  pub each : (c : ℕ) → has c cs ≡ true → FitsWhere tabs r (givenFrom + i * slots) i c table sums
+
+-- signal i has c before and cs as its argument: both can be shown, and `pin` is what the row leaves
+pub record OnPin (waves : List ℕ) (r i c : ℕ) (cs : List ℕ) (table : Option ℕ) (sums : List ℕ) (pin : ℕ) : Type 0 where
+  pub shown : (tabs : Tables) → Marked waves tabs → FitsWhere tabs r (i * slots) i c table sums
+  pub fed : (tabs : Tables) → Marked waves tabs → FedFits tabs r i cs table sums
+  pub pin-is : pin ≡ leftOn (sumAt sums r .pin i) c cs
+
+-- the state s grants all that a body of sum S asks, and `left` are the pins behind it
+pub record Grants (tabs : Tables) (n : ℕ) (S : Sum) (s : State) (left : List ℕ) : Type 0 where
+  pub asks : Asks tabs n S s
+  pub pins-are : (i : ℕ) → i < n → getD left i 0 ≡ leftOn (S .pin i) (getD (s .pins) i 0) (argOf i (s .args))
+
+-- the arrays hold the state s
+pub record Holds (text pins given args : List ℕ) (n table : ℕ) (s : State) : Type 0 where
+  pub pins-are : s .pins ≡ take n pins
+  pub table-is : s .table ≡ tableOf table
+  pub args-are : Supplied text (s .args) given args

@@ -1,6 +1,7 @@
 // Sums of bodies, a row of bytes each: what a body asks of the state in which it begins, so that no cycle of it fails, and what it leaves.
 ghost use mathlib.Core.Path.{_≡_};
-ghost use mathlib.Core.Bool.{true, false};
+ghost use mathlib.Core.Bool.{true, false, not, _||_, _&&_};
+ghost use lib.Dec.{eqb};
 ghost use mathlib.Core.Option.{none};
 ghost use mathlib.Core.List.{List};
 ghost use Prim.Native.Nat.{ℕ, _+_, _*_, _<_, _≤_};
@@ -9,17 +10,21 @@ ghost use Rattle.meaning.specs.Bounds.{signalsMost, tablesMost};
 ghost use Rattle.meaning.specs.Timing.{Tables};
 ghost use Rattle.meaning.specs.Meaning.{hasWave, tableAt};
 ghost use Rattle.meaning.specs.Lists.{has};
+ghost use Rattle.meaning.specs.Run.{State};
 ghost use Rattle.meaning.specs.Body.{Assigns, Args, mark, argOf};
 ghost use Rattle.timing.specs.Marks.{tableSize};
 ghost use Rattle.measures.specs.Uses.{Given};
 ghost use Rattle.arguments.specs.Supplied.{Supplied, DataAt};
 ghost use Rattle.sums.specs.Parts.{Nothing, Assigned, Chosen, Shows, Cycled, InPlace, Called, Alone, lastOf, behind};
 ghost use Rattle.pins.specs.Shown.{tableOf};
-ghost use Rattle.tallies.specs.Rows.{slots, rowSize, byteAt, shownOf, sumAt, Only, Stored, More, Marked, Inherits, Needed, Tabled, Asked, ShownWhere, FedWhere, Passed, OnSignal, Retabled};
+ghost use Rattle.sums.specs.Sums.{okAt, orTable};
+ghost use Rattle.tallies.specs.Rows.{slots, rowSize, byteAt, flagAt, shownOf, sumAt, Only, Stored, More, Marked, Inherits, Needed, Tabled, Asked, ShownWhere, FedWhere, Passed, OnSignal, Retabled, isSummed, isShifted, Grants, Holds, FitsWhere, FedFits, OnPin, Suits};
 
 const MARK: u8 = 35;
 
 const CHARS: usize = 128;
+
+const BYTES: usize = 256;
 // The text's tables, and the one before.
 const SLOTS: usize = timing::TABLES + 1;
 
@@ -36,6 +41,24 @@ const NEEDS: usize = BAD + 1;
 const TABLE: usize = BAD + 2;
 
 pub const ROW: usize = BAD + 3;
+
+// What is known of a body by its mark: its sum; its sum where its Shift plays at all.
+pub const SUMMED: u8 = 1;
+
+pub const SHIFTED: u8 = 2;
+
+// A signal as a body entered from a state leaves it, if its pin and its argument could be shown wherever the body shows them.
+struct On {
+    fits: bool,
+    pin: u8,
+}
+
+// Is it known of a body with that mark what it asks, with its Shift played t times?
+pub fn usable(mark: u8, t: usize) -> bool
+    ensures { λ r. ⌜ r ≡ (eqb mark isSummed || (eqb mark isShifted && not (eqb t 0))) ⌝ }
+{
+    (mark == SUMMED) | ((mark == SHIFTED) & (t != 0))
+}
 
 // ---- a byte of a row
 
@@ -267,7 +290,7 @@ fn show_where(sums: &mut [u8], to: usize, from: usize, place: usize, waves: &[u8
     }
 }
 
-// A signal's argument, of so many characters: each is shown wherever the body shows the argument. The answer is the last one, 0 for none.
+// A signal's argument, of so many characters: each is shown, once, wherever the body shows the argument. The answer is the last one, 0 for none.
 fn feed(
     text: &[u8],
     sums: &mut [u8],
@@ -281,6 +304,7 @@ fn feed(
     requires { ⌜ (to * rowSize + rowSize ≤ length (now sums)) × (from * rowSize + rowSize ≤ length (now sums)) × (from ≡ to → ⊥) × (length (now waves) ≡ tablesMost * tableSize) × (s < signalsMost) ⌝ }
     ensures { λ r. ⌜ More to (now (sums .entry)) (now (sums .exit)) × ((cs : List ℕ) → DataAt (now (text .entry)) place cs → length cs ≡ count → (r ≡ lastOf cs 0) × ((tabs : Tables) → Marked (now (waves .entry)) tabs → FedWhere tabs to from s cs (now (sums .entry)) (now (sums .exit)))) ⌝ }
 {
+    let mut seen = [0u8; BYTES];
     let mut f = feeds::start(place);
     let mut last = 0;
     let mut i = 0;
@@ -288,7 +312,10 @@ fn feed(
         let x = feeds::next(text, f);
         last = x.char;
         f = x.feed;
-        show_where(sums, to, from, GIVEN + s * SLOTS, waves, s, last);
+        if seen[last as usize] == 0 {
+            show_where(sums, to, from, GIVEN + s * SLOTS, waves, s, last);
+            seen[last as usize] = 1;
+        }
         i += 1;
     }
     last
@@ -454,4 +481,220 @@ pub fn grants(sums: &[u8], r: usize, signals: usize) -> bool
         s += 1;
     }
     true
+}
+
+// ---- a body entered from a state
+
+// Can the character be shown on a signal under the table of a slot? An unassigned signal can under every table; without one nothing can.
+fn fits(waves: &[u8], t: usize, s: usize, x: u8) -> bool
+    requires { ⌜ (length (now waves) ≡ tablesMost * tableSize) × (s < signalsMost) ⌝ }
+    ensures { λ r. ⌜ ((tabs : Tables) → Marked (now (waves .entry)) tabs → r ≡ okAt tabs (tableOf t) s x) ⌝ }
+{
+    if timing::TABLES <= t {
+        return false;
+    }
+    if x == 0 {
+        return true;
+    }
+    has(waves, t, s, x)
+}
+
+// Can it where the byte at a place of the row marks that slot?
+fn fits_slot(sums: &[u8], r: usize, p: usize, waves: &[u8], t: usize, s: usize, x: u8) -> bool
+    requires { ⌜ (r * rowSize + rowSize ≤ length (now sums)) × (p < rowSize) × (length (now waves) ≡ tablesMost * tableSize) × (s < signalsMost) ⌝ }
+    ensures { λ b. ⌜ (b ≡ true → (tabs : Tables) → Marked (now (waves .entry)) tabs → flagAt (now (sums .entry)) r p ≡ true → okAt tabs (tableOf t) s x ≡ true) ⌝ }
+{
+    if byte(sums, r, p) == 0 {
+        return true;
+    }
+    fits(waves, t, s, x)
+}
+
+// Can it wherever the row shows what stood on the signal before, or its argument? `place` is where the slots of that stand.
+fn fits_where(
+    sums: &[u8],
+    r: usize,
+    place: usize,
+    waves: &[u8],
+    s: usize,
+    x: u8,
+    table: usize,
+) -> bool
+    requires { ⌜ (r * rowSize + rowSize ≤ length (now sums)) × (place + slots ≤ rowSize) × (length (now waves) ≡ tablesMost * tableSize) × (s < signalsMost) ⌝ }
+    ensures { λ b. ⌜ (b ≡ true → (tabs : Tables) → Marked (now (waves .entry)) tabs → FitsWhere tabs r place s x (tableOf table) (now (sums .entry))) ⌝ }
+{
+    let mut t = 0;
+    while t < timing::TABLES {
+        if !fits_slot(sums, r, place + t, waves, t, s, x) {
+            return false;
+        }
+        t += 1;
+    }
+    fits_slot(sums, r, place + timing::TABLES, waves, table, s, x)
+}
+
+// So each character of an argument, which has so many; the pin is the last of them, 0 for none. Each is looked at once.
+fn fed_fits(
+    text: &[u8],
+    sums: &[u8],
+    r: usize,
+    waves: &[u8],
+    s: usize,
+    place: usize,
+    count: usize,
+    table: usize,
+) -> On
+    requires { ⌜ (r * rowSize + rowSize ≤ length (now sums)) × (length (now waves) ≡ tablesMost * tableSize) × (s < signalsMost) ⌝ }
+    ensures { λ o. ⌜ ((cs : List ℕ) → DataAt (now (text .entry)) place cs → length cs ≡ count → o .fits ≡ true → (o .pin ≡ lastOf cs 0) × ((tabs : Tables) → Marked (now (waves .entry)) tabs → FedFits tabs r s cs (tableOf table) (now (sums .entry)))) ⌝ }
+{
+    let mut seen = [0u8; BYTES];
+    let mut f = feeds::start(place);
+    let mut last = 0;
+    let mut i = 0;
+    while i < count {
+        let x = feeds::next(text, f);
+        last = x.char;
+        f = x.feed;
+        if seen[last as usize] == 0 {
+            if !fits_where(sums, r, GIVEN + s * SLOTS, waves, s, last, table) {
+                return On {
+                    fits: false,
+                    pin: last,
+                };
+            }
+            seen[last as usize] = 1;
+        }
+        i += 1;
+    }
+    On {
+        fits: true,
+        pin: last,
+    }
+}
+
+// The same, where the signal has one.
+fn signal_fits(
+    text: &[u8],
+    sums: &[u8],
+    r: usize,
+    waves: &[u8],
+    s: usize,
+    given: &[u8],
+    args: &[usize],
+    table: usize,
+) -> On
+    requires { ⌜ (r * rowSize + rowSize ≤ length (now sums)) × (length (now waves) ≡ tablesMost * tableSize) × (s < signalsMost) × (length (now given) ≡ signalsMost) × (length (now args) ≡ signalsMost * 2) ⌝ }
+    ensures { λ o. ⌜ ((xs : Args) → Supplied (now (text .entry)) xs (now (given .entry)) (now (args .entry)) → o .fits ≡ true → (o .pin ≡ lastOf (argOf s xs) 0) × ((tabs : Tables) → Marked (now (waves .entry)) tabs → FedFits tabs r s (argOf s xs) (tableOf table) (now (sums .entry)))) ⌝ }
+{
+    if given[s] == 0 {
+        return On { fits: true, pin: 0 };
+    }
+    fed_fits(
+        text,
+        sums,
+        r,
+        waves,
+        s,
+        args[sets::MOST + s],
+        args[s],
+        table,
+    )
+}
+
+// A signal with the character x before: its argument too, and what the row leaves on it.
+fn on_signal(
+    text: &[u8],
+    sums: &[u8],
+    r: usize,
+    waves: &[u8],
+    s: usize,
+    x: u8,
+    given: &[u8],
+    args: &[usize],
+    table: usize,
+) -> On
+    requires { ⌜ (r * rowSize + rowSize ≤ length (now sums)) × (length (now waves) ≡ tablesMost * tableSize) × (s < signalsMost) × (length (now given) ≡ signalsMost) × (length (now args) ≡ signalsMost * 2) ⌝ }
+    ensures { λ o. ⌜ (o .fits ≡ true → (xs : Args) → Supplied (now (text .entry)) xs (now (given .entry)) (now (args .entry)) → OnPin (now (waves .entry)) r s x (argOf s xs) (tableOf table) (now (sums .entry)) (o .pin)) ⌝ }
+{
+    if !fits_where(sums, r, s * SLOTS, waves, s, x, table) {
+        return On {
+            fits: false,
+            pin: x,
+        };
+    }
+    let o = signal_fits(text, sums, r, waves, s, given, args, table);
+    let u = byte(sums, r, PINS + s);
+    if u == 0 {
+        return On {
+            fits: o.fits,
+            pin: x,
+        };
+    }
+    if u == MARK {
+        return o;
+    }
+    On {
+        fits: o.fits,
+        pin: u,
+    }
+}
+
+// Is the table in force one that the row asks for?
+fn suits(sums: &[u8], r: usize, table: usize) -> bool
+    requires { ⌜ (r * rowSize + rowSize ≤ length (now sums)) ⌝ }
+    ensures { λ b. ⌜ (b ≡ true → Suits (sumAt (now (sums .entry)) r) (tableOf table)) ⌝ }
+{
+    if byte(sums, r, BAD) != 0 {
+        return false;
+    }
+    if byte(sums, r, NEEDS) == 0 {
+        return true;
+    }
+    if timing::TABLES <= table {
+        return false;
+    }
+    byte(sums, r, FINE + table) != 0
+}
+
+// Does the state grant all that the row asks: these pins, the table, these arguments? Then `left` are the pins that it leaves.
+pub fn asks(
+    text: &[u8],
+    sums: &[u8],
+    r: usize,
+    waves: &[u8],
+    signals: usize,
+    given: &[u8],
+    args: &[usize],
+    table: usize,
+    pins: &[u8],
+    left: &mut [u8],
+) -> bool
+    requires { ⌜ (r * rowSize + rowSize ≤ length (now sums)) × (length (now waves) ≡ tablesMost * tableSize) × (signals ≤ signalsMost) × (length (now given) ≡ signalsMost) × (length (now args) ≡ signalsMost * 2) × (signalsMost ≤ length (now pins)) × (length (now left) ≡ signalsMost) ⌝ }
+    ensures { λ b. ⌜ (length (now (left .exit)) ≡ signalsMost) × (b ≡ true → (tabs : Tables) (s : State) → Marked (now (waves .entry)) tabs → Holds (now (text .entry)) (now (pins .entry)) (now (given .entry)) (now (args .entry)) signals table s → Grants tabs signals (sumAt (now (sums .entry)) r) s (now (left .exit))) ⌝ }
+{
+    if !suits(sums, r, table) {
+        return false;
+    }
+    let mut s = 0;
+    while s < signals {
+        let o = on_signal(text, sums, r, waves, s, pins[s], given, args, table);
+        if !o.fits {
+            return false;
+        }
+        left[s] = o.pin;
+        s += 1;
+    }
+    true
+}
+
+// The table in force behind the row, where `table` was before.
+pub fn table_behind(sums: &[u8], r: usize, table: usize) -> usize
+    requires { ⌜ (r * rowSize + rowSize ≤ length (now sums)) ⌝ }
+    ensures { λ k. ⌜ tableOf k ≡ orTable (sumAt (now (sums .entry)) r .table) (tableOf table) ⌝ }
+{
+    let k = byte(sums, r, TABLE) as usize;
+    if k < timing::TABLES {
+        return k;
+    }
+    table
 }

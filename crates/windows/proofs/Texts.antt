@@ -21,7 +21,6 @@ use Rattle.meaning.specs.Document.{Read}
 use Rattle.meaning.proofs.Rows.{rows-are-cycles}
 use Rattle.meaning.proofs.Accepted.{Accepted, accepted, visits-bounded}
 use Rattle.held.specs.Held.{Listed}
-use Rattle.held.proofs.All.{all-found}
 use Rattle.held.proofs.Parts.{Parts as PartsOf, parts}
 use Rattle.held.proofs.Whole.{Whole, whole, listed-stand}
 use Rattle.walks.specs.Seen.{seen}
@@ -35,9 +34,8 @@ use Rattle.texts.proofs.Runs.{listFrom, list-cut, list-end}
 use Rattle.plays.specs.Plays.{Ground, ground, Arrays, arrays, Sized}
 use Rattle.plays.specs.Run.{ListedAt}
 use Rattle.plays.proofs.Fitting.{both}
-use Rattle.plays.proofs.Patterns.{Playing, patterns-fit}
 use Rattle.plays.proofs.Running.{opening-long}
-use Rattle.plays.proofs.Texts.{unplayed, listed-next as first-listed, run-begins as first-left}
+use Rattle.plays.proofs.Texts.{listed-at, opening-sized}
 use Rattle.rows.specs.declared.Walk.{Walk}
 use Rattle.rows.specs.Went.{over, Went}
 use Rattle.windows.specs.Run.{entry, WentListed, Accepts, SomeText, Windows}
@@ -112,19 +110,7 @@ module _ {text places lists tplaces waves book rows list : List ℕ} {known : Kn
 
       -- the next one
       pub listed-next : ListedAt all list patterns k env (d .patterns) (upcoming .decl)
-      listed-next =
-          let x = first-listed text places lists tplaces waves book rows list known signals listed patterns (h .runs)
-          (first-left text places lists tplaces waves book rows list known signals listed patterns (h .runs)) (omega arith) in
-          record {
-            holding = x .holding;
-            book = x .book;
-            counted = x .counted;
-            few = x .few;
-            found = upcoming .found;
-            stands = upcoming .stands;
-            fits = all-found (λ y. Playing (y .1 .body)) (d .patterns) (patterns-fit (toks text 0) d (h .runs .tabled .rest) (h .runs .tabled .parts))
-                (nameOf text list k .word) (upcoming .decl) (upcoming .found) .1;
-          }
+      listed-next = listed-at text places lists tplaces waves book rows list known signals listed patterns (h .runs) (upcoming .found) (upcoming .stands)
 
       module _ {y : Arrays} {w′ : Walk} {after : List ℕ} (r : WentListed all list patterns k y w w′ buffer after) where
         went-next : Went signals (play 0 (entry (upcoming .decl .body)) (start signals) .1) (visits 0 (entry (upcoming .decl .body)) (w .pass)) w w′ buffer after
@@ -165,7 +151,7 @@ module _ (text places lists tplaces waves book rows list : List ℕ) (known : Kn
   pub unseen : SomeText text places lists tplaces waves book rows list known signals listed patterns sized first due before → 10 * sized ≤ budget
       → Unseen 0 (arrays (replicate 640 0) (replicate 1_728 0) (replicate 128 0)) (outset budget first due) before
   unseen s enough = record {
-    arrays-sized = unplayed text places lists tplaces waves book rows list known signals listed patterns
-        (record { parts = s .parts; read = s .read; body = s .it .run; runs = s .accepts .runs }) .sized;
+    arrays-sized = opening-sized text places lists tplaces waves book rows list known signals listed patterns
+        (record { parts = s .parts; read = s .read; body = s .it .run; runs = s .accepts .runs });
     left = λ p d m h. run-begins h enough;
   }

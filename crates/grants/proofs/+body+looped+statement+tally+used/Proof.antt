@@ -35,7 +35,6 @@ use Rattle.grants.proofs.+body+looped+statement+tally+used.Lts-used as 
 use Rattle.grants.proofs.behind.Reads as behind-reads
 use Rattle.grants.proofs.shift.Reads as shift-reads
 use Rattle.grants.proofs.turns.Reads as turns-reads
-use Rattle.grants.proofs.usable.Reads as usable-reads
 use Rattle.grants.proofs.vector.Reads as vector-reads
 use Rattle.heads.proofs.head.Reads as head-reads
 use Rattle.measures.proofs.start_at.Reads as start-at-reads
@@ -45,6 +44,7 @@ use Rattle.tallies.proofs.choose.Reads as choose-reads
 use Rattle.tallies.proofs.clear.Reads as clear-reads
 use Rattle.tallies.proofs.in_place.Reads as in-place-reads
 use Rattle.tallies.proofs.spoil.Reads as spoil-reads
+use Rattle.tallies.proofs.usable.Reads as usable-reads
 use Rattle.words.proofs.cursor_at.Reads as cursor-at-reads
 use Rattle.grants.proofs.+body+looped+statement+tally+used.{statement}
 use Rattle.grants.proofs.+body+looped+statement+tally+used.Tie.{close}

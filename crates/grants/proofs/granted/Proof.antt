@@ -1,46 +1,25 @@
--- No listed pattern asks for anything that isn't there: then no cycle of the run fails.
+-- What each listed pattern uses is summed up; where none asks for anything that isn't there, no cycle of the run fails.
 use Prim.Native.Nat.{_-_}
-use mathlib.Core.Path.{sym}
-use borrow.Author.Tests.{not-false}
+use mathlib.Core.Path.{sym, _∙_}
 use borrow.Author.Needs.{needs}
-use Rattle.arguments.proofs.Lists.{differ}
-use Rattle.plays.proofs.Texts.{listed-next, run-sound}
-use Rattle.grants.proofs.Texts.{Ungranted, ungranted, granted-next}
+use Rattle.plays.proofs.Texts.{run-sound}
+use Rattle.grants.proofs.Texts.{Ungranted, ungranted, some-pattern, granted-next}
 use Rattle.grants.proofs.granted.Statement.{statement}
 use Rattle.grants.proofs.granted.Tie as tie
 
 abbrev Inv-loop : tie.InvT-loop
-Inv-loop text places lists tplaces book rows waves list known signals listed patterns marks₀ sums₀ k₀ marks sums k =
-    Ungranted text places lists tplaces waves book rows list known signals listed patterns k marks sums
+Inv-loop text places lists tplaces book rows waves list known signals listed patterns marks₀ sums₀ all₀ k₀ marks sums all k =
+    Ungranted text places lists tplaces waves book rows list known signals listed patterns k marks sums all
 
 abbrev μ-loop : tie.MeasureT-loop
-μ-loop text places lists tplaces book rows waves list known signals listed patterns marks₀ sums₀ k₀ marks sums k =
+μ-loop text places lists tplaces book rows waves list known signals listed patterns marks₀ sums₀ all₀ k₀ marks sums all k =
     listed - k
 
 loop-holds : tie.Need-loop-holds Inv-loop μ-loop
-loop-holds c = ungranted _ _ _ _ _ _ _ _ _ _ _ _ (c .before .before .before .before .before .before .before .before .pre)
-
-slice-aggregate-pattern : tie.Need-slice-aggregate-pattern Inv-loop μ-loop
-slice-aggregate-pattern c = search needs
-
-slice-aggregate-pattern-2 : tie.Need-slice-aggregate-pattern-2 Inv-loop μ-loop
-slice-aggregate-pattern-2 c = search needs
+loop-holds c = ungranted _ _ _ _ _ _ _ _ _ _ _ _ (c .before .before .before .before .before .before .before .before .before .before .pre .0) (c .before .before .before .before .before .before .before .before .before .before .pre .1)
 
 pattern-requires : tie.Need-pattern-requires Inv-loop μ-loop
-pattern-requires c κs =
-    let s = c .before .before .before .before .before .before .before .before .before .before .before .before .pre in
-    let u = c .before .before .before .loop .inv in
-    let l = u .left (s .parts) (s .read) (s .body) (s .runs) in
-    record {
-      env = s .runs .tabled .parts .env;
-      decls = s .read .patterns;
-      decl = _;
-      listed-at = listed-next _ _ _ _ _ _ _ _ _ _ _ _ (s .runs) (l .1) (c .before .before .loop-test .taken);
-      roomy = u .roomy;
-    }
-
-returns : tie.Need-returns Inv-loop μ-loop
-returns c = λ e. absurd (differ (sym e))
+pattern-requires c κs = some-pattern _ _ _ _ _ _ _ _ _ _ _ _ (c .before .before .before .before .before .before .before .before .before .before .before .before .before .before .pre .0) (c .before .before .before .loop .inv) (c .before .before .loop-test .taken)
 
 add-k : tie.Need-add-k Inv-loop μ-loop
 add-k c = search needs
@@ -49,13 +28,21 @@ loop-less : tie.Need-loop-less Inv-loop μ-loop
 loop-less c = search needs
 
 loop-again : tie.Need-loop-again Inv-loop μ-loop
-loop-again c = granted-next _ _ _ _ _ _ _ _ _ _ _ _ (c .before .before .before .before .before .before .before .loop .inv) (c .before .before .before .before .before .before .loop-test .taken) (c .before .before .before .pattern .ensures) (not-false _ (c .if1 .left))
+loop-again c = granted-next _ _ _ _ _ _ _ _ _ _ _ _ (c .before .before .before .before .before .before .before .before .loop .inv) (c .before .before .before .before .before .before .before .loop-test .taken) (c .before .before .before .before .pattern .ensures)
 
-returns-2 : tie.Need-returns-2 Inv-loop μ-loop
-returns-2 c =
-    let u = c .before .loop .inv in
-    let q = c .loop-test .left in
-    λ e p d run h. run-sound _ _ _ _ _ _ _ _ _ _ _ _ h (u .left p d run h .1) q
+same-length : tie.Need-same-length Inv-loop μ-loop
+same-length c = c .before .loop .inv .roomy .marks-long ∙ sym (c .before .before .before .before .before .before .before .before .before .before .before .before .pre .1 .marks-long)
+
+same-length-2 : tie.Need-same-length-2 Inv-loop μ-loop
+same-length-2 c = c .before .loop .inv .roomy .sums-long ∙ sym (c .before .before .before .before .before .before .before .before .before .before .before .before .pre .1 .sums-long)
+
+returns : tie.Need-returns Inv-loop μ-loop
+returns c =
+    let u = c .before .loop .inv in (
+      u .roomy .marks-long ∙ sym (c .before .before .before .before .before .before .before .before .before .before .before .before .pre .1 .marks-long),
+      u .roomy .sums-long ∙ sym (c .before .before .before .before .before .before .before .before .before .before .before .before .pre .1 .sums-long),
+      λ p d run h. (u .summed p d run h, λ e. run-sound _ _ _ _ _ _ _ _ _ _ _ _ h (u .left e p d run h) (c .loop-test .left)),
+    )
 
 pub granted-spec : {M : Type 1} → statement M
 granted-spec =
@@ -64,11 +51,10 @@ granted-spec =
     Inv-loop
     μ-loop
     loop-holds
-    slice-aggregate-pattern
-    slice-aggregate-pattern-2
     pattern-requires
-    returns
     add-k
     loop-less
     loop-again
-    returns-2)
+    same-length
+    same-length-2
+    returns)

@@ -2,7 +2,8 @@
 -- enters one; at each turn of a body's statements fewer tokens are left.
 use Prim.Native.Nat.{_+_, _*_}
 use native.Mathlib.Omega.{arith}
-use mathlib.Core.Path.{sym, _∙_}
+use mathlib.Core.Path.{refl, sym, _∙_}
+use mathlib.Core.Bool.{false}
 use borrow.Author.Needs.{needs}
 use borrow.Author.Tests.{eq-eqb}
 use Rattle.tokens.specs.Tokens.{left}
@@ -13,11 +14,11 @@ use Rattle.assigns.proofs.Table.{gave-zeros}
 use Rattle.plays.specs.Plays.{ground, arrays}
 use Rattle.plays.proofs.Fitting.{fits-some}
 use Rattle.plays.proofs.Heading.{begins-within}
-use Rattle.plays.proofs.Keeping.{kept-none, kept-then, kept-others, kept-args, kept-supplied, sized-kept, sized-at, shows-supplied}
-use Rattle.plays.proofs.Stepping.{ends-step, vector-step, assigns-step, chooses-step, in-loop, in-shift, called, loop-standing, loop-step, shift-standing, shift-step, called-using, called-step}
+use Rattle.plays.proofs.Keeping.{kept-none, kept-then, kept-others, kept-args, kept-passed, kept-used, sized-kept, sized-at, shows-untouched, shows-supplied}
+use Rattle.plays.proofs.Stepping.{steps-moves, ends-step, vector-step, assigns-step, chooses-step, in-loop, in-shift, called, loop-standing, loop-step, shift-standing, shift-step, inside-moves, called-moves, called-calling, called-using, called-step}
 use Rattle.plays.proofs.Turning.{turned-once, turned-twice, turned-standing, second-open, first-sound}
-use Rattle.plays.proofs.Going.{going, going-on, fewer, gone, Going}
-use Rattle.plays.proofs.Entering.{kind-macro, kind-procedure, kept-below, kept-returned, sized-left, macro-standing, procedure-standing, macro-told, procedure-told, part-within, part-begins}
+use Rattle.plays.proofs.Going.{going, going-on, gone, ended-then, resumed, resumed-standing, resumed-on, resumed-less, resumed-end, again-standing, Going}
+use Rattle.plays.proofs.Entering.{kind-macro, kind-procedure, kept-below, kept-returned, sized-left, macro-standing, procedure-standing, macro-told, procedure-told, entered-fed, part-within, part-begins}
 use Prim.Native.Nat.{ℕ, _<_}
 use borrow.Fn.Kinds.{In}
 use borrow.Fn.PlainCycle.{Measures, is, falls, and}
@@ -43,25 +44,26 @@ use Rattle.pins.proofs.leave.Reads as leave-reads
 use Rattle.pins.proofs.put.Reads as put-reads
 use Rattle.pins.proofs.supply.Reads as supply-reads
 use Rattle.pins.proofs.vectors.Reads as vectors-reads
+use Rattle.plays.proofs.pass.Reads as pass-reads
 use Rattle.plays.proofs.shift.Reads as shift-reads
 use Rattle.words.proofs.cursor_at.Reads as cursor-at-reads
 use Rattle.plays.proofs.+body_of+enter+statement+statements+turns.{statement}
 use Rattle.plays.proofs.+body_of+enter+statement+statements+turns.Tie.{close}
 
 abbrev μ-body-of : Measures 4 body-of-kinds.ps ℕ
-μ-body-of κs a = 5 * a .1 .1 .1 .1 .1 .1 .1 .1 .1 .1 .0 .depth + 3
+μ-body-of κs a = 5 * a .1 .1 .1 .1 .1 .1 .1 .1 .1 .1 .1 .1 .0 .depth + 3
 
 abbrev μ-enter : Measures 4 enter-kinds.ps ℕ
-μ-enter κs a = 5 * a .1 .1 .1 .1 .1 .1 .1 .1 .1 .0 .depth
+μ-enter κs a = 5 * a .1 .1 .1 .1 .1 .1 .1 .1 .1 .1 .1 .0 .depth
 
 abbrev μ-statement : Measures 4 statement-kinds.ps ℕ
-μ-statement κs a = 5 * a .1 .1 .1 .1 .1 .1 .1 .1 .1 .1 .0 .depth + 1
+μ-statement κs a = 5 * a .1 .1 .1 .1 .1 .1 .1 .1 .1 .1 .1 .1 .0 .depth + 1
 
 abbrev μ-statements : Measures 4 statements-kinds.ps ℕ
-μ-statements κs a = 5 * a .1 .1 .1 .1 .1 .1 .1 .1 .1 .1 .0 .depth + 2
+μ-statements κs a = 5 * a .1 .1 .1 .1 .1 .1 .1 .1 .1 .1 .1 .1 .0 .depth + 2
 
 abbrev μ-turns : Measures 4 turns-kinds.ps ℕ
-μ-turns κs a = 5 * a .1 .1 .1 .1 .1 .1 .1 .1 .1 .1 .0 .depth
+μ-turns κs a = 5 * a .1 .1 .1 .1 .1 .1 .1 .1 .1 .1 .1 .1 .0 .depth
 
 abbrev body-of-at : ℕ → In 4 body-of-kinds.ps
 body-of-at t = and 4 body-of-kinds.ps (is 4 body-of-kinds.ps μ-body-of t) body-of.Pre
@@ -103,14 +105,14 @@ abbrev enter-calls : ℕ → enter-lts.Claims
 enter-calls t = (start-at-reads.Asked, start-at-reads.Learnt, body-of-below t, body-of.Post, leave-reads.Asked, leave-reads.Learnt, come-back-reads.Asked, come-back-reads.Learnt)
 
 abbrev statement-calls : ℕ → statement-lts.Claims
-statement-calls t = (head-reads.Asked, head-reads.Learnt, vectors-reads.Asked, vectors-reads.Learnt, put-reads.Asked, put-reads.Learnt, turns-below t, turns.Post, shift-reads.Asked, shift-reads.Learnt, supply-reads.Asked, supply-reads.Learnt, enter-below t, enter.Post)
+statement-calls t = (head-reads.Asked, head-reads.Learnt, vectors-reads.Asked, vectors-reads.Learnt, put-reads.Asked, put-reads.Learnt, turns-below t, turns.Post, shift-reads.Asked, shift-reads.Learnt, pass-reads.Asked, pass-reads.Learnt, supply-reads.Asked, supply-reads.Learnt, enter-below t, enter.Post)
 
 abbrev turns-calls : ℕ → turns-lts.Claims
 turns-calls t = (statements-below t, statements.Post)
 
 body-of-sub-cursor-at : (t : ℕ) → body-of-lts.Need-sub-cursor-at (body-of-calls t) (body-of-at t) body-of.Post
 body-of-sub-cursor-at t c =
-    let pre′ = c .before .before .before .before .before .before .before .before .before .before .before .pre in
+    let pre′ = c .before .before .before .before .before .before .before .before .before .before .before .before .before .pre in
     omega (arith, pre′ .1 .0)
 
 body-of-cursor-at-requires : (t : ℕ) → body-of-lts.Need-cursor-at-requires (body-of-calls t) (body-of-at t) body-of.Post
@@ -118,7 +120,7 @@ body-of-cursor-at-requires t c κs = search needs
 
 body-of-statements-requires : (t : ℕ) → body-of-lts.Need-statements-requires (body-of-calls t) (body-of-at t) body-of.Post
 body-of-statements-requires t c κs =
-    let pre′ = c .before .before .before .before .before .before .before .before .before .before .before .before .before .before .before .pre in
+    let pre′ = c .before .before .before .before .before .before .before .before .before .before .before .before .before .before .before .before .before .pre in
     let cursor-at′ = c .before .before .before .cursor-at in
     (omega (arith, pre′ .0), (eq-eqb _ 0 (cursor-at′ .ensures .on), rw (cursor-at′ .ensures .there) (pre′ .1 .1)))
 
@@ -139,12 +141,12 @@ body-of-returns t c =
 
 enter-sub-body : (t : ℕ) → enter-lts.Need-sub-body (enter-calls t) (enter-at t) enter.Post
 enter-sub-body t c =
-    let pre′ = c .before .before .before .before .before .before .before .before .before .before .before .pre in
+    let pre′ = c .before .before .before .before .before .before .before .before .before .before .before .before .before .pre in
     omega (arith, pre′ .1 .use′ .some-more)
 
-enter-add-t23 : (t : ℕ) → enter-lts.Need-add-t23 (enter-calls t) (enter-at t) enter.Post
-enter-add-t23 t c =
-    let pre′ = c .before .before .before .before .before .before .before .before .before .before .before .before .pre in
+enter-add-t25 : (t : ℕ) → enter-lts.Need-add-t25 (enter-calls t) (enter-at t) enter.Post
+enter-add-t25 t c =
+    let pre′ = c .before .before .before .before .before .before .before .before .before .before .before .before .before .before .pre in
     omega (arith, pre′ .1 .use′ .fits .levels)
 
 enter-start-at-requires : (t : ℕ) → enter-lts.Need-start-at-requires (enter-calls t) (enter-at t) enter.Post
@@ -152,13 +154,13 @@ enter-start-at-requires t c κs = search needs
 
 enter-sub-body-2 : (t : ℕ) → enter-lts.Need-sub-body-2 (enter-calls t) (enter-at t) enter.Post
 enter-sub-body-2 t c =
-    let pre′ = c .before .before .before .before .before .before .before .before .before .before .before .before .before .pre in
+    let pre′ = c .before .before .before .before .before .before .before .before .before .before .before .before .before .before .before .pre in
     let u = pre′ .1 .use′ in
     omega (arith, c .start-at .ensures (omega (arith, u .declared)), begins-within _ _ _ _ _ (u .holds))
 
 enter-part-body-start : (t : ℕ) → enter-lts.Need-part-body-start (enter-calls t) (enter-at t) enter.Post
 enter-part-body-start t c =
-    let pre′ = c .before .before .before .before .before .before .before .before .before .before .before .before .before .pre in
+    let pre′ = c .before .before .before .before .before .before .before .before .before .before .before .before .before .before .before .pre in
     let u = pre′ .1 .use′ in
     omega (arith, c .start-at .ensures (omega (arith, u .declared)), begins-within _ _ _ _ _ (u .holds))
 
@@ -167,8 +169,8 @@ enter-part-body-end t c = search needs
 
 enter-body-of-requires : (t : ℕ) → enter-lts.Need-body-of-requires (enter-calls t) (enter-at t) enter.Post
 enter-body-of-requires t c κs =
-    let pre′ = c .before .before .before .before .before .before .before .before .before .before .before .before .before .before .before .before .before .before .pre in
-    let args′ = c .before .before .before .before .before .before .before .before .before .before .before .before .before .before .before .before .before .before .args in
+    let pre′ = c .before .before .before .before .before .before .before .before .before .before .before .before .before .before .before .before .before .before .before .before .pre in
+    let args′ = c .before .before .before .before .before .before .before .before .before .before .before .before .before .before .before .before .before .before .before .before .args in
     let start-at′ = c .before .before .before .before .before .start-at in
     let used = pre′ .1 in
     let u = used .use′ in
@@ -199,8 +201,8 @@ enter-same-length-3 t c = search needs
 
 enter-returns : (t : ℕ) → enter-lts.Need-returns (enter-calls t) (enter-at t) enter.Post
 enter-returns t c =
-    let pre′ = c .before .before .before .before .before .before .before .before .before .before .before .before .before .before .before .before .before .before .before .before .before .before .before .before .before .pre in
-    let args′ = c .before .before .before .before .before .before .before .before .before .before .before .before .before .before .before .before .before .before .before .before .before .before .before .before .before .args in
+    let pre′ = c .before .before .before .before .before .before .before .before .before .before .before .before .before .before .before .before .before .before .before .before .before .before .before .before .before .before .before .pre in
+    let args′ = c .before .before .before .before .before .before .before .before .before .before .before .before .before .before .before .before .before .before .before .before .before .before .before .before .before .before .before .args in
     let start-at′ = c .before .before .before .before .before .before .before .before .before .before .before .before .start-at in
     let if1′ = c .before .before .before .before .before .before .before .before .before .before .if1 in
     let body-of′ = c .before .before .before .before .before .before .body-of in
@@ -209,19 +211,20 @@ enter-returns t c =
     let p = rw (part-begins (args′ .text .now) (start-at′ .result) _ at (begins-within _ _ _ _ _ (u .holds))) at (body-of′ .ensures) in
     record {
       kept = kept-below (p .kept);
-      told = λ E b us a s v. macro-told v _ _ (kind-macro _ (if1′ .taken)) (p .kept) (p .plays E b us _ (macro-standing v));
+      own = λ s h. p .kept .arguments _ s h (omega arith);
+      told = λ E b us a s v m. macro-told v _ _ (kind-macro _ (if1′ .taken)) (p .kept) (p .plays E b us _ (macro-standing v) m);
     }
 
 enter-leave-requires : (t : ℕ) → enter-lts.Need-leave-requires (enter-calls t) (enter-at t) enter.Post
 enter-leave-requires t c κs =
-    let pre′ = c .before .before .before .before .before .before .before .before .before .before .before .before .before .before .before .before .pre in
+    let pre′ = c .before .before .before .before .before .before .before .before .before .before .before .before .before .before .before .before .before .before .pre in
     let used = pre′ .1 in
     (used .sized .roomy .values-long, omega (arith, used .use′ .fits .levels))
 
 enter-body-of-requires-2 : (t : ℕ) → enter-lts.Need-body-of-requires-2 (enter-calls t) (enter-at t) enter.Post
 enter-body-of-requires-2 t c κs =
-    let pre′ = c .before .before .before .before .before .before .before .before .before .before .before .before .before .before .before .before .before .before .before .before .before .before .pre in
-    let args′ = c .before .before .before .before .before .before .before .before .before .before .before .before .before .before .before .before .before .before .before .before .before .before .args in
+    let pre′ = c .before .before .before .before .before .before .before .before .before .before .before .before .before .before .before .before .before .before .before .before .before .before .before .before .pre in
+    let args′ = c .before .before .before .before .before .before .before .before .before .before .before .before .before .before .before .before .before .before .before .before .before .before .before .before .args in
     let start-at′ = c .before .before .before .before .before .before .before .before .before .start-at in
     let leave′ = c .before .before .before .before .before .leave in
     let used = pre′ .1 in
@@ -244,7 +247,7 @@ enter-body-of-requires-2 t c κs =
 
 enter-come-back-requires : (t : ℕ) → enter-lts.Need-come-back-requires (enter-calls t) (enter-at t) enter.Post
 enter-come-back-requires t c κs =
-    let pre′ = c .before .before .before .before .before .before .before .before .before .before .before .before .before .before .before .before .before .before .before .before .before .before .before .before .before .before .before .before .before .before .pre in
+    let pre′ = c .before .before .before .before .before .before .before .before .before .before .before .before .before .before .before .before .before .before .before .before .before .before .before .before .before .before .before .before .before .before .before .before .pre in
     let leave′ = c .before .before .before .before .before .before .before .before .before .before .before .before .before .leave in
     let body-of2′ = c .before .before .before .before .before .before .before .body-of2 in
     let used = pre′ .1 in
@@ -261,8 +264,8 @@ enter-same-length-6 t c = search needs
 
 enter-returns-2 : (t : ℕ) → enter-lts.Need-returns-2 (enter-calls t) (enter-at t) enter.Post
 enter-returns-2 t c =
-    let pre′ = c .before .before .before .before .before .before .before .before .before .before .before .before .before .before .before .before .before .before .before .before .before .before .before .before .before .before .before .before .before .before .before .before .before .before .pre in
-    let args′ = c .before .before .before .before .before .before .before .before .before .before .before .before .before .before .before .before .before .before .before .before .before .before .before .before .before .before .before .before .before .before .before .before .before .before .args in
+    let pre′ = c .before .before .before .before .before .before .before .before .before .before .before .before .before .before .before .before .before .before .before .before .before .before .before .before .before .before .before .before .before .before .before .before .before .before .before .before .pre in
+    let args′ = c .before .before .before .before .before .before .before .before .before .before .before .before .before .before .before .before .before .before .before .before .before .before .before .before .before .before .before .before .before .before .before .before .before .before .before .before .args in
     let start-at′ = c .before .before .before .before .before .before .before .before .before .before .before .before .before .before .before .before .before .before .before .before .before .start-at in
     let if1′ = c .before .before .before .before .before .before .before .before .before .before .before .before .before .before .before .before .before .before .before .if1 in
     let leave′ = c .before .before .before .before .before .before .before .before .before .before .before .before .before .before .before .before .before .leave in
@@ -275,8 +278,9 @@ enter-returns-2 t c =
     let p = rw (part-begins (args′ .text .now) (start-at′ .result) _ at (begins-within _ _ _ _ _ (u .holds))) at (body-of2′ .ensures) in
     record {
       kept = kept-returned _ l (p .kept) (come-back′ .ensures);
-      told = λ E b us a s v.
-          procedure-told v _ _ (kind-procedure _ (if1′ .left)) sized l (p .kept) (come-back′ .ensures) (p .plays E b us _ (procedure-standing v sized l));
+      own = λ s h. p .kept .arguments _ s h (omega arith);
+      told = λ E b us a s v m.
+          procedure-told v _ _ (kind-procedure _ (if1′ .left)) sized l (p .kept) (come-back′ .ensures) (p .plays E b us _ (procedure-standing v sized l) m);
     }
 
 statement-slice-aggregate-head : (t : ℕ) → statement-lts.Need-slice-aggregate-head (statement-calls t) (statement-at t) statement′.Post
@@ -284,7 +288,7 @@ statement-slice-aggregate-head t c = search needs
 
 statement-head-requires : (t : ℕ) → statement-lts.Need-head-requires (statement-calls t) (statement-at t) statement′.Post
 statement-head-requires t c κs =
-    let pre′ = c .before .before .before .before .before .before .before .before .before .before .before .before .pre in
+    let pre′ = c .before .before .before .before .before .before .before .before .before .before .before .before .before .before .pre in
     let stood = pre′ .1 .1 in
     (record { env = stood .env; describes = stood .standing .holding .describes }, (omega arith), gave-zeros, stood .sized .args-long)
 
@@ -299,7 +303,7 @@ statement-slice-aggregate-vectors t c = search needs
 
 statement-vectors-requires : (t : ℕ) → statement-lts.Need-vectors-requires (statement-calls t) (statement-at t) statement′.Post
 statement-vectors-requires t c κs =
-    let pre′ = c .before .before .before .before .before .before .before .before .before .before .before .before .before .before .before .before .before .before .before .before .before .before .before .pre in
+    let pre′ = c .before .before .before .before .before .before .before .before .before .before .before .before .before .before .before .before .before .before .before .before .before .before .before .before .before .pre in
     let head′ = c .before .before .before .before .before .before .before .before .before .before .head in
     let sized = pre′ .1 .1 .sized in
     (sized .roomy, head′ .ensures .0, sized .waves-long)
@@ -312,7 +316,7 @@ statement-slice-aggregate-put t c = search needs
 
 statement-put-requires : (t : ℕ) → statement-lts.Need-put-requires (statement-calls t) (statement-at t) statement′.Post
 statement-put-requires t c κs =
-    let pre′ = c .before .before .before .before .before .before .before .before .before .before .before .before .before .before .before .before .before .before .before .before .before .before .pre in
+    let pre′ = c .before .before .before .before .before .before .before .before .before .before .before .before .before .before .before .before .before .before .before .before .before .before .before .before .pre in
     let head′ = c .before .before .before .before .before .before .before .before .before .head in
     (pre′ .1 .1 .sized .roomy, head′ .ensures .0)
 
@@ -324,7 +328,7 @@ statement-enum-known-what-3 t c = c .match .keys5
 
 statement-turns-requires : (t : ℕ) → statement-lts.Need-turns-requires (statement-calls t) (statement-at t) statement′.Post
 statement-turns-requires t c κs =
-    let pre′ = c .before .before .before .before .before .before .before .before .before .before .before .before .before .before .before .before .before .before .before .before .before .before .before .pre in
+    let pre′ = c .before .before .before .before .before .before .before .before .before .before .before .before .before .before .before .before .before .before .before .before .before .before .before .before .before .pre in
     let head′ = c .before .before .before .before .before .before .before .before .before .before .head in
     let what3′ = c .before .before .before .before .what3 in
     let stood = pre′ .1 .1 in
@@ -351,7 +355,7 @@ statement-enum-told-3 t c = c .match .keys6
 
 statement-shift-requires : (t : ℕ) → statement-lts.Need-shift-requires (statement-calls t) (statement-at t) statement′.Post
 statement-shift-requires t c κs =
-    let pre′ = c .before .before .before .before .before .before .before .before .before .before .before .before .before .before .before .before .before .before .before .before .before .before .pre in
+    let pre′ = c .before .before .before .before .before .before .before .before .before .before .before .before .before .before .before .before .before .before .before .before .before .before .before .before .pre in
     let head′ = c .before .before .before .before .before .before .before .before .before .head in
     let enum-told3′ = c .before .before .before .enum-told3 in
     let stood = pre′ .1 .1 in
@@ -371,19 +375,59 @@ statement-shift-requires t c κs =
 statement-enum-known-what-4 : (t : ℕ) → statement-lts.Need-enum-known-what-4 (statement-calls t) (statement-at t) statement′.Post
 statement-enum-known-what-4 t c = c .match .keys7
 
+statement-slice-aggregate-pass : (t : ℕ) → statement-lts.Need-slice-aggregate-pass (statement-calls t) (statement-at t) statement′.Post
+statement-slice-aggregate-pass t c = search needs
+
+statement-pass-requires : (t : ℕ) → statement-lts.Need-pass-requires (statement-calls t) (statement-at t) statement′.Post
+statement-pass-requires t c κs =
+    let pre′ = c .before .before .before .before .before .before .before .before .before .before .before .before .before .before .before .before .before .before .before .before .before .before .before .before .before .pre in
+    let head′ = c .before .before .before .before .before .before .before .before .before .before .head in
+    let what4′ = c .before .before .before .before .what4 in
+    let stood = pre′ .1 .1 in
+    let st = stood .standing in
+    let d = called st (pre′ .1 .0) _ _ _ (head′ .ensures .2 (stood .env) (st .holding .describes)) _ _ (what4′ .given .1) in
+    (stood .sized .waves-long, stood .sized .roomy .few, d .declared, head′ .ensures .0, head′ .ensures .1, stood .sized .roomy .values-long)
+
+statement-same-length : (t : ℕ) → statement-lts.Need-same-length (statement-calls t) (statement-at t) statement′.Post
+statement-same-length t c = search needs
+
+statement-same-length-2 : (t : ℕ) → statement-lts.Need-same-length-2 (statement-calls t) (statement-at t) statement′.Post
+statement-same-length-2 t c = search needs
+
+statement-returns : (t : ℕ) → statement-lts.Need-returns (statement-calls t) (statement-at t) statement′.Post
+statement-returns t c =
+    let pre′ = c .before .before .before .before .before .before .before .before .before .before .before .before .before .before .before .before .before .before .before .before .before .before .before .before .before .before .before .before .before .pre in
+    let args′ = c .before .before .before .before .before .before .before .before .before .before .before .before .before .before .before .before .before .before .before .before .before .before .before .before .before .before .before .before .before .args in
+    let head′ = c .before .before .before .before .before .before .before .before .before .before .before .before .before .before .head in
+    let what4′ = c .before .before .before .before .before .before .before .before .what4 in
+    let pass′ = c .before .before .before .pass in
+    let if1′ = c .if1 in
+    let h = head′ .ensures in
+    let q = pass′ .ensures (args′ .places .now) (args′ .lists .now) (args′ .tplaces .now) (args′ .book .now) (args′ .rows .now) (args′ .known) in
+    record {
+      kept = kept-passed (pre′ .1 .1 .sized) (h .1) (q .long) (q .rows);
+      moves = λ E b us s st. (
+          let d = called st (pre′ .1 .0) _ _ _ (h .2 E (st .holding .describes)) _ _ (what4′ .given .1) in
+          called-moves d (st .shows .args-are));
+      steps = λ E b us s st m. (
+          let d = called st (pre′ .1 .0) _ _ _ (h .2 E (st .holding .describes)) _ _ (what4′ .given .1) in
+          called-step st d (record { cursor = head′ .result .cursor; failed = false; place = 0; table = pass′ .result .table; ends = false }) _ _
+          (q .told (if1′ .taken) E (d .body) (d .after) (d .arguments) s _ _ _ 0 (called-calling (st .holding) d m) (st .shows)));
+    }
+
 statement-slice-aggregate-supply : (t : ℕ) → statement-lts.Need-slice-aggregate-supply (statement-calls t) (statement-at t) statement′.Post
 statement-slice-aggregate-supply t c = search needs
 
 statement-add-supply : (t : ℕ) → statement-lts.Need-add-supply (statement-calls t) (statement-at t) statement′.Post
 statement-add-supply t c =
-    let pre′ = c .before .before .before .before .before .before .before .before .before .before .before .before .before .before .before .before .before .before .before .before .before .before .before .before .pre in
+    let pre′ = c .before .before .before .before .before .before .before .before .before .before .before .before .before .before .before .before .before .before .before .before .before .before .before .before .before .before .before .before .before .before .before .before .before .pre in
     omega (arith, pre′ .1 .1 .sized .roomy .inside-levels)
 
 statement-supply-requires : (t : ℕ) → statement-lts.Need-supply-requires (statement-calls t) (statement-at t) statement′.Post
 statement-supply-requires t c κs =
-    let pre′ = c .before .before .before .before .before .before .before .before .before .before .before .before .before .before .before .before .before .before .before .before .before .before .before .before .pre in
-    let head′ = c .before .before .before .before .before .before .before .before .before .before .before .head in
-    let what4′ = c .before .before .before .before .before .what4 in
+    let pre′ = c .before .before .before .before .before .before .before .before .before .before .before .before .before .before .before .before .before .before .before .before .before .before .before .before .before .before .before .before .before .before .before .before .before .pre in
+    let head′ = c .before .before .before .before .before .before .before .before .before .before .before .before .before .before .before .before .before .before .head in
+    let what4′ = c .before .before .before .before .before .before .before .before .before .before .before .before .what4 in
     let stood = pre′ .1 .1 in
     let st = stood .standing in
     let d = called st (pre′ .1 .0) _ _ _ (head′ .ensures .2 (stood .env) (st .holding .describes)) _ _ (what4′ .given .1) in
@@ -391,14 +435,18 @@ statement-supply-requires t c κs =
 
 statement-enter-requires : (t : ℕ) → statement-lts.Need-enter-requires (statement-calls t) (statement-at t) statement′.Post
 statement-enter-requires t c κs =
-    let pre′ = c .before .before .before .before .before .before .before .before .before .before .before .before .before .before .before .before .before .before .before .before .before .before .before .before .before .before .before .before .before .before .pre in
-    let head′ = c .before .before .before .before .before .before .before .before .before .before .before .before .before .before .before .before .before .head in
-    let what4′ = c .before .before .before .before .before .before .before .before .before .before .before .what4 in
+    let pre′ = c .before .before .before .before .before .before .before .before .before .before .before .before .before .before .before .before .before .before .before .before .before .before .before .before .before .before .before .before .before .before .before .before .before .before .before .before .before .before .before .pre in
+    let head′ = c .before .before .before .before .before .before .before .before .before .before .before .before .before .before .before .before .before .before .before .before .before .before .before .before .head in
+    let what4′ = c .before .before .before .before .before .before .before .before .before .before .before .before .before .before .before .before .before .before .what4 in
+    let args′ = c .before .before .before .before .before .before .before .before .before .before .before .before .before .before .before .before .before .before .before .before .before .before .before .before .before .before .before .before .before .before .before .before .before .before .before .before .before .before .before .args in
+    let pass′ = c .before .before .before .before .before .before .before .before .before .before .before .before .before .pass in
+    let if1′ = c .before .before .before .before .before .before .before .before .before .before .if1 in
     let supply′ = c .before .before .before .before .before .supply in
     let stood = pre′ .1 .1 in
     let st = stood .standing in
     let d = called st (pre′ .1 .0) _ _ _ (head′ .ensures .2 (stood .env) (st .holding .describes)) _ _ (what4′ .given .1) in
-    let f = supply′ .ensures in (
+    let f = supply′ .ensures in
+    let q = pass′ .ensures (args′ .places .now) (args′ .lists .now) (args′ .tplaces .now) (args′ .book .now) (args′ .rows .now) (args′ .known) in (
       omega (arith, pre′ .0),
       record {
         env = stood .env;
@@ -406,45 +454,27 @@ statement-enter-requires t c κs =
         rest = d .after;
         arguments = d .arguments;
         state = stood .state;
-        use′ = called-using st d (shows-supplied (st .shows) (f .1)) (f .2 _ _ (d .supplied));
-        sized = sized-kept (stood .sized) (kept-supplied (stood .sized) (head′ .ensures .1) (f .0) (f .1));
+        use′ = called-using st d (shows-supplied (shows-untouched (st .shows) (q .untouched (if1′ .left))) (f .1)) (f .2 _ _ (d .supplied));
+        sized = sized-kept (stood .sized) (kept-used (stood .sized) (head′ .ensures .1) (q .long) (q .rows) (f .0) (f .1));
       },
     )
-
-statement-same-length : (t : ℕ) → statement-lts.Need-same-length (statement-calls t) (statement-at t) statement′.Post
-statement-same-length t c = search needs
-
-statement-returns : (t : ℕ) → statement-lts.Need-returns (statement-calls t) (statement-at t) statement′.Post
-statement-returns t c =
-    let pre′ = c .before .before .before .before .before .before .before .before .before .before .before .before .before .before .before .before .before .before .before .pre in
-    let head′ = c .before .before .before .before .before .before .head in
-    let h = head′ .ensures in
-    record {
-      kept = kept-args (pre′ .1 .1 .sized) (h .1);
-      steps = λ E b us s st. ends-step st (pre′ .1 .0) _ _ _ (h .2 E (st .holding .describes)) (c .enum-told .given .1) (st .shows);
-    }
-
-statement-same-length-2 : (t : ℕ) → statement-lts.Need-same-length-2 (statement-calls t) (statement-at t) statement′.Post
-statement-same-length-2 t c = search needs
 
 statement-same-length-3 : (t : ℕ) → statement-lts.Need-same-length-3 (statement-calls t) (statement-at t) statement′.Post
 statement-same-length-3 t c = search needs
 
-statement-same-length-4 : (t : ℕ) → statement-lts.Need-same-length-4 (statement-calls t) (statement-at t) statement′.Post
-statement-same-length-4 t c = search needs
-
 statement-returns-2 : (t : ℕ) → statement-lts.Need-returns-2 (statement-calls t) (statement-at t) statement′.Post
 statement-returns-2 t c =
-    let pre′ = c .before .before .before .before .before .before .before .before .before .before .before .before .before .before .before .before .before .before .before .before .before .before .before .before .before .before .before .before .pre in
-    let head′ = c .before .before .before .before .before .before .before .before .before .before .before .before .before .before .before .head in
-    let what′ = c .before .before .before .before .before .before .before .before .before .what in
-    let vectors′ = c .before .before .before .before .vectors in
+    let pre′ = c .before .before .before .before .before .before .before .before .before .before .before .before .before .before .before .before .before .before .before .before .before .pre in
+    let head′ = c .before .before .before .before .before .before .head in
     let h = head′ .ensures in
-    let v = vectors′ .ensures in
     record {
-      kept = kept-others (pre′ .1 .1 .sized) (v .0) (h .1);
-      steps = λ E b us s st. vector-step st (pre′ .1 .0) _ _ _ (h .2 E (st .holding .describes)) _ (what′ .given .1) (v .1);
+      kept = kept-args (pre′ .1 .1 .sized) (h .1);
+      moves = λ E b us s st. steps-moves {k = 0} {t = 0} (ends-step st (pre′ .1 .0) _ _ _ (h .2 E (st .holding .describes)) (c .enum-told .given .1) (st .shows));
+      steps = λ E b us s st m. ends-step st (pre′ .1 .0) _ _ _ (h .2 E (st .holding .describes)) (c .enum-told .given .1) (st .shows);
     }
+
+statement-same-length-4 : (t : ℕ) → statement-lts.Need-same-length-4 (statement-calls t) (statement-at t) statement′.Post
+statement-same-length-4 t c = search needs
 
 statement-same-length-5 : (t : ℕ) → statement-lts.Need-same-length-5 (statement-calls t) (statement-at t) statement′.Post
 statement-same-length-5 t c = search needs
@@ -452,12 +482,32 @@ statement-same-length-5 t c = search needs
 statement-same-length-6 : (t : ℕ) → statement-lts.Need-same-length-6 (statement-calls t) (statement-at t) statement′.Post
 statement-same-length-6 t c = search needs
 
+statement-returns-3 : (t : ℕ) → statement-lts.Need-returns-3 (statement-calls t) (statement-at t) statement′.Post
+statement-returns-3 t c =
+    let pre′ = c .before .before .before .before .before .before .before .before .before .before .before .before .before .before .before .before .before .before .before .before .before .before .before .before .before .before .before .before .before .before .pre in
+    let head′ = c .before .before .before .before .before .before .before .before .before .before .before .before .before .before .before .head in
+    let what′ = c .before .before .before .before .before .before .before .before .before .what in
+    let vectors′ = c .before .before .before .before .vectors in
+    let h = head′ .ensures in
+    let v = vectors′ .ensures in
+    record {
+      kept = kept-others (pre′ .1 .1 .sized) (v .0) (h .1);
+      moves = λ E b us s st. steps-moves {k = 0} {t = 0} (vector-step st (pre′ .1 .0) _ _ _ (h .2 E (st .holding .describes)) _ (what′ .given .1) (v .1));
+      steps = λ E b us s st m. vector-step st (pre′ .1 .0) _ _ _ (h .2 E (st .holding .describes)) _ (what′ .given .1) (v .1);
+    }
+
 statement-same-length-7 : (t : ℕ) → statement-lts.Need-same-length-7 (statement-calls t) (statement-at t) statement′.Post
 statement-same-length-7 t c = search needs
 
-statement-returns-3 : (t : ℕ) → statement-lts.Need-returns-3 (statement-calls t) (statement-at t) statement′.Post
-statement-returns-3 t c =
-    let pre′ = c .before .before .before .before .before .before .before .before .before .before .before .before .before .before .before .before .before .before .before .before .before .before .before .before .before .before .before .pre in
+statement-same-length-8 : (t : ℕ) → statement-lts.Need-same-length-8 (statement-calls t) (statement-at t) statement′.Post
+statement-same-length-8 t c = search needs
+
+statement-same-length-9 : (t : ℕ) → statement-lts.Need-same-length-9 (statement-calls t) (statement-at t) statement′.Post
+statement-same-length-9 t c = search needs
+
+statement-returns-4 : (t : ℕ) → statement-lts.Need-returns-4 (statement-calls t) (statement-at t) statement′.Post
+statement-returns-4 t c =
+    let pre′ = c .before .before .before .before .before .before .before .before .before .before .before .before .before .before .before .before .before .before .before .before .before .before .before .before .before .before .before .before .before .pre in
     let head′ = c .before .before .before .before .before .before .before .before .before .before .before .before .before .before .head in
     let enum-told2′ = c .before .before .before .before .before .before .before .before .enum-told2 in
     let put′ = c .before .before .before .before .put in
@@ -465,46 +515,27 @@ statement-returns-3 t c =
     let v = put′ .ensures in
     record {
       kept = kept-others (pre′ .1 .1 .sized) (v .0) (h .1);
-      steps = λ E b us s st. assigns-step st (pre′ .1 .0) _ _ _ (h .2 E (st .holding .describes)) (enum-told2′ .given .1) (v .1);
+      moves = λ E b us s st. steps-moves {k = 0} {t = 0} (assigns-step st (pre′ .1 .0) _ _ _ (h .2 E (st .holding .describes)) (enum-told2′ .given .1) (v .1));
+      steps = λ E b us s st m. assigns-step st (pre′ .1 .0) _ _ _ (h .2 E (st .holding .describes)) (enum-told2′ .given .1) (v .1);
     }
 
-statement-same-length-8 : (t : ℕ) → statement-lts.Need-same-length-8 (statement-calls t) (statement-at t) statement′.Post
-statement-same-length-8 t c = search needs
+statement-same-length-10 : (t : ℕ) → statement-lts.Need-same-length-10 (statement-calls t) (statement-at t) statement′.Post
+statement-same-length-10 t c = search needs
 
-statement-returns-4 : (t : ℕ) → statement-lts.Need-returns-4 (statement-calls t) (statement-at t) statement′.Post
-statement-returns-4 t c =
-    let pre′ = c .before .before .before .before .before .before .before .before .before .before .before .before .before .before .before .before .before .before .before .before .pre in
+statement-returns-5 : (t : ℕ) → statement-lts.Need-returns-5 (statement-calls t) (statement-at t) statement′.Post
+statement-returns-5 t c =
+    let pre′ = c .before .before .before .before .before .before .before .before .before .before .before .before .before .before .before .before .before .before .before .before .before .before .pre in
     let head′ = c .before .before .before .before .before .before .before .head in
     let what2′ = c .before .what2 in
     let h = head′ .ensures in
     record {
       kept = kept-args (pre′ .1 .1 .sized) (h .1);
-      steps = λ E b us s st. chooses-step st (pre′ .1 .0) _ _ _ (h .2 E (st .holding .describes)) _ (what2′ .given .1) (st .shows);
+      moves = λ E b us s st. steps-moves {k = 0} {t = 0} (chooses-step st (pre′ .1 .0) _ _ _ (h .2 E (st .holding .describes)) _ (what2′ .given .1) (st .shows));
+      steps = λ E b us s st m. chooses-step st (pre′ .1 .0) _ _ _ (h .2 E (st .holding .describes)) _ (what2′ .given .1) (st .shows);
     }
-
-statement-same-length-9 : (t : ℕ) → statement-lts.Need-same-length-9 (statement-calls t) (statement-at t) statement′.Post
-statement-same-length-9 t c = search needs
-
-statement-same-length-10 : (t : ℕ) → statement-lts.Need-same-length-10 (statement-calls t) (statement-at t) statement′.Post
-statement-same-length-10 t c = search needs
 
 statement-same-length-11 : (t : ℕ) → statement-lts.Need-same-length-11 (statement-calls t) (statement-at t) statement′.Post
 statement-same-length-11 t c = search needs
-
-statement-returns-5 : (t : ℕ) → statement-lts.Need-returns-5 (statement-calls t) (statement-at t) statement′.Post
-statement-returns-5 t c =
-    let pre′ = c .before .before .before .before .before .before .before .before .before .before .before .before .before .before .before .before .before .before .before .before .before .before .before .before .before .before .before .before .before .before .before .pre in
-    let head′ = c .before .before .before .before .before .before .before .before .before .before .before .before .before .before .before .before .before .before .head in
-    let what3′ = c .before .before .before .before .before .before .before .before .before .before .before .before .what3 in
-    let turns′ = c .before .before .before .before .before .before .before .turns in
-    let h = head′ .ensures in
-    let v = turns′ .ensures in
-    record {
-      kept = kept-then (kept-args (pre′ .1 .1 .sized) (h .1)) (v .kept);
-      steps = λ E b us s st. (
-          let i = in-loop st (pre′ .1 .0) _ _ _ (h .2 E (st .holding .describes)) _ (what3′ .given .1) in
-          loop-step st (i .1) _ _ (v .plays E (i .1 .body) (i .1 .between) s (loop-standing st (i .1) (st .shows))));
-    }
 
 statement-same-length-12 : (t : ℕ) → statement-lts.Need-same-length-12 (statement-calls t) (statement-at t) statement′.Post
 statement-same-length-12 t c = search needs
@@ -512,23 +543,26 @@ statement-same-length-12 t c = search needs
 statement-same-length-13 : (t : ℕ) → statement-lts.Need-same-length-13 (statement-calls t) (statement-at t) statement′.Post
 statement-same-length-13 t c = search needs
 
-statement-same-length-14 : (t : ℕ) → statement-lts.Need-same-length-14 (statement-calls t) (statement-at t) statement′.Post
-statement-same-length-14 t c = search needs
-
 statement-returns-6 : (t : ℕ) → statement-lts.Need-returns-6 (statement-calls t) (statement-at t) statement′.Post
 statement-returns-6 t c =
-    let pre′ = c .before .before .before .before .before .before .before .before .before .before .before .before .before .before .before .before .before .before .before .before .before .before .before .before .before .before .before .before .before .pre in
-    let head′ = c .before .before .before .before .before .before .before .before .before .before .before .before .before .before .before .before .head in
-    let enum-told3′ = c .before .before .before .before .before .before .before .before .before .before .enum-told3 in
-    let shift′ = c .before .before .before .before .before .before .shift in
+    let pre′ = c .before .before .before .before .before .before .before .before .before .before .before .before .before .before .before .before .before .before .before .before .before .before .before .before .before .before .before .before .before .before .before .before .before .pre in
+    let head′ = c .before .before .before .before .before .before .before .before .before .before .before .before .before .before .before .before .before .before .head in
+    let what3′ = c .before .before .before .before .before .before .before .before .before .before .before .before .what3 in
+    let turns′ = c .before .before .before .before .before .before .before .turns in
     let h = head′ .ensures in
-    let v = shift′ .ensures in
+    let v = turns′ .ensures in
     record {
       kept = kept-then (kept-args (pre′ .1 .1 .sized) (h .1)) (v .kept);
-      steps = λ E b us s st. (
-          let i = in-shift st (pre′ .1 .0) _ _ _ (h .2 E (st .holding .describes)) (enum-told3′ .given .1) in
-          shift-step st i _ _ (v .goes-on) (v .plays E _ _ (i .between) s (shift-standing st i (st .shows))));
+      moves = λ E b us s st. (
+          let i = in-loop st (pre′ .1 .0) _ _ _ (h .2 E (st .holding .describes)) _ (what3′ .given .1) in
+          inside-moves (i .1) refl (v .ended E (i .1 .body) (i .1 .between) s (loop-standing st (i .1) (st .shows))));
+      steps = λ E b us s st m. (
+          let i = in-loop st (pre′ .1 .0) _ _ _ (h .2 E (st .holding .describes)) _ (what3′ .given .1) in
+          loop-step st (i .1) _ _ (v .plays E (i .1 .body) (i .1 .between) s (loop-standing st (i .1) (st .shows)) m));
     }
+
+statement-same-length-14 : (t : ℕ) → statement-lts.Need-same-length-14 (statement-calls t) (statement-at t) statement′.Post
+statement-same-length-14 t c = search needs
 
 statement-same-length-15 : (t : ℕ) → statement-lts.Need-same-length-15 (statement-calls t) (statement-at t) statement′.Post
 statement-same-length-15 t c = search needs
@@ -536,59 +570,100 @@ statement-same-length-15 t c = search needs
 statement-same-length-16 : (t : ℕ) → statement-lts.Need-same-length-16 (statement-calls t) (statement-at t) statement′.Post
 statement-same-length-16 t c = search needs
 
+statement-returns-7 : (t : ℕ) → statement-lts.Need-returns-7 (statement-calls t) (statement-at t) statement′.Post
+statement-returns-7 t c =
+    let pre′ = c .before .before .before .before .before .before .before .before .before .before .before .before .before .before .before .before .before .before .before .before .before .before .before .before .before .before .before .before .before .before .before .pre in
+    let head′ = c .before .before .before .before .before .before .before .before .before .before .before .before .before .before .before .before .head in
+    let enum-told3′ = c .before .before .before .before .before .before .before .before .before .before .enum-told3 in
+    let shift′ = c .before .before .before .before .before .before .shift in
+    let h = head′ .ensures in
+    let v = shift′ .ensures in
+    record {
+      kept = kept-then (kept-args (pre′ .1 .1 .sized) (h .1)) (v .kept);
+      moves = λ E b us s st. (
+          let i = in-shift st (pre′ .1 .0) _ _ _ (h .2 E (st .holding .describes)) (enum-told3′ .given .1) in
+          steps-moves (shift-step st i _ _ (v .goes-on) (v .plays E _ _ (i .between) s (shift-standing st i (st .shows)))));
+      steps = λ E b us s st m. (
+          let i = in-shift st (pre′ .1 .0) _ _ _ (h .2 E (st .holding .describes)) (enum-told3′ .given .1) in
+          shift-step st i _ _ (v .goes-on) (v .plays E _ _ (i .between) s (shift-standing st i (st .shows))));
+    }
+
 statement-same-length-17 : (t : ℕ) → statement-lts.Need-same-length-17 (statement-calls t) (statement-at t) statement′.Post
-statement-same-length-17 t c =
-    let pre′ = c .before .before .before .before .before .before .before .before .before .before .before .before .before .before .before .before .before .before .before .before .before .before .before .before .before .before .before .before .before .before .before .before .before .before .before .before .before .pre in
-    let head′ = c .before .before .before .before .before .before .before .before .before .before .before .before .before .before .before .before .before .before .before .before .before .before .before .before .head in
+statement-same-length-17 t c = search needs
+
+statement-same-length-18 : (t : ℕ) → statement-lts.Need-same-length-18 (statement-calls t) (statement-at t) statement′.Post
+statement-same-length-18 t c = search needs
+
+statement-same-length-19 : (t : ℕ) → statement-lts.Need-same-length-19 (statement-calls t) (statement-at t) statement′.Post
+statement-same-length-19 t c =
+    let pre′ = c .before .before .before .before .before .before .before .before .before .before .before .before .before .before .before .before .before .before .before .before .before .before .before .before .before .before .before .before .before .before .before .before .before .before .before .before .before .before .before .before .before .before .before .before .before .before .pre in
+    let head′ = c .before .before .before .before .before .before .before .before .before .before .before .before .before .before .before .before .before .before .before .before .before .before .before .before .before .before .before .before .before .before .before .head in
     let enter′ = c .before .before .before .before .before .before .enter in
     enter′ .ensures .kept .args-long ∙ head′ .ensures .1 ∙ sym (pre′ .1 .1 .sized .args-long)
 
-statement-returns-7 : (t : ℕ) → statement-lts.Need-returns-7 (statement-calls t) (statement-at t) statement′.Post
-statement-returns-7 t c =
-    let pre′ = c .before .before .before .before .before .before .before .before .before .before .before .before .before .before .before .before .before .before .before .before .before .before .before .before .before .before .before .before .before .before .before .before .before .before .before .before .before .pre in
-    let head′ = c .before .before .before .before .before .before .before .before .before .before .before .before .before .before .before .before .before .before .before .before .before .before .before .before .head in
-    let what4′ = c .before .before .before .before .before .before .before .before .before .before .before .before .before .before .before .before .before .before .what4 in
+statement-returns-8 : (t : ℕ) → statement-lts.Need-returns-8 (statement-calls t) (statement-at t) statement′.Post
+statement-returns-8 t c =
+    let pre′ = c .before .before .before .before .before .before .before .before .before .before .before .before .before .before .before .before .before .before .before .before .before .before .before .before .before .before .before .before .before .before .before .before .before .before .before .before .before .before .before .before .before .before .before .before .before .before .pre in
+    let args′ = c .before .before .before .before .before .before .before .before .before .before .before .before .before .before .before .before .before .before .before .before .before .before .before .before .before .before .before .before .before .before .before .before .before .before .before .before .before .before .before .before .before .before .before .before .before .before .args in
+    let head′ = c .before .before .before .before .before .before .before .before .before .before .before .before .before .before .before .before .before .before .before .before .before .before .before .before .before .before .before .before .before .before .before .head in
+    let what4′ = c .before .before .before .before .before .before .before .before .before .before .before .before .before .before .before .before .before .before .before .before .before .before .before .before .before .what4 in
+    let pass′ = c .before .before .before .before .before .before .before .before .before .before .before .before .before .before .before .before .before .before .before .before .pass in
+    let if1′ = c .before .before .before .before .before .before .before .before .before .before .before .before .before .before .before .before .before .if1 in
     let supply′ = c .before .before .before .before .before .before .before .before .before .before .before .before .supply in
     let enter′ = c .before .before .before .before .before .before .enter in
     let h = head′ .ensures in
+    let q = pass′ .ensures (args′ .places .now) (args′ .lists .now) (args′ .tplaces .now) (args′ .book .now) (args′ .rows .now) (args′ .known) in
     let f = supply′ .ensures in
     let v = enter′ .ensures in
     record {
-      kept = kept-then (kept-supplied (pre′ .1 .1 .sized) (h .1) (f .0) (f .1)) (v .kept);
-      steps = λ E b us s st. (
+      kept = kept-then (kept-used (pre′ .1 .1 .sized) (h .1) (q .long) (q .rows) (f .0) (f .1)) (v .kept);
+      moves = λ E b us s st. (
+          let d = called st (pre′ .1 .0) _ _ _ (h .2 E (st .holding .describes)) _ _ (what4′ .given .1) in
+          called-moves d (entered-fed v (called-using st d (shows-supplied (shows-untouched (st .shows) (q .untouched (if1′ .left))) (f .1)) (f .2 _ _ (d .supplied)))));
+      steps = λ E b us s st m. (
           let d = called st (pre′ .1 .0) _ _ _ (h .2 E (st .holding .describes)) _ _ (what4′ .given .1) in
           called-step st d (enter′ .result) _ _
-          (v .told E (d .body) (d .after) (d .arguments) s (called-using st d (shows-supplied (st .shows) (f .1)) (f .2 _ _ (d .supplied)))));
+          (v .told E (d .body) (d .after) (d .arguments) s (called-using st d (shows-supplied (shows-untouched (st .shows) (q .untouched (if1′ .left))) (f .1)) (f .2 _ _ (d .supplied))) m));
     }
 
 abbrev statements-Inv-loop : statements-lts.InvT-loop
-statements-Inv-loop text places lists tplaces book rows waves known signals frame table values₀ feeds₀ args₀ cursor₀ chosen₀ values feeds args cursor chosen =
-    Going (ground text places lists tplaces book rows waves known signals) (frame .depth) (frame .level) (frame .seconds) (frame .turns) cursor₀ chosen₀
+statements-Inv-loop text places lists tplaces book rows waves marks sums known signals frame table values₀ feeds₀ args₀ cursor₀ chosen₀ values feeds args cursor chosen =
+    Going (ground text places lists tplaces book rows waves known signals) marks sums (frame .depth) (frame .level) (frame .seconds) (frame .turns) cursor₀ chosen₀
     (arrays values₀ feeds₀ args₀) cursor chosen (arrays values feeds args)
 
 abbrev statements-μ-loop : statements-lts.MeasureT-loop
-statements-μ-loop text places lists tplaces book rows waves known signals frame table values₀ feeds₀ args₀ cursor₀ chosen₀ values feeds args cursor chosen = left (stream text cursor)
+statements-μ-loop text places lists tplaces book rows waves marks sums known signals frame table values₀ feeds₀ args₀ cursor₀ chosen₀ values feeds args cursor chosen = left (stream text cursor)
 
 statements-loop-holds : (t : ℕ) → statements-lts.Need-loop-holds (
   statement-below t,
   statement′.Post,
 ) (statements-at t) statements.Post statements-Inv-loop statements-μ-loop
 statements-loop-holds t c =
-    let pre′ = c .before .before .before .before .before .before .before .before .before .before .pre in
-    record { kept = kept-none; onward = λ E b us s st. going (pre′ .1 .0) st }
+    let pre′ = c .before .before .before .before .before .before .before .before .before .before .before .before .pre in
+    record { kept = kept-none; resumes = λ E b us s st. resumed (pre′ .1 .0) st; onward = λ E b us s st m. going (pre′ .1 .0) st }
 
 statements-statement-requires : (t : ℕ) → statements-lts.Need-statement-requires (
   statement-below t,
   statement′.Post,
 ) (statements-at t) statements.Post statements-Inv-loop statements-μ-loop
 statements-statement-requires t c κs =
-    let pre′ = c .before .before .before .before .before .before .before .before .before .before .before .before .before .before .pre in
+    let pre′ = c .before .before .before .before .before .before .before .before .before .before .before .before .before .before .before .before .pre in
     let loop′ = c .before .before .before .loop in
     let stood = pre′ .1 .1 in
     let inv = loop′ .inv in
-    let o = inv .onward (stood .env) (stood .body) (stood .rest) (stood .state) (stood .standing) in (
+    let o = inv .resumes (stood .env) (stood .body) (stood .rest) (stood .state) (stood .standing) in (
       omega (arith, pre′ .0),
-      (o .on, record { env = stood .env; body = o .rest; rest = stood .rest; state = o .state; standing = o .standing; sized = sized-kept (stood .sized) (inv .kept) }),
+      (
+        o .on,
+        record {
+          env = stood .env;
+          body = o .rest;
+          rest = stood .rest;
+          state = _;
+          standing = resumed-standing o _ (stood .standing .holding);
+          sized = sized-kept (stood .sized) (inv .kept);
+        },
+      ),
     )
 
 statements-same-length : (t : ℕ) → statements-lts.Need-same-length (
@@ -624,7 +699,9 @@ statements-returns t c =
     let step = statement′ .ensures in
     record {
       kept = kept-then (inv .kept) (step .kept);
-      plays = λ E b us s st. (let o = inv .onward E b us s st in gone o (step .steps E (o .rest) us (o .state) (o .standing)) (c .if1 .taken));
+      ended = λ E b us s st e. (
+          let o = inv .resumes E b us s st in resumed-end o (step .moves E (o .rest) us _ (resumed-standing o _ (st .holding))) (c .if1 .taken) e);
+      plays = λ E b us s st m. (let o = inv .onward E b us s st m in gone o (step .steps E (o .rest) us (o .state) (o .standing) m) (c .if1 .taken));
     }
 
 statements-loop-less : (t : ℕ) → statements-lts.Need-loop-less (
@@ -632,13 +709,13 @@ statements-loop-less : (t : ℕ) → statements-lts.Need-loop-less (
   statement′.Post,
 ) (statements-at t) statements.Post statements-Inv-loop statements-μ-loop
 statements-loop-less t c =
-    let pre′ = c .before .before .before .before .before .before .before .before .before .before .before .before .before .before .before .before .before .before .before .before .before .before .before .before .pre in
+    let pre′ = c .before .before .before .before .before .before .before .before .before .before .before .before .before .before .before .before .before .before .before .before .before .before .before .before .before .before .pre in
     let loop′ = c .before .before .before .before .before .before .before .before .before .before .before .before .before .loop in
     let statement′ = c .before .before .before .before .before .before .before .before .before .statement in
     let if1′ = c .before .if1 in
     let stood = pre′ .1 .1 in
-    let o = loop′ .inv .onward (stood .env) (stood .body) (stood .rest) (stood .state) (stood .standing) in
-    fewer o (statement′ .ensures .steps (stood .env) (o .rest) (stood .rest) (o .state) (o .standing)) (if1′ .left)
+    let o = loop′ .inv .resumes (stood .env) (stood .body) (stood .rest) (stood .state) (stood .standing) in
+    resumed-less o (statement′ .ensures .moves (stood .env) (o .rest) (stood .rest) _ (resumed-standing o _ (stood .standing .holding))) (if1′ .left)
 
 statements-loop-again : (t : ℕ) → statements-lts.Need-loop-again (
   statement-below t,
@@ -652,18 +729,20 @@ statements-loop-again t c =
     let step = statement′ .ensures in
     record {
       kept = kept-then (inv .kept) (step .kept);
-      onward = λ E b us s st. (let o = inv .onward E b us s st in going-on o (step .steps E (o .rest) us (o .state) (o .standing)) (if1′ .left));
+      resumes = λ E b us s st. (
+          let o = inv .resumes E b us s st in resumed-on o (step .moves E (o .rest) us _ (resumed-standing o _ (st .holding))) (if1′ .left));
+      onward = λ E b us s st m. (let o = inv .onward E b us s st m in going-on o (step .steps E (o .rest) us (o .state) (o .standing) m) (if1′ .left));
     }
 
-turns-sub-t20 :
-    (t : ℕ) → turns-lts.Need-sub-t20 (statements-below t, statements.Post) (turns-at t) turns.Post
-turns-sub-t20 t c =
-    let pre′ = c .before .before .before .before .before .before .before .before .before .before .before .pre in
+turns-sub-t22 :
+    (t : ℕ) → turns-lts.Need-sub-t22 (statements-below t, statements.Post) (turns-at t) turns.Post
+turns-sub-t22 t c =
+    let pre′ = c .before .before .before .before .before .before .before .before .before .before .before .before .before .pre in
     omega (arith, pre′ .1 .2)
 
 turns-statements-requires : (t : ℕ) → turns-lts.Need-statements-requires (turns-calls t) (turns-at t) turns.Post
 turns-statements-requires t c κs =
-    let pre′ = c .before .before .before .before .before .before .before .before .before .before .before .before .before .before .pre in
+    let pre′ = c .before .before .before .before .before .before .before .before .before .before .before .before .before .before .before .before .pre in
     (omega (arith, pre′ .0, pre′ .1 .2), (pre′ .1 .0, pre′ .1 .3))
 
 turns-same-length :
@@ -684,30 +763,34 @@ turns-same-length-3 t c = search needs
 turns-returns :
     (t : ℕ) → turns-lts.Need-returns (statements-below t, statements.Post) (turns-at t) turns.Post
 turns-returns t c =
-    let pre′ = c .before .before .before .before .before .before .before .before .before .before .before .before .before .before .before .before .before .before .before .before .before .before .before .before .pre in
+    let pre′ = c .before .before .before .before .before .before .before .before .before .before .before .before .before .before .before .before .before .before .before .before .before .before .before .before .before .before .pre in
     let statements′ = c .before .before .before .before .before .before .before .before .before .statements in
     let a = statements′ .ensures in
-    record { kept = a .kept; plays = λ E b us s st. turned-once _ _ (λ j. playFew j _ b) (pre′ .1 .1) (a .plays E b us s st) (c .if1 .taken) }
+    record {
+      kept = a .kept;
+      ended = a .ended;
+      plays = λ E b us s st m. turned-once _ _ (λ j. playFew j _ b) (pre′ .1 .1) (a .plays E b us s st m) (c .if1 .taken);
+    }
 
-turns-sub-t20-2 :
+turns-sub-t22-2 :
     (t : ℕ) →
-    turns-lts.Need-sub-t20-2 (statements-below t, statements.Post) (turns-at t) turns.Post
-turns-sub-t20-2 t c =
-    let args′ = c .before .before .before .before .before .before .before .before .before .before .before .before .before .before .before .before .before .before .before .before .before .before .before .before .before .args in
+    turns-lts.Need-sub-t22-2 (statements-below t, statements.Post) (turns-at t) turns.Post
+turns-sub-t22-2 t c =
+    let args′ = c .before .before .before .before .before .before .before .before .before .before .before .before .before .before .before .before .before .before .before .before .before .before .before .before .before .before .before .args in
     let statements′ = c .before .before .before .before .before .before .before .before .before .before .statements in
     let if1′ = c .before .if1 in
     omega (arith, second-open (args′ .n) (args′ .frame .seconds) (statements′ .result .failed) (if1′ .left))
 
-turns-sub-t31 :
-    (t : ℕ) → turns-lts.Need-sub-t31 (statements-below t, statements.Post) (turns-at t) turns.Post
-turns-sub-t31 t c =
-    let pre′ = c .before .before .before .before .before .before .before .before .before .before .before .before .before .before .before .before .before .before .before .before .before .before .before .before .before .before .pre in
+turns-sub-t33 :
+    (t : ℕ) → turns-lts.Need-sub-t33 (statements-below t, statements.Post) (turns-at t) turns.Post
+turns-sub-t33 t c =
+    let pre′ = c .before .before .before .before .before .before .before .before .before .before .before .before .before .before .before .before .before .before .before .before .before .before .before .before .before .before .before .before .pre in
     omega (arith, pre′ .1 .2)
 
 turns-statements-requires-2 : (t : ℕ) → turns-lts.Need-statements-requires-2 (turns-calls t) (turns-at t) turns.Post
 turns-statements-requires-2 t c κs =
-    let pre′ = c .before .before .before .before .before .before .before .before .before .before .before .before .before .before .before .before .before .before .before .before .before .before .before .before .before .before .before .before .before .pre in
-    let args′ = c .before .before .before .before .before .before .before .before .before .before .before .before .before .before .before .before .before .before .before .before .before .before .before .before .before .before .before .before .before .args in
+    let pre′ = c .before .before .before .before .before .before .before .before .before .before .before .before .before .before .before .before .before .before .before .before .before .before .before .before .before .before .before .before .before .before .before .pre in
+    let args′ = c .before .before .before .before .before .before .before .before .before .before .before .before .before .before .before .before .before .before .before .before .before .before .before .before .before .before .before .before .before .before .before .args in
     let statements′ = c .before .before .before .before .before .before .before .before .before .before .before .before .before .before .statements in
     let if1′ = c .before .before .before .before .before .if1 in
     let a = statements′ .ensures in
@@ -720,8 +803,8 @@ turns-statements-requires-2 t c κs =
           env = stood .env;
           body = stood .body;
           rest = stood .rest;
-          state = playFew _ _ (stood .body) (stood .state) .0;
-          standing = turned-standing _ _ (stood .standing) (a .plays (stood .env) (stood .body) (stood .rest) (stood .state) (stood .standing)) sound;
+          state = _;
+          standing = again-standing _ (stood .standing) (a .ended (stood .env) (stood .body) (stood .rest) (stood .state) (stood .standing) sound);
           sized = sized-kept (stood .sized) (a .kept);
         },
       ),
@@ -755,7 +838,7 @@ turns-returns-2 :
     (t : ℕ) →
     turns-lts.Need-returns-2 (statements-below t, statements.Post) (turns-at t) turns.Post
 turns-returns-2 t c =
-    let args′ = c .before .before .before .before .before .before .before .before .before .before .before .before .before .before .before .before .before .before .before .before .before .before .before .before .before .before .before .before .before .before .before .before .before .before .before .before .args in
+    let args′ = c .before .before .before .before .before .before .before .before .before .before .before .before .before .before .before .before .before .before .before .before .before .before .before .before .before .before .before .before .before .before .before .before .before .before .before .before .before .before .args in
     let statements′ = c .before .before .before .before .before .before .before .before .before .before .before .before .before .before .before .before .before .before .before .before .before .statements in
     let if1′ = c .before .before .before .before .before .before .before .before .before .before .before .before .if1 in
     let statements2′ = c .before .before .before .before .before .before .statements2 in
@@ -764,9 +847,10 @@ turns-returns-2 t c =
     let sound = first-sound (args′ .n) (args′ .frame .seconds) (statements′ .result .failed) (if1′ .left) in
     record {
       kept = kept-then (a .kept) (z .kept);
-      plays = λ E b us s st. (
-          let p = a .plays E b us s st in
-          turned-twice _ _ (λ j. playFew j _ b) p (if1′ .left) (z .plays E b us _ (turned-standing _ _ st p sound)));
+      ended = λ E b us s st e. (let n = a .ended E b us s st sound in ended-then (n .fed .same) (z .ended E b us _ (again-standing _ st n) e));
+      plays = λ E b us s st m. (
+          let p = a .plays E b us s st m in
+          turned-twice _ _ (λ j. playFew j _ b) p (if1′ .left) (z .plays E b us _ (turned-standing _ _ st p sound) m));
     }
 
 pub +body-of+enter+statement+statements+turns-spec : {M : Type 1} → statement M
@@ -785,7 +869,7 @@ pub +body-of+enter+statement+statements+turns-spec : {M : Type 1} → statement 
     (enter-at t)
     enter.Post
     (enter-sub-body t)
-    (enter-add-t23 t)
+    (enter-add-t25 t)
     (enter-start-at-requires t)
     (enter-sub-body-2 t)
     (enter-part-body-start t)
@@ -820,34 +904,39 @@ pub +body-of+enter+statement+statements+turns-spec : {M : Type 1} → statement 
     (statement-enum-told-3 t)
     (statement-shift-requires t)
     (statement-enum-known-what-4 t)
+    (statement-slice-aggregate-pass t)
+    (statement-pass-requires t)
+    (statement-same-length t)
+    (statement-same-length-2 t)
+    (statement-returns t)
     (statement-slice-aggregate-supply t)
     (statement-add-supply t)
     (statement-supply-requires t)
     (statement-enter-requires t)
-    (statement-same-length t)
-    (statement-returns t)
-    (statement-same-length-2 t)
     (statement-same-length-3 t)
-    (statement-same-length-4 t)
     (statement-returns-2 t)
+    (statement-same-length-4 t)
     (statement-same-length-5 t)
     (statement-same-length-6 t)
-    (statement-same-length-7 t)
     (statement-returns-3 t)
+    (statement-same-length-7 t)
     (statement-same-length-8 t)
-    (statement-returns-4 t)
     (statement-same-length-9 t)
+    (statement-returns-4 t)
     (statement-same-length-10 t)
-    (statement-same-length-11 t)
     (statement-returns-5 t)
+    (statement-same-length-11 t)
     (statement-same-length-12 t)
     (statement-same-length-13 t)
-    (statement-same-length-14 t)
     (statement-returns-6 t)
+    (statement-same-length-14 t)
     (statement-same-length-15 t)
     (statement-same-length-16 t)
+    (statement-returns-7 t)
     (statement-same-length-17 t)
-    (statement-returns-7 t))
+    (statement-same-length-18 t)
+    (statement-same-length-19 t)
+    (statement-returns-8 t))
     (λ t. statements-lts.spec
     (statement-below t, statement′.Post)
     (statements-at t)
@@ -866,14 +955,14 @@ pub +body-of+enter+statement+statements+turns-spec : {M : Type 1} → statement 
     (statements-below t, statements.Post)
     (turns-at t)
     turns.Post
-    (turns-sub-t20 t)
+    (turns-sub-t22 t)
     (turns-statements-requires t)
     (turns-same-length t)
     (turns-same-length-2 t)
     (turns-same-length-3 t)
     (turns-returns t)
-    (turns-sub-t20-2 t)
-    (turns-sub-t31 t)
+    (turns-sub-t22-2 t)
+    (turns-sub-t33 t)
     (turns-statements-requires-2 t)
     (turns-same-length-4 t)
     (turns-same-length-5 t)

@@ -36,8 +36,8 @@ find-requires c κs = search needs
 
 add-start-at : tie.Need-add-start-at
 add-start-at c =
-    let pre′ = c .before .before .before .before .before .before .before .before .before .before .before .before .before .before .pre in
-    let args′ = c .before .before .before .before .before .before .before .before .before .before .before .before .before .before .args in
+    let pre′ = c .before .before .before .before .before .before .before .before .before .before .before .before .before .before .before .before .pre in
+    let args′ = c .before .before .before .before .before .before .before .before .before .before .before .before .before .before .before .before .args in
     let name-bytes′ = c .before .name-bytes in
     let n = pre′ .listed-at in
     omega (arith, found-at n (c .find .result) (rest (args′ .book .now) (firstPattern * 2)) (name-bytes′ .ensures) (c .find .ensures) .0, n .few)
@@ -47,8 +47,8 @@ start-at-requires c κs = search needs
 
 sub-body : tie.Need-sub-body
 sub-body c =
-    let pre′ = c .before .before .before .before .before .before .before .before .before .before .before .before .before .before .before .pre in
-    let args′ = c .before .before .before .before .before .before .before .before .before .before .before .before .before .before .before .args in
+    let pre′ = c .before .before .before .before .before .before .before .before .before .before .before .before .before .before .before .before .before .pre in
+    let args′ = c .before .before .before .before .before .before .before .before .before .before .before .before .before .before .before .before .before .args in
     let name-bytes′ = c .before .before .name-bytes in
     let find′ = c .before .find in
     let n = pre′ .listed-at in
@@ -57,8 +57,8 @@ sub-body c =
 
 part-body-start : tie.Need-part-body-start
 part-body-start c =
-    let pre′ = c .before .before .before .before .before .before .before .before .before .before .before .before .before .before .before .pre in
-    let args′ = c .before .before .before .before .before .before .before .before .before .before .before .before .before .before .before .args in
+    let pre′ = c .before .before .before .before .before .before .before .before .before .before .before .before .before .before .before .before .before .pre in
+    let args′ = c .before .before .before .before .before .before .before .before .before .before .before .before .before .before .before .before .before .args in
     let name-bytes′ = c .before .before .name-bytes in
     let find′ = c .before .find in
     let n = pre′ .listed-at in
@@ -73,8 +73,8 @@ leave-requires c κs = search needs
 
 body-of-requires : tie.Need-body-of-requires
 body-of-requires c κs =
-    let pre′ = c .before .before .before .before .before .before .before .before .before .before .before .before .before .before .before .before .before .before .before .before .before .before .before .pre in
-    let args′ = c .before .before .before .before .before .before .before .before .before .before .before .before .before .before .before .before .before .before .before .before .before .before .before .args in
+    let pre′ = c .before .before .before .before .before .before .before .before .before .before .before .before .before .before .before .before .before .before .before .before .before .before .before .before .before .pre in
+    let args′ = c .before .before .before .before .before .before .before .before .before .before .before .before .before .before .before .before .before .before .before .before .before .before .before .before .before .args in
     let name-bytes′ = c .before .before .before .before .before .before .before .before .before .before .name-bytes in
     let find′ = c .before .before .before .before .before .before .before .before .before .find in
     let start-at′ = c .before .before .before .before .before .before .before .before .start-at in
@@ -106,8 +106,8 @@ same-length-3 c = search needs
 
 returns : tie.Need-returns
 returns c =
-    let pre′ = c .before .before .before .before .before .before .before .before .before .before .before .before .before .before .before .before .before .before .before .before .before .before .before .before .before .before .before .before .before .before .pre in
-    let args′ = c .before .before .before .before .before .before .before .before .before .before .before .before .before .before .before .before .before .before .before .before .before .before .before .before .before .before .before .before .before .before .args in
+    let pre′ = c .before .before .before .before .before .before .before .before .before .before .before .before .before .before .before .before .before .before .before .before .before .before .before .before .before .before .before .before .before .before .before .before .pre in
+    let args′ = c .before .before .before .before .before .before .before .before .before .before .before .before .before .before .before .before .before .before .before .before .before .before .before .before .before .before .before .before .before .before .before .before .args in
     let name-bytes′ = c .before .before .before .before .before .before .before .before .before .before .before .before .before .before .before .before .before .name-bytes in
     let find′ = c .before .before .before .before .before .before .before .before .before .before .before .before .before .before .before .before .find in
     let start-at′ = c .before .before .before .before .before .before .before .before .before .before .before .before .before .before .before .start-at in
@@ -121,12 +121,12 @@ returns c =
     let b = rw (part-begins (args′ .text .now) (start-at′ .result) _ at (pattern-within n (find′ .result) (x .2))) at (body-of′ .ensures) in
     record {
       sized = sized-kept (sized-left (pre′ .sized) l) (b .kept);
-      fails = λ E ps d m s h. (
+      fails = λ E ps d m u s h. (
           let e = found-at m (find′ .result) (rest (args′ .book .now) (firstPattern * 2)) (name-bytes′ .ensures) (find′ .ensures) .2 in
-          listed-fails m s (b .plays E (d .body) (m .stands .0) _ (pattern-standing m (find′ .result) e (pre′ .sized) l s h)));
-      sound = λ E ps d m s h. (
+          listed-fails m s (b .plays E (d .body) (m .stands .0) _ (pattern-standing m (find′ .result) e (pre′ .sized) l s h) u));
+      sound = λ E ps d m u s h. (
           let e = found-at m (find′ .result) (rest (args′ .book .now) (firstPattern * 2)) (name-bytes′ .ensures) (find′ .ensures) .2 in
-          listed-sound m s (b .plays E (d .body) (m .stands .0) _ (pattern-standing m (find′ .result) e (pre′ .sized) l s h)));
+          listed-sound m s (b .plays E (d .body) (m .stands .0) _ (pattern-standing m (find′ .result) e (pre′ .sized) l s h) u));
     }
 
 pub pattern-spec : {M : Type 1} → statement M

@@ -14,6 +14,7 @@ use Rattle.assigns.proofs.Table.{gave-zeros}
 use Rattle.plays.specs.Plays.{ground, arrays}
 use Rattle.plays.proofs.Fitting.{fits-some}
 use Rattle.plays.proofs.Heading.{begins-within}
+use Rattle.plays.proofs.Summing.{summed-empty}
 use Rattle.plays.proofs.Keeping.{kept-none, kept-then, kept-others, kept-args, kept-supplied, sized-kept, sized-at, shows-supplied}
 use Rattle.plays.proofs.Stepping.{in-loop, in-shift, called, one-vector, loop-standing, shift-standing, called-using}
 use Rattle.plays.proofs.Entering.{kind-macro, kind-procedure, kept-below, kept-returned, sized-left, macro-standing, procedure-standing, part-within, part-begins}
@@ -266,12 +267,18 @@ enter-returns t c =
       tells = λ E b us a s u. into-tells u (measure-at′ .ensures) within (v .tells E b us a s (used-into u (measure-at′ .ensures) within));
     }
 
+enter-slice-aggregate-enter : (t : ℕ) → enter-lts.Need-slice-aggregate-enter (enter-calls t) (enter-at t) enter.Post
+enter-slice-aggregate-enter t c = search needs
+
+enter-slice-aggregate-enter-2 : (t : ℕ) → enter-lts.Need-slice-aggregate-enter-2 (enter-calls t) (enter-at t) enter.Post
+enter-slice-aggregate-enter-2 t c = search needs
+
 enter-once-requires : (t : ℕ) → enter-lts.Need-once-requires (enter-calls t) (enter-at t) enter.Post
 enter-once-requires t c κs = search needs
 
 enter-enter-requires : (t : ℕ) → enter-lts.Need-enter-requires (enter-calls t) (enter-at t) enter.Post
 enter-enter-requires t c κs =
-    let pre′ = c .before .before .before .before .before .before .before .before .before .before .before .before .before .before .before .before .before .before .before .before .before .before .pre in
+    let pre′ = c .before .before .before .before .before .before .before .before .before .before .before .before .before .before .before .before .before .before .before .before .before .before .before .before .pre in
     let once′ = c .before .before .before .once in
     let stood = pre′ .1 in
     rw (once′ .ensures) (record {
@@ -286,7 +293,7 @@ enter-enter-requires t c κs =
 
 enter-past-requires : (t : ℕ) → enter-lts.Need-past-requires (enter-calls t) (enter-at t) enter.Post
 enter-past-requires t c κs =
-    let if1′ = c .before .before .before .before .before .before .before .before .before .before .before .before .if1 in
+    let if1′ = c .before .before .before .before .before .before .before .before .before .before .before .before .before .before .if1 in
     omega (arith, if1′ .left)
 
 enter-same-length-5 : (t : ℕ) → enter-lts.Need-same-length-5 (enter-calls t) (enter-at t) enter.Post
@@ -300,10 +307,10 @@ enter-same-length-7 t c = search needs
 
 enter-returns-2 : (t : ℕ) → enter-lts.Need-returns-2 (enter-calls t) (enter-at t) enter.Post
 enter-returns-2 t c =
-    let pre′ = c .before .before .before .before .before .before .before .before .before .before .before .before .before .before .before .before .before .before .before .before .before .before .before .before .before .before .before .before .before .before .before .pre in
-    let measure-at′ = c .before .before .before .before .before .before .before .before .before .before .before .before .before .before .before .before .before .before .before .measure-at in
-    let spend′ = c .before .before .before .before .before .before .before .before .before .before .before .before .before .before .before .before .before .spend in
-    let if1′ = c .before .before .before .before .before .before .before .before .before .before .before .before .before .if1 in
+    let pre′ = c .before .before .before .before .before .before .before .before .before .before .before .before .before .before .before .before .before .before .before .before .before .before .before .before .before .before .before .before .before .before .before .before .before .pre in
+    let measure-at′ = c .before .before .before .before .before .before .before .before .before .before .before .before .before .before .before .before .before .before .before .before .before .measure-at in
+    let spend′ = c .before .before .before .before .before .before .before .before .before .before .before .before .before .before .before .before .before .before .before .spend in
+    let if1′ = c .before .before .before .before .before .before .before .before .before .before .before .before .before .before .before .if1 in
     let once′ = c .before .before .before .before .before .before .before .before .before .before .before .before .once in
     let enter′ = c .before .before .before .before .before .before .before .before .enter in
     let past′ = c .past in
@@ -311,7 +318,7 @@ enter-returns-2 t c =
     record {
       kept = v .kept;
       tells = λ E b us a s u. passed-tells u (measure-at′ .ensures) (enter′ .result) _ (rw (spend′ .ensures) at (if1′ .left)) (pre′ .1 .going)
-          (rw (spend′ .ensures) at (past′ .ensures)) (v .told E b us a s (u .use′));
+          (rw (spend′ .ensures) at (past′ .ensures)) (v .told E b us a s (u .use′) (summed-empty _ E));
     }
 
 into-sub-body : (t : ℕ) → into-lts.Need-sub-body (into-calls t) (into-at t) into.Post
@@ -535,13 +542,19 @@ repeat-returns t c =
     let turns′ = c .before .before .before .before .before .before .before .before .turns in
     repeat-entered (pre′ .1 .3) (pre′ .1 .1) (measure′ .ensures .1) (measure′ .ensures .0) (rw (spend′ .ensures) at (if1′ .taken)) (rw (spend′ .ensures) at (turns′ .ensures))
 
+repeat-slice-aggregate-turns : (t : ℕ) → repeat-lts.Need-slice-aggregate-turns (repeat-calls t) (repeat-at t) repeat.Post
+repeat-slice-aggregate-turns t c = search needs
+
+repeat-slice-aggregate-turns-2 : (t : ℕ) → repeat-lts.Need-slice-aggregate-turns-2 (repeat-calls t) (repeat-at t) repeat.Post
+repeat-slice-aggregate-turns-2 t c = search needs
+
 repeat-once-requires : (t : ℕ) → repeat-lts.Need-once-requires (repeat-calls t) (repeat-at t) repeat.Post
 repeat-once-requires t c κs = search needs
 
 repeat-turns-requires-2 : (t : ℕ) → repeat-lts.Need-turns-requires-2 (repeat-calls t) (repeat-at t) repeat.Post
 repeat-turns-requires-2 t c κs =
-    let pre′ = c .before .before .before .before .before .before .before .before .before .before .before .before .before .before .before .before .before .before .before .before .before .before .before .before .before .before .pre in
-    let measure′ = c .before .before .before .before .before .before .before .before .before .before .before .before .measure in
+    let pre′ = c .before .before .before .before .before .before .before .before .before .before .before .before .before .before .before .before .before .before .before .before .before .before .before .before .before .before .before .before .pre in
+    let measure′ = c .before .before .before .before .before .before .before .before .before .before .before .before .before .before .measure in
     let once′ = c .before .before .before .once in
     rw (once′ .ensures) (pre′ .1 .0, pre′ .1 .1, pre′ .1 .2, repeat-played (pre′ .1 .3) (pre′ .1 .1) (measure′ .ensures .1) (measure′ .ensures .0))
 
@@ -556,17 +569,17 @@ repeat-same-length-6 t c = search needs
 
 repeat-same-length-7 : (t : ℕ) → repeat-lts.Need-same-length-7 (repeat-calls t) (repeat-at t) repeat.Post
 repeat-same-length-7 t c =
-    let pre′ = c .before .before .before .before .before .before .before .before .before .before .before .before .before .before .before .before .before .before .before .before .before .before .before .before .before .before .before .before .before .before .before .before .before .before .before .pre in
-    let measure′ = c .before .before .before .before .before .before .before .before .before .before .before .before .before .before .before .before .before .before .before .before .before .measure in
+    let pre′ = c .before .before .before .before .before .before .before .before .before .before .before .before .before .before .before .before .before .before .before .before .before .before .before .before .before .before .before .before .before .before .before .before .before .before .before .before .before .pre in
+    let measure′ = c .before .before .before .before .before .before .before .before .before .before .before .before .before .before .before .before .before .before .before .before .before .before .before .measure in
     let turns2′ = c .before .before .before .before .before .before .before .before .turns2 in
     turns2′ .ensures .kept .args-long ∙ measure′ .ensures .0 ∙ sym (pre′ .1 .3 .sized .args-long)
 
 repeat-returns-2 : (t : ℕ) → repeat-lts.Need-returns-2 (repeat-calls t) (repeat-at t) repeat.Post
 repeat-returns-2 t c =
-    let pre′ = c .before .before .before .before .before .before .before .before .before .before .before .before .before .before .before .before .before .before .before .before .before .before .before .before .before .before .before .before .before .before .before .before .before .before .before .pre in
-    let measure′ = c .before .before .before .before .before .before .before .before .before .before .before .before .before .before .before .before .before .before .before .before .before .measure in
-    let spend′ = c .before .before .before .before .before .before .before .before .before .before .before .before .before .before .before .before .spend in
-    let if1′ = c .before .before .before .before .before .before .before .before .before .before .before .before .before .if1 in
+    let pre′ = c .before .before .before .before .before .before .before .before .before .before .before .before .before .before .before .before .before .before .before .before .before .before .before .before .before .before .before .before .before .before .before .before .before .before .before .before .before .pre in
+    let measure′ = c .before .before .before .before .before .before .before .before .before .before .before .before .before .before .before .before .before .before .before .before .before .before .before .measure in
+    let spend′ = c .before .before .before .before .before .before .before .before .before .before .before .before .before .before .before .before .before .before .spend in
+    let if1′ = c .before .before .before .before .before .before .before .before .before .before .before .before .before .before .before .if1 in
     let once′ = c .before .before .before .before .before .before .before .before .before .before .before .before .once in
     let turns2′ = c .before .before .before .before .before .before .before .before .turns2 in
     rw (c .past .ensures, spend′ .ensures)
@@ -1033,7 +1046,7 @@ turns-begun : (t : ℕ) (c : turns-lts.Joined1 (turns-calls t) (turns-at t) turn
     (c .if1 .chosen) (arrays (c .if1 .values) (c .if1 .feeds) (c .if1 .args))
 turns-begun t c =
     ⊎-elim
-    (λ w. rw (w .12, w .13, w .14, w .15) (begun-later (omega (arith, w .0 .taken)) (rw (w .1 .ensures) at (w .5 .ensures))))
+    (λ w. rw (w .14, w .15, w .16, w .17) (begun-later (omega (arith, w .0 .taken)) (rw (w .3 .ensures) at (w .7 .ensures))))
     (λ w. rw (w .1, w .2, w .3, w .4) (begun-first (omega (arith, w .0 .left))))
     (c .if1 .came)
 
@@ -1057,12 +1070,18 @@ turns-past-requires t c κs =
     let args′ = c .before .before .before .before .before .before .before .before .before .before .before .before .before .args in
     div-mul-le-self (args′ .walk .pass) (args′ .cycles)
 
+turns-slice-aggregate-turns : (t : ℕ) → turns-lts.Need-slice-aggregate-turns (turns-calls t) (turns-at t) turns.Post turns-Inv-loop turns-μ-loop
+turns-slice-aggregate-turns t c = search needs
+
+turns-slice-aggregate-turns-2 : (t : ℕ) → turns-lts.Need-slice-aggregate-turns-2 (turns-calls t) (turns-at t) turns.Post turns-Inv-loop turns-μ-loop
+turns-slice-aggregate-turns-2 t c = search needs
+
 turns-once-requires : (t : ℕ) → turns-lts.Need-once-requires (turns-calls t) (turns-at t) turns.Post turns-Inv-loop turns-μ-loop
 turns-once-requires t c κs = search needs
 
 turns-turns-requires : (t : ℕ) → turns-lts.Need-turns-requires (turns-calls t) (turns-at t) turns.Post turns-Inv-loop turns-μ-loop
 turns-turns-requires t c κs =
-    let pre′ = c .before .before .before .before .before .before .before .before .before .before .before .before .before .before .before .before .before .before .before .pre in
+    let pre′ = c .before .before .before .before .before .before .before .before .before .before .before .before .before .before .before .before .before .before .before .before .before .pre in
     let once′ = c .before .before .before .once in
     let stood = pre′ .1 .2 in
     rw (once′ .ensures) (
@@ -1282,6 +1301,8 @@ pub +body-of+enter+into+repeat+statement+statements+turns-spec : {M : Type 1} �
     (enter-same-length-3 t)
     (enter-same-length-4 t)
     (enter-returns t)
+    (enter-slice-aggregate-enter t)
+    (enter-slice-aggregate-enter-2 t)
     (enter-once-requires t)
     (enter-enter-requires t)
     (enter-past-requires t)
@@ -1326,6 +1347,8 @@ pub +body-of+enter+into+repeat+statement+statements+turns-spec : {M : Type 1} �
     (repeat-same-length-3 t)
     (repeat-same-length-4 t)
     (repeat-returns t)
+    (repeat-slice-aggregate-turns t)
+    (repeat-slice-aggregate-turns-2 t)
     (repeat-once-requires t)
     (repeat-turns-requires-2 t)
     (repeat-past-requires t)
@@ -1415,6 +1438,8 @@ pub +body-of+enter+into+repeat+statement+statements+turns-spec : {M : Type 1} �
     (turns-div-j t)
     (turns-mul-past t)
     (turns-past-requires t)
+    (turns-slice-aggregate-turns t)
+    (turns-slice-aggregate-turns-2 t)
     (turns-once-requires t)
     (turns-turns-requires t)
     (turns-loop-holds t)
