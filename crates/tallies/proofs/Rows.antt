@@ -2,7 +2,7 @@
 use Prim.Native.Nat.{ℕ, _+_, _≤_, _<_}
 use native.Mathlib.Omega.{arith}
 use mathlib.Core.Path.{_≡_, refl, sym, ap, _∙_}
-use mathlib.Core.Bool.{Bool, true, false, _||_}
+use mathlib.Core.Bool.{Bool, true, false}
 use mathlib.Core.List.{List, [], _∷_}
 use lib.Dec.{ltb, eqb}
 use lib.ListN.{getD}
@@ -13,8 +13,8 @@ use Rattle.meaning.specs.Lists.{has, repeats}
 use Rattle.meaning.specs.Body.{Assigns, mark}
 use Rattle.meaning.specs.Data.{assigned}
 use Rattle.assigns.specs.Given.{charOf, chars}
+use Rattle.assigns.proofs.Table.{or-false}
 use Rattle.measures.specs.Uses.{Given}
-use Rattle.arguments.proofs.Lists.{differ}
 use Rattle.pins.specs.Shown.{tableOf}
 use Rattle.pins.proofs.Callers.{table-some, table-none}
 use Rattle.sums.specs.Sums.{Shown, before, argument, char}
@@ -110,22 +110,18 @@ shown-given : (c : ℕ) → (c ≡ 0 → ⊥) → _≡_ {A = Shown} (elim (eqb c
 unfolding shownOf
 shown-given c h = rw (ne-eqb c 0 h, shownOf)
 
-neither : (x y : Bool) → (x || y) ≡ false → (x ≡ false) × (y ≡ false)
-neither true y h = absurd (differ h)
-neither false y h = (refl, h)
-
 module _ (i : ℕ) where
   pub unassigned-shown : (a : Assigns) (x : Shown) → has i (assigned a) ≡ false → shownBy a i x ≡ x
   unfolding shownBy shownOne assigned has
   unassigned-shown [] x h = refl
-  unassigned-shown (y ∷ a) x h = let n = neither (eqb (y .0) i) (has i (assigned a)) h in rw (n .0, shownOne) (unassigned-shown a x (n .1))
+  unassigned-shown (y ∷ a) x h = let n = or-false (eqb (y .0) i) (has i (assigned a)) h in rw (n .0, shownOne) (unassigned-shown a x (n .1))
 
   assigned-shown : (a : Assigns) (b : ℕ) → has 0 (chars a) ≡ false → repeats (assigned a) ≡ false → shownBy a i (shownOf b) ≡ shownOf (over (charOf i a) b)
   unfolding shownBy shownOne charOf chars assigned has repeats
   assigned-shown [] b r q = ap shownOf (sym (over-none 0 b refl))
   assigned-shown (y ∷ a) b r q =
-      let real = neither (eqb (y .1) 0) (has 0 (chars a)) r in
-      let once = neither (has (y .0) (assigned a)) (repeats (assigned a)) q in
+      let real = or-false (eqb (y .1) 0) (has 0 (chars a)) r in
+      let once = or-false (has (y .0) (assigned a)) (repeats (assigned a)) q in
       by (eqb (y .0) i) refl (eqb-false (y .1) 0 (real .0)) (once .0) (assigned-shown a b (real .1) (once .1))
     where
       by : (z : Bool) → eqb (y .0) i ≡ z → (y .1 ≡ 0 → ⊥) → has (y .0) (assigned a) ≡ false → shownBy a i (shownOf b) ≡ shownOf (over (charOf i a) b)

@@ -180,24 +180,24 @@ module _ {waves : List ℕ} {r from place i x : ℕ} {sums : List ℕ} where
               (λ e. subst (λ (o : Option ℕ). Shows tabs i (shownOf x) o (sumAt sums″ r)) (table-some t l) (f tabs m));
         }
 
-    module _ (all : tablesMost ≤ t) where
-      by-slot : {sums″ : List ℕ} → More r sums′ sums″ → (tabs : Tables) → Marked waves tabs
-          → (flagAt sums from (place + tablesMost) ≡ true → Shows tabs i (shownOf x) (sumAt sums r .table) (sumAt sums″ r))
-          → ShownWhere tabs r from place i (shownOf x) sums sums″
-      unfolding orTable
-      by-slot {sums″} k tabs m g = record { shows = by }
-        where
-          by : (o : Option ℕ) → isSlot o ≡ true → flagAt sums from (place + slotOf o) ≡ true → Shows tabs i (shownOf x) (orTable o (sumAt sums r .table)) (sumAt sums″ r)
-          by none h e = g e
-          by (some j) h e = shows-kept (y .shows tabs m j (omega (arith, ltb-true j tablesMost h)) e) (k .kept)
+-- under all tables, and then under the one in force
+module _ {waves : List ℕ} {r from place i : ℕ} {x : Shown} {sums sums′ : List ℕ} (d : from ≡ r → ⊥) (l : place + slots ≤ rowSize) (m : More r sums sums′)
+    (f : (tabs : Tables) → Marked waves tabs → (k : ℕ) → k < tablesMost → flagAt sums from (place + k) ≡ true → Shows tabs i x (some k) (sumAt sums′ r)) where
+  by-slot : {sums″ : List ℕ} → More r sums′ sums″ → (tabs : Tables) → Marked waves tabs
+      → (flagAt sums from (place + tablesMost) ≡ true → Shows tabs i x (sumAt sums r .table) (sumAt sums″ r)) → ShownWhere tabs r from place i x sums sums″
+  unfolding orTable
+  by-slot {sums″} k tabs w g = record { shows = by }
+    where
+      by : (t : Option ℕ) → isSlot t ≡ true → flagAt sums from (place + slotOf t) ≡ true → Shows tabs i x (orTable t (sumAt sums r .table)) (sumAt sums″ r)
+      by none h e = g e
+      by (some j) h e = shows-kept (f tabs w j (ltb-true j tablesMost h) e) (k .kept)
 
-      -- under the table in force too
-      pub shown-all : {sums″ : List ℕ} (u : ℕ) → tableOf u ≡ sumAt sums′ r .table → More r sums′ sums″
-          → ((tabs : Tables) → Marked waves tabs → Shows tabs i (shownOf x) (tableOf u) (sumAt sums″ r)) → (tabs : Tables) → Marked waves tabs
-          → ShownWhere tabs r from place i (shownOf x) sums sums″
-      shown-all {sums″} u e k f tabs m =
-          by-slot k tabs m (λ z. subst (λ (o : Option ℕ). Shows tabs i (shownOf x) o (sumAt sums″ r)) (e ∙ y .more .table-is) (f tabs m))
+  pub shown-all : {sums″ : List ℕ} → More r sums′ sums″ → ((tabs : Tables) → Marked waves tabs → Shows tabs i x (sumAt sums′ r .table) (sumAt sums″ r))
+      → (tabs : Tables) → Marked waves tabs → ShownWhere tabs r from place i x sums sums″
+  shown-all k g tabs w = by-slot k tabs w (λ e. rw (sym (m .table-is)) (g tabs w))
 
-      pub shown-tables : {b : ℕ} → (from ≡ r → ⊥) → place + tablesMost < rowSize → b ≡ byteAt sums′ from (place + tablesMost) → b ≡ 0 → (tabs : Tables) → Marked waves tabs
-          → ShownWhere tabs r from place i (shownOf x) sums sums′
-      shown-tables d l e z tabs m = by-slot more-none tabs m (λ f. absurd (unmarked d l e z f))
+  -- where the slot behind the tables is not marked
+  pub shown-tables : {b : ℕ} → b ≡ byteAt sums′ from (place + tablesMost) → b ≡ 0 → (tabs : Tables) → Marked waves tabs → ShownWhere tabs r from place i x sums sums′
+  shown-tables e z tabs w =
+      let inside : place + tablesMost < rowSize = omega arith in
+      by-slot more-none tabs w (λ h. absurd (flag-is h (sym (other-row (m .only) from (place + tablesMost) d inside) ∙ sym e ∙ z)))

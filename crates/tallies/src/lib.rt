@@ -2,7 +2,7 @@
 ghost use mathlib.Core.Path.{_≡_};
 ghost use mathlib.Core.Bool.{true, false, not, _||_, _&&_};
 ghost use lib.Dec.{eqb};
-ghost use mathlib.Core.Option.{none};
+ghost use mathlib.Core.Option.{none, some};
 ghost use mathlib.Core.List.{List};
 ghost use Prim.Native.Nat.{ℕ, _+_, _*_, _<_, _≤_};
 ghost use lib.ListN.{length};
@@ -74,6 +74,20 @@ fn store(sums: &mut [u8], r: usize, p: usize, b: u8)
     ensures { λ _. ⌜ Stored r p b (now (sums .entry)) (now (sums .exit)) ⌝ }
 {
     sums[r * ROW + p] = b;
+}
+
+// Is any table's slot marked, from a place of the row on? No branch for each, so that they are looked at together.
+fn any_table(sums: &[u8], r: usize, place: usize) -> bool
+    requires { ⌜ (r * rowSize + rowSize ≤ length (now sums)) × (place + slots ≤ rowSize) ⌝ }
+    ensures { λ b. ⌜ (b ≡ false → (k : ℕ) → k < tablesMost → byteAt (now (sums .entry)) r (place + k) ≡ 0) ⌝ }
+{
+    let mut any = false;
+    let mut k = 0;
+    while k < timing::TABLES {
+        any = any | (byte(sums, r, place + k) != 0);
+        k += 1;
+    }
+    any
 }
 
 // ---- one row
@@ -273,10 +287,10 @@ fn ask(sums: &mut [u8], to: usize, from: usize)
 
 // ---- what it shows of a signal
 
-// Something is shown wherever the body shows what stood on a signal before, or its argument: `place` is where the slots of that stand in its row.
-fn show_where(sums: &mut [u8], to: usize, from: usize, place: usize, waves: &[u8], s: usize, x: u8)
+// Something is shown under each table whose slot the body's row marks, from a place on.
+fn show_tables(sums: &mut [u8], to: usize, from: usize, place: usize, waves: &[u8], s: usize, x: u8)
     requires { ⌜ (to * rowSize + rowSize ≤ length (now sums)) × (from * rowSize + rowSize ≤ length (now sums)) × (from ≡ to → ⊥) × (place + slots ≤ rowSize) × (length (now waves) ≡ tablesMost * tableSize) × (s < signalsMost) ⌝ }
-    ensures { λ _. ⌜ More to (now (sums .entry)) (now (sums .exit)) × ((tabs : Tables) → Marked (now (waves .entry)) tabs → ShownWhere tabs to from place s (shownOf x) (now (sums .entry)) (now (sums .exit))) ⌝ }
+    ensures { λ _. ⌜ More to (now (sums .entry)) (now (sums .exit)) × ((tabs : Tables) → Marked (now (waves .entry)) tabs → (k : ℕ) → k < tablesMost → flagAt (now (sums .entry)) from (place + k) ≡ true → Shows tabs s (shownOf x) (some k) (sumAt (now (sums .exit)) to)) ⌝ }
 {
     let mut t = 0;
     while t < timing::TABLES {
@@ -285,8 +299,38 @@ fn show_where(sums: &mut [u8], to: usize, from: usize, place: usize, waves: &[u8
         }
         t += 1;
     }
+}
+
+// Something is shown under the table in force.
+fn show_in_force(sums: &mut [u8], to: usize, waves: &[u8], s: usize, x: u8)
+    requires { ⌜ (to * rowSize + rowSize ≤ length (now sums)) × (length (now waves) ≡ tablesMost * tableSize) × (s < signalsMost) ⌝ }
+    ensures { λ _. ⌜ More to (now (sums .entry)) (now (sums .exit)) × ((tabs : Tables) → Marked (now (waves .entry)) tabs → Shows tabs s (shownOf x) (sumAt (now (sums .entry)) to .table) (sumAt (now (sums .exit)) to)) ⌝ }
+{
+    show(sums, to, waves, s, x, in_force(sums, to));
+}
+
+// Something is shown wherever the body shows what stood on a signal before, or its argument: `place` is where the slots of that stand in its row.
+fn show_where(sums: &mut [u8], to: usize, from: usize, place: usize, waves: &[u8], s: usize, x: u8)
+    requires { ⌜ (to * rowSize + rowSize ≤ length (now sums)) × (from * rowSize + rowSize ≤ length (now sums)) × (from ≡ to → ⊥) × (place + slots ≤ rowSize) × (length (now waves) ≡ tablesMost * tableSize) × (s < signalsMost) ⌝ }
+    ensures { λ _. ⌜ More to (now (sums .entry)) (now (sums .exit)) × ((tabs : Tables) → Marked (now (waves .entry)) tabs → ShownWhere tabs to from place s (shownOf x) (now (sums .entry)) (now (sums .exit))) ⌝ }
+{
+    show_tables(sums, to, from, place, waves, s, x);
     if byte(sums, from, place + timing::TABLES) != 0 {
-        show(sums, to, waves, s, x, in_force(sums, to));
+        show_in_force(sums, to, waves, s, x);
+    }
+}
+
+// The same for what stands on a signal: most have no table's slot marked, which one look tells.
+fn show_pin(sums: &mut [u8], to: usize, from: usize, place: usize, waves: &[u8], s: usize, x: u8)
+    requires { ⌜ (to * rowSize + rowSize ≤ length (now sums)) × (from * rowSize + rowSize ≤ length (now sums)) × (from ≡ to → ⊥) × (place + slots ≤ rowSize) × (length (now waves) ≡ tablesMost * tableSize) × (s < signalsMost) ⌝ }
+    ensures { λ _. ⌜ More to (now (sums .entry)) (now (sums .exit)) × ((tabs : Tables) → Marked (now (waves .entry)) tabs → ShownWhere tabs to from place s (shownOf x) (now (sums .entry)) (now (sums .exit))) ⌝ }
+{
+    if any_table(sums, from, place) {
+        show_where(sums, to, from, place, waves, s, x);
+        return;
+    }
+    if byte(sums, from, place + timing::TABLES) != 0 {
+        show_in_force(sums, to, waves, s, x);
     }
 }
 
@@ -387,7 +431,7 @@ fn enter(
     ensures { λ _. ⌜ Passed to s (now (sums .entry)) (now (sums .exit)) × ((xs : Args) → Supplied (now (text .entry)) xs (now (given .entry)) (now (args .entry)) → (tabs : Tables) → Marked (now (waves .entry)) tabs → OnSignal tabs to from s (argOf s xs) (now (sums .entry)) (now (sums .exit))) ⌝ }
 {
     let x = byte(sums, to, PINS + s);
-    show_where(sums, to, from, s * SLOTS, waves, s, x);
+    show_pin(sums, to, from, s * SLOTS, waves, s, x);
     let last = feed_signal(text, sums, to, from, waves, s, given, args);
     leave(sums, to, from, s, last);
 }
@@ -533,6 +577,25 @@ fn fits_where(
     fits_slot(sums, r, place + timing::TABLES, waves, table, s, x)
 }
 
+// The same for what stands on a signal: most have no table's slot marked, which one look tells.
+fn fits_pin(
+    sums: &[u8],
+    r: usize,
+    place: usize,
+    waves: &[u8],
+    s: usize,
+    x: u8,
+    table: usize,
+) -> bool
+    requires { ⌜ (r * rowSize + rowSize ≤ length (now sums)) × (place + slots ≤ rowSize) × (length (now waves) ≡ tablesMost * tableSize) × (s < signalsMost) ⌝ }
+    ensures { λ b. ⌜ (b ≡ true → (tabs : Tables) → Marked (now (waves .entry)) tabs → FitsWhere tabs r place s x (tableOf table) (now (sums .entry))) ⌝ }
+{
+    if any_table(sums, r, place) {
+        return fits_where(sums, r, place, waves, s, x, table);
+    }
+    fits_slot(sums, r, place + timing::TABLES, waves, table, s, x)
+}
+
 // So each character of an argument, which has so many; the pin is the last of them, 0 for none. Each is looked at once.
 fn fed_fits(
     text: &[u8],
@@ -616,7 +679,7 @@ fn on_signal(
     requires { ⌜ (r * rowSize + rowSize ≤ length (now sums)) × (length (now waves) ≡ tablesMost * tableSize) × (s < signalsMost) × (length (now given) ≡ signalsMost) × (length (now args) ≡ signalsMost * 2) ⌝ }
     ensures { λ o. ⌜ (o .fits ≡ true → (xs : Args) → Supplied (now (text .entry)) xs (now (given .entry)) (now (args .entry)) → OnPin (now (waves .entry)) r s x (argOf s xs) (tableOf table) (now (sums .entry)) (o .pin)) ⌝ }
 {
-    if !fits_where(sums, r, s * SLOTS, waves, s, x, table) {
+    if !fits_pin(sums, r, s * SLOTS, waves, s, x, table) {
         return On {
             fits: false,
             pin: x,

@@ -8,11 +8,11 @@ use borrow.Author.Needs.{needs}
 use Rattle.tallies.proofs.on_signal.Statement.{statement}
 use Rattle.tallies.proofs.on_signal.Tie as tie
 
-mul-fits-where : tie.Need-mul-fits-where
-mul-fits-where c = search needs
+mul-fits-pin : tie.Need-mul-fits-pin
+mul-fits-pin c = search needs
 
-fits-where-requires : tie.Need-fits-where-requires
-fits-where-requires c κs = search needs
+fits-pin-requires : tie.Need-fits-pin-requires
+fits-pin-requires c κs = search needs
 
 returns : tie.Need-returns
 returns c = λ e. absurd (differ (sym e))
@@ -30,7 +30,7 @@ returns-2 : tie.Need-returns-2
 returns-2 c =
     let a = c .before .before .before .before .before .before .before .before .before .before .args in
     λ e xs u. record {
-      shown = c .before .before .before .before .fits-where .ensures (not-false _ (c .before .before .before .if1 .left));
+      shown = c .before .before .before .before .fits-pin .ensures (not-false _ (c .before .before .before .if1 .left));
       fed = c .before .before .signal-fits .ensures xs u e .1;
       pin-is = left-nothing (a .sums .now) (a .r) (a .s) (omega arith) (c .before .byte .ensures) _ _ (c .if2 .taken);
     }
@@ -39,7 +39,7 @@ returns-3 : tie.Need-returns-3
 returns-3 c =
     let a = c .before .before .before .before .before .before .before .before .before .before .before .args in
     λ e xs u. let f = c .before .before .before .signal-fits .ensures xs u e in record {
-      shown = c .before .before .before .before .before .fits-where .ensures (not-false _ (c .before .before .before .before .if1 .left));
+      shown = c .before .before .before .before .before .fits-pin .ensures (not-false _ (c .before .before .before .before .if1 .left));
       fed = f .1;
       pin-is = left-last (a .sums .now) (a .r) (a .s) (omega arith) (c .before .before .byte .ensures) _ _ (c .if3 .taken) (f .0);
     }
@@ -48,7 +48,7 @@ returns-4 : tie.Need-returns-4
 returns-4 c =
     let a = c .before .before .before .before .before .before .before .before .before .before .before .args in
     λ e xs u. record {
-      shown = c .before .before .before .before .before .fits-where .ensures (not-false _ (c .before .before .before .before .if1 .left));
+      shown = c .before .before .before .before .before .fits-pin .ensures (not-false _ (c .before .before .before .before .if1 .left));
       fed = c .before .before .before .signal-fits .ensures xs u e .1;
       pin-is = left-char (a .sums .now) (a .r) (a .s) (omega arith) (c .before .before .byte .ensures) _ _ (c .before .if2 .left) (c .if3 .left);
     }
@@ -57,8 +57,8 @@ pub on-signal-spec : {M : Type 1} → statement M
 on-signal-spec =
     tie.close
     (tie.spec
-    mul-fits-where
-    fits-where-requires
+    mul-fits-pin
+    fits-pin-requires
     returns
     signal-fits-requires
     add-byte
