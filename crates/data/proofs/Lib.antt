@@ -3,3 +3,4 @@ mod Pieces
 pub mod Characters
 mod Turns
 pub mod Held
+mod Single

@@ -1,10 +1,11 @@
 -- What the code has of DATA: how many characters there are, and those at the front of a buffer, as far as they fit.
-use Prim.Native.Nat.{ℕ, min}
+use Prim.Native.Nat.{ℕ, _-_, _≤_, min}
 use mathlib.Core.Path.{_≡_}
 use mathlib.Core.Bool.{Bool, true}
 use mathlib.Core.List.{List, [], _∷_, _++_}
-use lib.ListN.{length}
+use lib.ListN.{length, getD}
 use Rattle.meaning.specs.Reader.{Reader, any, _>>=_}
+use Rattle.meaning.specs.Timing.{waveChar}
 use Rattle.meaning.specs.Data.{repeatOf, times, piece}
 use Rattle.words.specs.declared.Cursor.{Cursor}
 use Rattle.words.specs.Cursor.{alive, Goes}
@@ -43,6 +44,19 @@ pub record Fills (text : List ℕ) (c : Cursor) (k : Reader (List ℕ × ℕ)) (
   pub goes : Goes text c k r (cs, last)
   pub kept : length buffer ≡ length entry
   pub holds : alive r ≡ true → Holds entry buffer n cs
+
+-- the same, of which the caller has the number of characters alone
+pub record Counts (text : List ℕ) (c : Cursor) (k : Reader (List ℕ × ℕ)) (r : Cursor) (n last : ℕ) : Type 0 where
+  pub entry : List ℕ
+  pub buffer : List ℕ
+  pub fills : Fills text c k r entry buffer n last
+
+-- one letter or digit alone is ahead
+pub record Single (text : List ℕ) (c : Cursor) : Type 0 where
+  pub on : alive c ≡ true
+  pub one : c .end - c .at ≡ 1
+  pub inside : c .end ≤ length text
+  pub char : waveChar (getD text (c .at) 0) ≡ true
 
 -- `r` and a number, behind `\`
 abbrev pub timesDue : Reader ℕ

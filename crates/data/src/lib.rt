@@ -2,11 +2,12 @@
 use words::Cursor;
 use words::Numbered;
 ghost use mathlib.Core.Path.{_≡_};
+ghost use mathlib.Core.Bool.{true};
 ghost use Prim.Native.Nat.{_+_, _-_, min};
 ghost use lib.ListN.{replicate};
 ghost use Rattle.meaning.specs.Data.{stretched, repeated, dataRead};
 ghost use Rattle.words.specs.Cursor.{Goes};
-ghost use Rattle.data.specs.Filled.{countMost, Adds, Puts, Fills, timesDue, pieceDue};
+ghost use Rattle.data.specs.Filled.{countMost, Adds, Puts, Fills, Counts, Single, timesDue, pieceDue};
 
 // The most that is counted: above the length of every buffer.
 const COUNT_MOST: usize = 9_223_372_036_854_775_808;
@@ -146,8 +147,8 @@ fn piece(text: &[u8], c: Cursor, may: bool, buffer: &mut [u8], n: usize) -> Put
     Put { cursor, n }
 }
 
-// DATA and its `;`. `may`: may `#` stand in it?
-pub fn data(text: &[u8], c: Cursor, may: bool, buffer: &mut [u8]) -> Filled
+// DATA and its `;`, piece by piece. `may`: may `#` stand in it?
+fn spelled(text: &[u8], c: Cursor, may: bool, buffer: &mut [u8]) -> Filled
     ensures { λ r. ⌜ Fills (now (text .entry)) c (dataRead may) (r .cursor) (now (buffer .entry)) (now (buffer .exit)) (r .n) (r .last) ⌝ }
 {
     let mut cursor = c;
@@ -164,4 +165,64 @@ pub fn data(text: &[u8], c: Cursor, may: bool, buffer: &mut [u8]) -> Filled
         n,
         last,
     }
+}
+
+// Is one letter or digit alone ahead? That is the usual DATA.
+fn is_single(text: &[u8], c: Cursor) -> bool
+    ensures { λ r. ⌜ (r ≡ true → Single (now (text .entry)) c) ⌝ }
+{
+    let at = c.at;
+    let end = c.end;
+    if c.no != 0 {
+        return false;
+    }
+    if end <= at {
+        return false;
+    }
+    if end - at != 1 {
+        return false;
+    }
+    if text.len() < end {
+        return false;
+    }
+    words::is_char(text[at])
+}
+
+// DATA and its `;`. `may`: may `#` stand in it?
+pub fn data(text: &[u8], c: Cursor, may: bool, buffer: &mut [u8]) -> Filled
+    ensures { λ r. ⌜ Fills (now (text .entry)) c (dataRead may) (r .cursor) (now (buffer .entry)) (now (buffer .exit)) (r .n) (r .last) ⌝ }
+{
+    if is_single(text, c) {
+        let d = words::step(text, c);
+        if !words::until(text, d, b";") & (0 < buffer.len()) {
+            let cursor = words::due(text, d, b";");
+            let at = c.at;
+            buffer[0] = text[at];
+            return Filled {
+                cursor,
+                n: 1,
+                last: d.at,
+            };
+        }
+    }
+    spelled(text, c, may, buffer)
+}
+
+// DATA and its `;`, of which only the number of characters is wanted.
+pub fn counting(text: &[u8], c: Cursor, may: bool) -> Filled
+    ensures { λ r. ⌜ Counts (now (text .entry)) c (dataRead may) (r .cursor) (r .n) (r .last) ⌝ }
+{
+    if is_single(text, c) {
+        let d = words::step(text, c);
+        if !words::until(text, d, b";") {
+            let cursor = words::due(text, d, b";");
+            return Filled {
+                cursor,
+                n: 1,
+                last: d.at,
+            };
+        }
+    }
+    let mut buffer = [0; 1];
+    spelled(text, c, may, &mut buffer)
 }

@@ -5,4 +5,5 @@ pub mod Loops
 pub mod Words
 mod Numbers
 mod Tables
+mod Packed
 pub mod Names

@@ -58,7 +58,7 @@ module _ {A : Type 0} {text : List ℕ} {c r : Cursor} {m : Reader A} {a : A} wh
 
 -- ---- the loop's test
 
-both : (x y : Bool) → (x && y) ≡ true → (x ≡ true) × (y ≡ true)
+pub both : (x y : Bool) → (x && y) ≡ true → (x ≡ true) × (y ≡ true)
 both true y h = (refl, h)
 both false y h = let z : _≡_ {A = ℕ} 0 1 = cc in absurd (omega arith)
 

@@ -1,5 +1,5 @@
 -- The definitions on words, at a place of a word: one turn of a loop is one step of a definition.
-use Prim.Native.Nat.{ℕ, zero, suc, _+_, _-_, _≤_, _<_}
+use Prim.Native.Nat.{ℕ, zero, suc, _+_, _-_, _≤_, _<_, min}
 use Prim.Native.String.{String}
 use mathlib.Core.Path.{_≡_, refl, sym, ap, _∙_}
 use native.Mathlib.Omega.{arith}
@@ -7,17 +7,19 @@ use native.Mathlib.Nat.{add-zero}
 use native.Mathlib.Numerals.{add-one}
 use mathlib.Core.Bool.{Bool, true, false, not, _&&_, _||_, and-true, and-false, and-assoc, or-false}
 use mathlib.Core.List.{List, [], _∷_}
-use borrow.Author.Tests.{eq-eqb, ne-eqb, eqb-true, eqb-false}
-use lib.Dec.{leb, eqb}
-use lib.Seq.{drop-cons, take-all, getD-drop}
-use lib.ListN.{length, getD, take, drop, length-drop, drop-of-length-le}
+use borrow.Author.Tests.{eq-eqb, ne-eqb, eqb-true, eqb-false, ltb-true, ltb-false, le-leb, lt-leb, leb-true}
+use lib.Dec.{leb, ltb, eqb}
+use lib.Seq.{drop-cons, take-all, getD-drop, getD-take}
+use lib.ListN.{length, getD, take, drop, length-take, length-drop, drop-of-length-le}
 use Rattle.tokens.specs.Written.{bytes, same}
-use Rattle.tokens.specs.Bytes.{wordy, digit}
+use Rattle.tokens.specs.Bytes.{between, wordy, digit}
 use Rattle.meaning.specs.Bounds.{nameMost}
 use Rattle.meaning.specs.Reader.{isWord}
 use Rattle.meaning.specs.Lists.{has}
 use Rattle.meaning.specs.Names.{reserved, among, isName}
 use Rattle.meaning.specs.Timing.{waveChar, allChars}
+use Rattle.words.specs.Cursor.{span}
+use Rattle.words.specs.Packed.{capital, EndsWith}
 
 pub cut : (t : List ℕ) (i : ℕ) → i < length t → drop i t ≡ getD t i 0 ∷ drop (i + 1) t
 cut t i h = rw (add-one, drop-cons t i 0)
@@ -76,6 +78,31 @@ same-eq (a ∷ w) (b ∷ v) h = by (eqb a b) refl h (same-eq w v)
     by true e h ih = rw (eqb-true a b e, ih h)
     by false e h ih = let z : _≡_ {A = ℕ} 0 1 = cc in absurd (omega arith)
 
+pub same-self : (w : List ℕ) → same w w ≡ true
+unfolding same
+same-self [] = refl
+same-self (a ∷ w) = rw (eq-eqb a a refl) (same-self w)
+
+-- a word of the text whose last byte is another one
+pub last-differs : (text w : List ℕ) (at end : ℕ) {b : ℕ} → EndsWith w b → 0 < end → end ≤ length text → (getD text (end - 1) 0 ≡ b → ⊥)
+    → false ≡ same (span text at end) w
+last-differs text w at end {b} ends h k differs = by (same (span text at end) w) refl
+  where
+    by : (x : Bool) → same (span text at end) w ≡ x → false ≡ x
+    by false e = refl
+    by true e =
+        let eq = same-eq (span text at end) w e in
+        let long : length w ≡ min (end - at) (length text - at) =
+        ap length (sym eq) ∙ length-take (end - at) (drop at text) ∙ ap (min (end - at)) (length-drop at text) in
+        let there : at + (length w - 1) ≡ end - 1 = omega (arith, ends .some) in
+        absurd
+        (differs
+        (ap (λ (i : ℕ). getD text i 0) (sym there)
+        ∙ sym (getD-drop at text (length w - 1) 0)
+        ∙ sym (getD-take (end - at) (drop at text) (length w - 1) 0 (omega (arith, ends .some)))
+        ∙ ap (λ (u : List ℕ). getD u (length w - 1) 0) eq
+        ∙ sym (ends .last)))
+
 -- ---- a byte in a word
 
 module _ (w : List ℕ) (b i : ℕ) where
@@ -102,6 +129,10 @@ pub word-none : (w : List ℕ) → length w ≤ 0 → isWord w ≡ false
 unfolding isWord
 word-none [] h = refl
 word-none (b ∷ s) h = absurd (omega arith)
+
+pub neither : (x y : Bool) → (x || y) ≡ false → (x ≡ false) × (y ≡ false)
+neither false y e = (refl, e)
+neither true y e = let z : _≡_ {A = ℕ} 0 1 = cc in absurd (omega arith)
 
 -- ---- reserved words
 
@@ -176,6 +207,34 @@ or-both {a} {b} {x} {y} p q = ap (λ (c : Bool). c || b) p ∙ ap (λ (c : Bool)
 pub or-last : {a x : Bool} → a ≡ x → a ≡ (x || false)
 or-last {a} {x} p = p ∙ sym (or-false x)
 
+-- do all of some words begin with a capital letter
+unfoldable pub capitals : List String → Bool
+capitals [] = true
+capitals (k ∷ ks) = capital (getD (bytes k) 0 0) && capitals ks
+
+-- then one that does not is none of them
+among-capital : (ks : List String) (w : List ℕ) → capitals ks ≡ true → capital (getD w 0 0) ≡ false → among ks w ≡ false
+unfolding capitals among
+among-capital [] w h e = refl
+among-capital (k ∷ ks) w h e = by (capital (getD (bytes k) 0 0)) refl h (same w (bytes k)) refl (λ t. among-capital ks w t e)
+  where
+    by : (x : Bool) → capital (getD (bytes k) 0 0) ≡ x → (x && capitals ks) ≡ true → (y : Bool) → same w (bytes k) ≡ y
+        → (capitals ks ≡ true → among ks w ≡ false) → (y || among ks w) ≡ false
+    by false q h y r ih = let z : _≡_ {A = ℕ} 0 1 = cc in absurd (omega arith)
+    by true q h false r ih = ih h
+    by true q h true r ih =
+        let same-first : capital (getD w 0 0) ≡ capital (getD (bytes k) 0 0) = ap (λ (u : List ℕ). capital (getD u 0 0)) (same-eq w (bytes k) r) in
+        let z : _≡_ {A = ℕ} 0 1 = cc in
+        absurd (omega arith)
+
+capital-no-digit : (b : ℕ) → capital b ≡ true → digit b ≡ false
+unfolding digit between
+capital-no-digit b e = by (leb 65 b) refl e
+  where
+    by : (x : Bool) → leb 65 b ≡ x → (x && leb b 90) ≡ true → (leb 48 b && leb b 57) ≡ false
+    by false q h = let z : _≡_ {A = ℕ} 0 1 = cc in absurd (omega arith)
+    by true q h = rw (lt-leb b 57 (omega (arith, leb-true 65 b q))) (and-false (leb 48 b))
+
 -- ---- names
 
 pub name-none : (w : List ℕ) → length w ≡ 0 → isName w ≡ false
@@ -188,6 +247,36 @@ pub name-some : (w : List ℕ) → (length w ≡ 0 → ⊥)
 unfolding isName
 name-some [] h = absurd (h refl)
 name-some (b ∷ s) h = refl
+
+module _ (w : List ℕ) (some : length w ≡ 0 → ⊥) where
+  -- too long, or with a dot
+  pub name-off : (ltb nameMost (length w) || has 46 w) ≡ true → false ≡ isName w
+  name-off e = sym (name-some w some ∙ by (ltb nameMost (length w)) refl e)
+    where
+      by : (x : Bool) → ltb nameMost (length w) ≡ x → (x || has 46 w) ≡ true
+          → (leb (length w) nameMost && not (has 46 w) && not (digit (getD w 0 0)) && not (among reserved w)) ≡ false
+      by true q e = rw (lt-leb (length w) nameMost (ltb-true nameMost (length w) q))
+      by false q e = rw (le-leb (length w) nameMost (ltb-false nameMost (length w) q), e)
+
+  name-rest : (ltb nameMost (length w) || has 46 w) ≡ false → isName w ≡ (not (digit (getD w 0 0)) && not (among reserved w))
+  name-rest e = name-some w some ∙ by (ltb nameMost (length w)) refl e
+    where
+      by : (x : Bool) → ltb nameMost (length w) ≡ x → (x || has 46 w) ≡ false
+          → (leb (length w) nameMost && not (has 46 w) && not (digit (getD w 0 0)) && not (among reserved w))
+          ≡ (not (digit (getD w 0 0)) && not (among reserved w))
+      by true q e = let z : _≡_ {A = ℕ} 0 1 = cc in absurd (omega arith)
+      by false q e = rw (le-leb (length w) nameMost (ltb-false nameMost (length w) q), e)
+
+  -- neither, and it begins with a capital letter: then with no digit
+  pub name-capital : (ltb nameMost (length w) || has 46 w) ≡ false → capital (getD w 0 0) ≡ true → not (among reserved w) ≡ isName w
+  name-capital e c =
+      let no : digit (getD w 0 0) ≡ false = capital-no-digit (getD w 0 0) c in
+      sym (name-rest e ∙ rw no)
+
+  -- with none: then it is not reserved
+  pub name-small : (ltb nameMost (length w) || has 46 w) ≡ false → capital (getD w 0 0) ≡ false → not (digit (getD w 0 0)) ≡ isName w
+  unfolding capitals reserved bytes
+  name-small e c = sym (name-rest e ∙ rw (among-capital reserved w refl c) (and-true (not (digit (getD w 0 0)))))
 
 -- ---- waveform characters, at a place of a word
 

@@ -1,3 +1,4 @@
 pub mod Cursor
 pub mod Values
 pub mod Table
+pub mod Packed

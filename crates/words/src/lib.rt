@@ -15,6 +15,7 @@ ghost use Rattle.meaning.specs.Timing.{waveChar, allChars, unit as unitOf, pico
 ghost use Rattle.words.specs.Cursor.{span, ahead as aheadTok, stream, alive, Stands, Goes, Checked, taking};
 ghost use Rattle.words.specs.Values.{most, told, capped, valueOf, Longer};
 ghost use Rattle.words.specs.Table.{nameOf, names};
+ghost use Rattle.words.specs.Packed.{packed, capital, EndsWith};
 
 // Where reading stands. With `no` 0 the token ahead is the text from `at` to `end`; where `end` is not behind `at` there is none: the text has
 // ended at `at`, or has the fault `fault` there. With another `no` reading was refused so at `at`, and every reader hands that on.
@@ -293,6 +294,13 @@ pub fn reserved(w: &[u8]) -> bool
     reserved_long(w)
 }
 
+fn is_capital(b: u8) -> bool
+    ensures { λ r. ⌜ r ≡ capital b ⌝ }
+{
+    (65 <= b) & (b <= 90)
+}
+
+// Only a word that begins with a capital letter can be reserved.
 pub fn is_name(w: &[u8]) -> bool
     ensures { λ r. ⌜ r ≡ isName (now (w .entry)) ⌝ }
 {
@@ -300,7 +308,14 @@ pub fn is_name(w: &[u8]) -> bool
     if n == 0 {
         return false;
     }
-    (n <= 32) & !holds(w, 46) & !is_digit(w[0]) & !reserved(w)
+    if (32 < n) | holds(w, 46) {
+        return false;
+    }
+    let b = w[0];
+    if is_capital(b) {
+        return !reserved(w);
+    }
+    !is_digit(b)
 }
 
 // A name is due.
@@ -330,8 +345,66 @@ pub fn name_bytes<'a>(text: &'a [u8], places: &'a [usize], i: usize) -> &'a [u8]
     &text[0..0]
 }
 
-// The number of the first of `count` names that is w; `count` where none is.
-pub fn find<'a>(text: &'a [u8], w: &'a [u8], places: &'a [usize], count: usize) -> usize
+// Two bytes from a place on as one number, and so four and eight: they are loaded at once.
+fn two(w: &[u8], i: usize) -> u64
+    requires { ⌜ i + 2 ≤ length (now w) ⌝ }
+    ensures { λ r. ⌜ r ≡ packed (now (w .entry)) i 2 ⌝ }
+{
+    wide(w[i]) + wide(w[i + 1]) * 256
+}
+
+fn four(w: &[u8], i: usize) -> u64
+    requires { ⌜ i + 4 ≤ length (now w) ⌝ }
+    ensures { λ r. ⌜ r ≡ packed (now (w .entry)) i 4 ⌝ }
+{
+    two(w, i) + two(w, i + 2) * 65_536
+}
+
+fn eight(w: &[u8], i: usize) -> u64
+    requires { ⌜ i + 8 ≤ length (now w) ⌝ }
+    ensures { λ r. ⌜ r ≡ packed (now (w .entry)) i 8 ⌝ }
+{
+    four(w, i) + four(w, i + 4) * 4_294_967_296
+}
+
+// Are two words equal? By eight bytes at a time; the last eight may have been compared in part already.
+fn equal_by_eights(w: &[u8], v: &[u8]) -> bool
+    ensures { λ r. ⌜ r ≡ same (now (w .entry)) (now (v .entry)) ⌝ }
+{
+    let n = w.len();
+    if n != v.len() {
+        return false;
+    }
+    if n < 8 {
+        return equal(w, v);
+    }
+    let last = n - 8;
+    let mut i = 0;
+    while i < last {
+        if eight(w, i) != eight(v, i) {
+            return false;
+        }
+        i += 8;
+    }
+    eight(w, last) == eight(v, last)
+}
+
+// Is the name whose place stands at j the word w, which ends with the byte `last`? Most names are told by their own last byte.
+fn is_named<'a>(text: &'a [u8], w: &'a [u8], last: u8, places: &'a [usize], j: usize) -> bool
+    requires { ⌜ (j + 1 < length (now places)) × EndsWith (now w) last ⌝ }
+    ensures { λ r. ⌜ r ≡ same (span (now (text .entry)) (getD (now (places .entry)) j 0) (getD (now (places .entry)) (j + 1) 0)) (now (w .entry)) ⌝ }
+{
+    let end = places[j + 1];
+    if (0 < end) & (end <= text.len()) {
+        if text[end - 1] != last {
+            return false;
+        }
+    }
+    equal_by_eights(bytes_of(text, places[j], end), w)
+}
+
+// The number of the first of `count` names that is w; `count` where none is. The slow way, for words without a byte and tables cut short.
+fn find_any<'a>(text: &'a [u8], w: &'a [u8], places: &'a [usize], count: usize) -> usize
     ensures { λ r. ⌜ told (ltb r count) r ≡ findOf (names (now (text .entry)) (now (places .entry)) count) (now (w .entry)) ⌝ }
 {
     let mut i = 0;
@@ -340,6 +413,25 @@ pub fn find<'a>(text: &'a [u8], w: &'a [u8], places: &'a [usize], count: usize) 
             return i;
         }
         i += 1;
+    }
+    count
+}
+
+// The number of the first of `count` names that is w; `count` where none is.
+pub fn find<'a>(text: &'a [u8], w: &'a [u8], places: &'a [usize], count: usize) -> usize
+    ensures { λ r. ⌜ told (ltb r count) r ≡ findOf (names (now (text .entry)) (now (places .entry)) count) (now (w .entry)) ⌝ }
+{
+    let n = w.len();
+    if (n == 0) | (places.len() / 2 < count) {
+        return find_any(text, w, places, count);
+    }
+    let last = w[n - 1];
+    let mut j = 0;
+    while j < count * 2 {
+        if is_named(text, w, last, places, j) {
+            return j / 2;
+        }
+        j += 2;
     }
     count
 }
@@ -357,9 +449,13 @@ pub fn new_name<'a>(text: &'a [u8], c: Cursor, places: &'a [usize], count: usize
 pub fn old_name<'a>(text: &'a [u8], c: Cursor, places: &'a [usize], count: usize) -> Named
     ensures { λ r. ⌜ Goes (now (text .entry)) c (oldName (names (now (text .entry)) (now (places .entry)) count)) (r .cursor) (aheadTok (now (text .entry)) c, r .number) ⌝ }
 {
-    let r = name(text, c);
-    let number = find(text, bytes_of(text, c.at, c.end), places, count);
-    let cursor = refuse_if(r, count <= number, 6, c.at);
+    let at = c.at;
+    let w = bytes_of(text, at, c.end);
+    let right = is_name(w);
+    let number = find(text, w, places, count);
+    let d = word(text, c);
+    let r = refuse_if(d, !right, 5, at);
+    let cursor = refuse_if(r, count <= number, 6, at);
     Named { cursor, number }
 }
 

@@ -1,30 +1,46 @@
--- `old_name` meets its contract: a name, and then what is found for it.
+-- `old_name` meets its contract: a name, and then what is found for it. Both are looked at before the step, which needs neither.
 use mathlib.Core.Path.{refl}
 use borrow.Author.Needs.{needs}
-use Rattle.meaning.specs.Names.{oldName}
-use Rattle.words.proofs.Flow.{then, given}
+use Rattle.meaning.specs.Names.{name, oldName}
+use Rattle.words.proofs.Flow.{then, checked, given}
 use Rattle.words.proofs.Tables.{known-by}
 use Rattle.words.proofs.old_name.Statement.{statement}
 use Rattle.words.proofs.old_name.Tie as tie
 
-name-requires : tie.Need-name-requires
-name-requires c κs = search needs
-
 bytes-of-requires : tie.Need-bytes-of-requires
 bytes-of-requires c κs = search needs
+
+is-name-requires : tie.Need-is-name-requires
+is-name-requires c κs = search needs
 
 find-requires : tie.Need-find-requires
 find-requires c κs = search needs
 
+word-requires : tie.Need-word-requires
+word-requires c κs = search needs
+
 refuse-if-requires : tie.Need-refuse-if-requires
 refuse-if-requires c κs = search needs
 
+refuse-if-requires-2 : tie.Need-refuse-if-requires-2
+refuse-if-requires-2 c κs = search needs
+
 returns : tie.Need-returns
-unfolding oldName
+unfolding oldName name
 returns c =
-    let count = c .before .before .before .before .before .before .args .count in
-    then _ (c .before .before .before .name .ensures) (then _ (known-by count (c .refuse-if .ensures) (cc) refl) given)
+    let count = c .before .before .before .before .before .before .before .before .args .count in
+    then _
+    (then _ (c .before .before .word .ensures) (then _ (checked (c .before .refuse-if .ensures) (cc) refl) given))
+    (then _ (known-by count (c .refuse-if2 .ensures) (cc) refl) given)
 
 pub old-name-spec : {M : Type 1} → statement M
 old-name-spec =
-    tie.close (tie.spec name-requires bytes-of-requires find-requires refuse-if-requires returns)
+    tie.close
+    (tie.spec
+    bytes-of-requires
+    is-name-requires
+    find-requires
+    word-requires
+    refuse-if-requires
+    refuse-if-requires-2
+    returns)
