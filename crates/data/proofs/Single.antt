@@ -17,7 +17,7 @@ use Rattle.words.specs.declared.Cursor.{Cursor}
 use Rattle.words.specs.Cursor.{span, ahead as aheadTok, stream, alive, Goes}
 use Rattle.words.proofs.Words.{cut}
 use Rattle.words.proofs.Flow.{then, given, alike, valued, stream-on}
-use Rattle.data.specs.Filled.{countMost, Fills, Counts, Single, pieceDue}
+use Rattle.data.specs.Filled.{countMost, Fills, Single, pieceDue}
 use Rattle.data.proofs.Over.{wrote-none, wrote-more, wrote-all}
 use Rattle.data.proofs.Pieces.{piece-word}
 use Rattle.data.proofs.Turns.{reading-none, reading-more, reading-all}
@@ -77,8 +77,3 @@ module _ {text : List ℕ} {c : Cursor} (s : Single text c) where
           puts = λ h. wrote-all (wrote-more wrote-none (omega arith) few (omega arith) refl) (omega arith) few (omega arith);
         }))
         e over f
-
-  pub single-counts : {d r : Cursor} {last : ℕ} {b : Bool} (may : Bool) → Goes text c any d (aheadTok text c)
-      → b ≡ (alive d && not (ahead ";" (stream text d))) → b ≡ false → Goes text d (due ";") r last → Counts text c (dataRead may) r 1 last
-  single-counts may g e over f =
-      record { entry = 0 ∷ []; buffer = _; fills = single-fills may (0 ∷ []) (omega arith) (omega arith) g e over f }

@@ -45,12 +45,6 @@ pub record Fills (text : List ℕ) (c : Cursor) (k : Reader (List ℕ × ℕ)) (
   pub kept : length buffer ≡ length entry
   pub holds : alive r ≡ true → Holds entry buffer n cs
 
--- the same, of which the caller has the number of characters alone
-pub record Counts (text : List ℕ) (c : Cursor) (k : Reader (List ℕ × ℕ)) (r : Cursor) (n last : ℕ) : Type 0 where
-  pub entry : List ℕ
-  pub buffer : List ℕ
-  pub fills : Fills text c k r entry buffer n last
-
 -- one letter or digit alone is ahead
 pub record Single (text : List ℕ) (c : Cursor) : Type 0 where
   pub on : alive c ≡ true

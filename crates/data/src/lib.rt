@@ -7,7 +7,7 @@ ghost use Prim.Native.Nat.{_+_, _-_, min};
 ghost use lib.ListN.{replicate};
 ghost use Rattle.meaning.specs.Data.{stretched, repeated, dataRead};
 ghost use Rattle.words.specs.Cursor.{Goes};
-ghost use Rattle.data.specs.Filled.{countMost, Adds, Puts, Fills, Counts, Single, timesDue, pieceDue};
+ghost use Rattle.data.specs.Filled.{countMost, Adds, Puts, Fills, Single, timesDue, pieceDue};
 
 // The most that is counted: above the length of every buffer.
 const COUNT_MOST: usize = 9_223_372_036_854_775_808;
@@ -206,23 +206,4 @@ pub fn data(text: &[u8], c: Cursor, may: bool, buffer: &mut [u8]) -> Filled
         }
     }
     spelled(text, c, may, buffer)
-}
-
-// DATA and its `;`, of which only the number of characters is wanted.
-pub fn counting(text: &[u8], c: Cursor, may: bool) -> Filled
-    ensures { λ r. ⌜ Counts (now (text .entry)) c (dataRead may) (r .cursor) (r .n) (r .last) ⌝ }
-{
-    if is_single(text, c) {
-        let d = words::step(text, c);
-        if !words::until(text, d, b";") {
-            let cursor = words::due(text, d, b";");
-            return Filled {
-                cursor,
-                n: 1,
-                last: d.at,
-            };
-        }
-    }
-    let mut buffer = [0; 1];
-    spelled(text, c, may, &mut buffer)
 }
