@@ -6,3 +6,4 @@ pub mod Read
 pub mod Supplying
 mod Reading
 mod Choosing
+mod Blocks

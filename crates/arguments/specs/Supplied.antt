@@ -57,3 +57,19 @@ pub data TurnsBy (b : Body) (xs : Args) (t : ℕ) : Type 0 where
 unfoldable pub fitsAt : Body → Args → ℕ → ℕ → Bool
 fitsAt b xs t s =
     elim (has s (supplied xs)) [ true ↦ eqb (length (argOf s xs)) (lengthDue b t s) | false ↦ not (has s (outside b ++ shifting b)) ]
+
+-- ---- signals that are looked at together
+
+abbrev pub blockSize : ℕ
+blockSize = 16
+
+-- n signals have neither `#` nor an argument
+pub record Idle (row given : List ℕ) (from n : ℕ) : Type 0 where
+  pub unused : (k : ℕ) → k < n → getD row (from + k) 0 ≡ 0
+  pub unshifted : (k : ℕ) → k < n → getD row (signalsMost + (from + k)) 0 ≡ 0
+  pub ungiven : (k : ℕ) → k < n → getD given (from + k) 0 ≡ 0
+
+-- do those of a block fit; if not, some signal does not
+pub record BlockFits (b : Body) (xs : Args) (t from : ℕ) (r : Bool) : Type 0 where
+  pub each : r ≡ true → (k : ℕ) → k < blockSize → fitsAt b xs t (from + k) ≡ true
+  pub other : r ≡ false → (s : ℕ) × (fitsAt b xs t s ≡ false)

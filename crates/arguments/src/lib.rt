@@ -1,9 +1,9 @@
 // Arguments of a used body: `;`, or `{ NAME = DATA; .. }`, held against the uses of `#` in it.
 ghost use mathlib.Core.Path.{_≡_};
-ghost use mathlib.Core.Bool.{_&&_};
+ghost use mathlib.Core.Bool.{true, _&&_};
 ghost use mathlib.Core.List.{List, [], _++_};
-ghost use Prim.Native.Nat.{ℕ, _*_, _<_};
-ghost use lib.ListN.{length};
+ghost use Prim.Native.Nat.{ℕ, _+_, _*_, _≤_, _<_};
+ghost use lib.ListN.{length, getD};
 ghost use Rattle.meaning.specs.Bounds.{signalsMost};
 ghost use Rattle.meaning.specs.Lists.{has, inside};
 ghost use Rattle.meaning.specs.Body.{Args, Body, outside, shifting, argOf};
@@ -13,7 +13,7 @@ ghost use Rattle.sets.proofs.Tidy.{TidyBelow};
 ghost use Rattle.timing.specs.Makes.{Makes};
 ghost use Rattle.assigns.specs.Given.{Ready, Gave};
 ghost use Rattle.measures.specs.Uses.{rowLength, Uses};
-ghost use Rattle.arguments.specs.Supplied.{Supplied, UsedRow, Fits, TurnsBy, fitsAt};
+ghost use Rattle.arguments.specs.Supplied.{Supplied, UsedRow, Fits, TurnsBy, blockSize, Idle, BlockFits, fitsAt};
 use words::Cursor;
 
 // Refusal: a signal has an argument already, or too many characters.
@@ -24,6 +24,9 @@ const BAD_ARGUMENT: u8 = 13;
 
 // The most characters of an argument.
 const ARGUMENT_MOST: usize = 4_096;
+
+// So many signals are looked at together.
+const BLOCK: usize = 16;
 
 // The cursor behind the arguments, and where their last token stands.
 pub struct Closed {
@@ -83,8 +86,7 @@ fn argument<'a>(
     }
     let s = lists[i * signals::ROW + 1] as usize;
     let e = words::due(text, d, b"=");
-    let mut buffer = [0; ARGUMENT_MOST];
-    let f = data::data(text, e, false, &mut buffer);
+    let f = data::counting(text, e, false);
     let g = f.cursor;
     let r = words::refuse_if(g, ARGUMENT_MOST < f.n, BAD_DATA, f.last);
     if r.no != 0 {
@@ -135,8 +137,22 @@ fn supply(given: &[u8], args: &[usize], s: usize) -> usize
     if given[s] != 0 { args[s] } else { 0 }
 }
 
-// T: the characters that a signal with `#` in the Shift has beyond its other uses.
-fn turns(row: &[u16], given: &[u8], args: &[usize]) -> usize
+// Has no signal a `#` in the Shift? No turn leaves the loop early, so that many signals are looked at together.
+fn unshifted(row: &[u16]) -> bool
+    requires { ⌜ length (now row) ≡ rowLength ⌝ }
+    ensures { λ r. ⌜ (r ≡ true → (k : ℕ) → k < signalsMost → getD (now (row .entry)) (signalsMost + k) 0 ≡ 0) ⌝ }
+{
+    let mut shifted = false;
+    let mut s = 0;
+    while s < sets::MOST {
+        shifted = shifted | (row[sets::MOST + s] != 0);
+        s += 1;
+    }
+    !shifted
+}
+
+// T: the characters that the lowest signal with `#` in the Shift has beyond its other uses.
+fn shift_turns(row: &[u16], given: &[u8], args: &[usize]) -> usize
     requires { ⌜ (length (now row) ≡ rowLength) × (length (now given) ≡ signalsMost) × (length (now args) ≡ signalsMost * 2) ⌝ }
     ensures { λ r. ⌜ ((text : List ℕ) (b : Body) (xs : Args) → Uses b (now (row .entry)) → Supplied text xs (now (given .entry)) (now (args .entry)) → TurnsBy b xs r) ⌝ }
 {
@@ -150,6 +166,17 @@ fn turns(row: &[u16], given: &[u8], args: &[usize]) -> usize
         s += 1;
     }
     0
+}
+
+// T, which is 0 where no signal has a `#` in the Shift.
+fn turns(row: &[u16], given: &[u8], args: &[usize]) -> usize
+    requires { ⌜ (length (now row) ≡ rowLength) × (length (now given) ≡ signalsMost) × (length (now args) ≡ signalsMost * 2) ⌝ }
+    ensures { λ r. ⌜ ((text : List ℕ) (b : Body) (xs : Args) → Uses b (now (row .entry)) → Supplied text xs (now (given .entry)) (now (args .entry)) → TurnsBy b xs r) ⌝ }
+{
+    if unshifted(row) {
+        return 0;
+    }
+    shift_turns(row, given, args)
 }
 
 // Has signal s the characters that it needs, where the Shift plays t times?
@@ -172,6 +199,39 @@ fn fitting(row: &[u16], given: &[u8], args: &[usize], s: usize, t: usize) -> boo
     n - u == t
 }
 
+// Have the signals of a block neither `#` nor an argument? They are looked at together, as above.
+fn idle(row: &[u16], given: &[u8], from: usize) -> bool
+    requires { ⌜ (length (now row) ≡ rowLength) × (length (now given) ≡ signalsMost) × (from + blockSize ≤ signalsMost) ⌝ }
+    ensures { λ r. ⌜ (r ≡ true → Idle (now (row .entry)) (now (given .entry)) from blockSize) ⌝ }
+{
+    let mut busy = false;
+    let mut k = 0;
+    while k < BLOCK {
+        let s = from + k;
+        busy = busy | (row[s] != 0) | (row[sets::MOST + s] != 0) | (given[s] != 0);
+        k += 1;
+    }
+    !busy
+}
+
+// Has each signal of a block the characters that it needs, where the Shift plays t times?
+fn block_fits(row: &[u16], given: &[u8], args: &[usize], from: usize, t: usize) -> bool
+    requires { ⌜ (length (now row) ≡ rowLength) × (length (now given) ≡ signalsMost) × (length (now args) ≡ signalsMost * 2) × (from + blockSize ≤ signalsMost) ⌝ }
+    ensures { λ r. ⌜ ((text : List ℕ) (b : Body) (xs : Args) → Uses b (now (row .entry)) → Supplied text xs (now (given .entry)) (now (args .entry)) → BlockFits b xs t from r) ⌝ }
+{
+    if idle(row, given, from) {
+        return true;
+    }
+    let mut k = 0;
+    while k < BLOCK {
+        if !fitting(row, given, args, from + k, t) {
+            return false;
+        }
+        k += 1;
+    }
+    true
+}
+
 // The arguments against the body's uses.
 pub fn fitted(row: &[u16], given: &[u8], args: &[usize]) -> Fit
     requires { ⌜ (length (now row) ≡ rowLength) × (length (now given) ≡ signalsMost) × (length (now args) ≡ signalsMost * 2) ⌝ }
@@ -180,13 +240,13 @@ pub fn fitted(row: &[u16], given: &[u8], args: &[usize]) -> Fit
     let t = turns(row, given, args);
     let mut s = 0;
     while s < sets::MOST {
-        if !fitting(row, given, args, s, t) {
+        if !block_fits(row, given, args, s, t) {
             return Fit {
                 fits: false,
                 turns: t,
             };
         }
-        s += 1;
+        s += BLOCK;
     }
     Fit {
         fits: true,
