@@ -86,7 +86,8 @@ fn argument<'a>(
     }
     let s = lists[i * signals::ROW + 1] as usize;
     let e = words::due(text, d, b"=");
-    let f = data::counting(text, e, false);
+    let mut buffer = [0; ARGUMENT_MOST];
+    let f = data::data(text, e, false, &mut buffer);
     let g = f.cursor;
     let r = words::refuse_if(g, ARGUMENT_MOST < f.n, BAD_DATA, f.last);
     if r.no != 0 {

@@ -71,25 +71,25 @@ below c = let k = c .before in one-below (start k .args .lists .now) (number k) 
 
 -- DATA, and before it that place
 abbrev suited : tie.After-struct-known4 → tie.Else2
-suited k = k .before .before .before .before .before .before .before .before
+suited k = k .before .before .before .before .before .before .before .before .before .before
 
-abbrev filled : tie.After-struct-known4 → tie.After-counting
-filled k = k .before .before .before .before
+abbrev filled : tie.After-struct-known4 → tie.After-data
+filled k = k .before .before .before .before .before
 
 data-read : (k : tie.After-struct-known4)
     → Data (start (suited k .before) .args .text .now) (suited k .before .before .refuse-if2 .result) (k .before .refuse-if3 .result)
-    (filled k .counting .result .n)
+    (filled k .«data» .result .n)
 unfolding bytes
 data-read k =
     record {
-      equals = filled k .before .due .result;
-      behind = filled k .counting .result .cursor;
+      equals = filled k .before .before .due .result;
+      behind = filled k .«data» .result .cursor;
       place = _;
-      last = filled k .counting .result .last;
-      entry = filled k .counting .ensures .entry;
-      buffer = filled k .counting .ensures .buffer;
-      due-goes = filled k .before .due .ensures;
-      fills = filled k .counting .ensures .fills;
+      last = filled k .«data» .result .last;
+      entry = _;
+      buffer = _;
+      due-goes = filled k .before .before .due .ensures;
+      fills = filled k .«data» .ensures;
       few = k .before .refuse-if3 .ensures;
     }
 
@@ -145,8 +145,11 @@ slice-aggregate-due c = search needs
 due-requires : tie.Need-due-requires
 due-requires c κs = search needs
 
-counting-requires : tie.Need-counting-requires
-counting-requires c κs = search needs
+slice-aggregate-data : tie.Need-slice-aggregate-data
+slice-aggregate-data c = search needs
+
+data-requires : tie.Need-data-requires
+data-requires c κs = search needs
 
 refuse-if-requires-3 : tie.Need-refuse-if-requires-3
 refuse-if-requires-3 c κs = search needs
@@ -210,7 +213,8 @@ argument-spec =
     cast-s
     slice-aggregate-due
     due-requires
-    counting-requires
+    slice-aggregate-data
+    data-requires
     refuse-if-requires-3
     same-length-2
     returns-3
