@@ -1,0 +1,3 @@
+mod Bytes
+mod Stores
+mod Turns

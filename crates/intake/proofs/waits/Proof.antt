@@ -1,0 +1,13 @@
+-- `waits` meets its contract: only the run's mark is worked out.
+use borrow.Author.Needs.{needs}
+use Rattle.intake.proofs.waits.Statement.{statement}
+use Rattle.intake.proofs.waits.Tie as tie
+
+mark-with-requires : tie.Need-mark-with-requires
+mark-with-requires c κs = search needs
+
+returns : tie.Need-returns
+returns c = rw (c .mark-with .ensures)
+
+pub waits-spec : {M : Type 1} → statement M
+waits-spec = tie.close (tie.spec mark-with-requires returns)
