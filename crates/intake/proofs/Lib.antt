@@ -1,3 +1,5 @@
 mod Bytes
 mod Stores
 mod Turns
+mod Pieces
+mod Stands
