@@ -3,3 +3,4 @@ mod Stores
 mod Turns
 mod Pieces
 mod Stands
+mod Whole

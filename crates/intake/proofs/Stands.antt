@@ -210,7 +210,7 @@ module _ (x : Intake) (p : ℕ) (r : Option Bool) (runs : Runs (x .run) r) where
         }
 
     module _ (b : ℕ) (o : b ≡ 47 → ⊥) (n : b ≡ 42 → ⊥) where
-      alone : (s : List ℕ) → act plain p 47 (b ∷ s) ≡ token (47 ∷ []) plain
+      pub alone : (s : List ℕ) → act plain p 47 (b ∷ s) ≡ token (47 ∷ []) plain
       unfolding cases starts
       alone s = slash-does p (b ∷ s) ∙ rw (ne-eqb b 47 o, ne-eqb b 42 n)
 
@@ -267,7 +267,7 @@ module _ (x : Intake) (p : ℕ) (r : Option Bool) (runs : Runs (x .run) r) where
                 (fault-goes (block q) closing p 42 (47 ∷ s) (closes s) ∙ fault-goes closing plain (suc p) 47 s (last-slash-does (suc p) s));
           }
 
-      stays : (b : ℕ) (s : List ℕ) → (b ≡ 47 → ⊥) → act (block q) p 42 (b ∷ s) ≡ go (block q)
+      pub stays : (b : ℕ) (s : List ℕ) → (b ≡ 47 → ⊥) → act (block q) p 42 (b ∷ s) ≡ go (block q)
       unfolding starts
       stays b s o = block-does p 42 (b ∷ s) q star-good (ne-eqb b 47 o)
 
