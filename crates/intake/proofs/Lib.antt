@@ -4,3 +4,5 @@ mod Turns
 mod Pieces
 mod Stands
 mod Whole
+mod Joined
+pub mod Theorems

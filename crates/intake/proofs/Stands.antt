@@ -78,7 +78,7 @@ pub record Steps (z : Step) (m : Mode) (p : ℕ) (s₀ : List ℕ → List ℕ) 
 
 -- ---- the cases
 
-star-good : allowed 42 ≡ true
+pub star-good : allowed 42 ≡ true
 unfolding allowed blank between
 star-good = refl
 

@@ -248,31 +248,41 @@ pub room-said : (s : List ℕ) (at : ℕ) {room n m : ℕ} {t : Bool} → room �
 unfolding roomOf
 room-said s at e k h = rw (← e, ← k) h
 
+-- this close answers r and leaves the store so
 abbrev pub Closes : Progress → List ℕ → Progress → List ℕ → Type 0
 Closes p store r after = (r ≡ closed p store .0) × (after ≡ closed p store .1)
 
 module _ (store : List ℕ) (x : Intake) where
-  pub close-in-comment : (eqb (x .mode) isBlock || eqb (x .mode) isStar) ≡ true → Closes (Open x) store (Refused openComment (x .opening)) store
+  pub closed-in-comment : (eqb (x .mode) isBlock || eqb (x .mode) isStar) ≡ true → closed (Open x) store ≡ (Refused openComment (x .opening), store)
   unfolding closed closing afterClosing cases
-  close-in-comment e = rw e (refl, refl)
+  closed-in-comment e = rw e
+
+  module _ (e : (eqb (x .mode) isBlock || eqb (x .mode) isStar) ≡ false) where
+    pub closed-no-room : lacks (roomOf store) (x .stored) (length (lastBytes x)) ≡ true → closed (Open x) store ≡ (Refused noStore (x .taken), store)
+    unfolding closed closing afterClosing cases
+    closed-no-room h = rw (e, h)
+
+    pub closed-closes : lacks (roomOf store) (x .stored) (length (lastBytes x)) ≡ false
+        → closed (Open x) store ≡ (Closed (x .stored + length (lastBytes x)), written store (x .stored) (lastBytes x))
+    unfolding closed closing afterClosing cases
+    closed-closes h = rw (e, h)
+
+module _ (store : List ℕ) (x : Intake) where
+  pub close-in-comment : (eqb (x .mode) isBlock || eqb (x .mode) isStar) ≡ true → Closes (Open x) store (Refused openComment (x .opening)) store
+  close-in-comment e = rw (closed-in-comment store x e) (refl, refl)
 
   module _ (e : (eqb (x .mode) isBlock || eqb (x .mode) isStar) ≡ false) {c : Change} (k : c ≡ lastOf (eqb (x .mode) isSlash)) where
     pub close-no-room : lacks (roomOf store) (x .stored) (length (addsOf (x .run) 0 c)) ≡ true → Closes (Open x) store (Refused noStore (x .taken)) store
-    unfolding closed closing afterClosing cases
-    close-no-room h =
-        let q : lacks (roomOf store) (x .stored) (length (lastBytes x)) ≡ true = rw (last-adds x k) at h in
-        rw (e, q) (refl, refl)
+    close-no-room h = rw (closed-no-room store x e (rw (last-adds x k) at h)) (refl, refl)
 
     module _ (h : lacks (roomOf store) (x .stored) (length (addsOf (x .run) 0 c)) ≡ false) where
       pub close-room : lacks (length store) (x .stored) (length (addsOf (x .run) 0 c)) ≡ false
       close-room = within-lacks (length store) (x .stored) _ (lacks-more (roomOf store) (length store) (x .stored) _ (room-least store) h)
 
       pub close-closes : {end : ℕ} {after : List ℕ} → Puts store (x .stored) (addsOf (x .run) 0 c) end after → Closes (Open x) store (Closed end) after
-      unfolding closed closing afterClosing cases
       close-closes {end} {after} p =
-          let q : lacks (roomOf store) (x .stored) (length (lastBytes x)) ≡ false = rw (last-adds x k) at h in
           let r : Puts store (x .stored) (lastBytes x) end after = rw (last-adds x k) at p in
-          rw (e, q) (ap Closed (r .behind), r .store)
+          rw (closed-closes store x e (rw (last-adds x k) at h)) (ap Closed (r .behind), r .store)
 
 module _ {p : Progress} (store : List ℕ) where
   pub close-open : {x : Intake} {r : Progress} {after : List ℕ} → p ≡ Open x → Closes (Open x) store r after → Closes p store r after

@@ -20,7 +20,7 @@ use Rattle.intake.proofs.Bytes.{outside-slash, outside-blank, outside-k
 use Rattle.intake.proofs.Stores.{Within}
 use Rattle.intake.proofs.Turns.{takes-on, takes-refused, passes-behind}
 use Rattle.intake.proofs.Pieces.{rest, fault, token-fault, fault-goes, bad-fault}
-use Rattle.intake.proofs.Stands.{Stands, in-plain, at-slash, in-line, in-block, at-star, Reads, Steps, reads-step, alone, stays}
+use Rattle.intake.proofs.Stands.{Stands, in-plain, at-slash, in-line, in-block, at-star, Reads, Steps, reads-step, star-good, alone, stays}
 
 -- ---- what a step counts
 
@@ -78,10 +78,6 @@ unlike b c h k e = false≢true (sym h ∙ ap allowed e ∙ k)
 slash-good : allowed 47 ≡ true
 unfolding allowed blank between
 slash-good = refl
-
-star-good : allowed 42 ≡ true
-unfolding allowed blank between
-star-good = refl
 
 pub bad-read : {x : Intake} {m : Mode} {p : ℕ} {held : List ℕ} {r : Option Bool} → Reads x m p held r → (b : ℕ) (s : List ℕ) → allowed b ≡ false
     → fault m p (held ++ b ∷ s) ≡ some (badByte, x .taken)
