@@ -5,4 +5,5 @@ mod Pieces
 mod Stands
 mod Whole
 mod Joined
+mod Same
 pub mod Theorems

@@ -75,7 +75,7 @@ abbrev finish : List ℕ → Taken → Progress × List ℕ
 finish store (on y a) = closed (Open y) (written store 0 a)
 finish store (refused n p) = (Refused n p, store)
 
-abbrev Alike : Progress × List ℕ → Progress × List ℕ → Type 0
+abbrev pub Alike : Progress × List ℕ → Progress × List ℕ → Type 0
 Alike r q = (r .0 ≡ q .0) × ((n : ℕ) → r .0 ≡ Closed n → r .1 ≡ q .1)
 
 finishes : (cs : List (List ℕ)) (store : List ℕ) → Alike (intake cs store) (finish store (takes (roomOf store) start (allChunks cs)))
@@ -97,3 +97,126 @@ cut-alike cs ds store e =
         ap (λ (s : List ℕ). finish store (takes (roomOf store) start s)) e in
     let a : intake cs store .0 ≡ intake ds store .0 = f .0 ∙ ap (λ (z : Progress × List ℕ). z .0) k ∙ sym (g .0) in
     (a, λ n h. f .1 n h ∙ ap (λ (z : Progress × List ℕ). z .1) k ∙ sym (g .1 n (sym a ∙ h)))
+
+-- ---- the text squeezed
+
+-- a raw text that is not too long, clean, and squeezed has room
+pub record Fitting (raw store : List ℕ) : Type 0 where
+  pub short : length raw ≤ rawMost
+  pub clean : faultIn (toks raw 0) ≡ none
+  pub roomy : length (squeezed raw) ≤ roomOf store
+
+-- the close gives the squeezed text's length, which stands at the store's front; behind it stands what was there
+pub record Squeezes (raw store : List ℕ) (n : ℕ) (after : List ℕ) : Type 0 where
+  pub fitting : Fitting raw store
+  pub size : n ≡ length (squeezed raw)
+  pub filled : after ≡ squeezed raw ++ drop n store
+
+module _ (raw store : List ℕ) where
+  written-front : (xs : List ℕ) → written store 0 xs ≡ xs ++ drop (length xs) store
+  unfolding written
+  written-front xs = rw (zero-add (length xs))
+
+  module _ (y : Intake) (a : List ℕ) (g : Through (roomOf store) start plain 0 raw (length raw) none y a) where
+    -- what was added, then what waits, is the squeezed text
+    module _ (w : lastBytes y ≡ rest (g .run) (g .mode) (g .place) (g .held)) where
+      whole : a ++ lastBytes y ≡ squeezed raw
+      unfolding squeezed
+      whole = rw w (g .becomes)
+
+      whole-length : y .stored + length (lastBytes y) ≡ length (squeezed raw)
+      whole-length = omega (arith, ap length whole, length-append a (lastBytes y), g .stored)
+
+      whole-written : written (written store 0 a) (y .stored) (lastBytes y) ≡ squeezed raw ++ drop (length (squeezed raw)) store
+      whole-written =
+          ap (λ (n : ℕ). written (written store 0 a) n (lastBytes y)) (g .stored)
+          ∙ written-more store 0 a (lastBytes y) (within-store store 0 (length a) (g .within))
+          ∙ ap (written store 0) whole
+          ∙ written-front (squeezed raw)
+
+      -- the room for what waits is the room for all
+      roomy-all : lacks (roomOf (written store 0 a)) (y .stored) (length (lastBytes y)) ≡ false → length (squeezed raw) ≤ roomOf store
+      roomy-all h = by (lacks-fits (roomOf store) (y .stored) (length (lastBytes y)) (rw (same-room store 0 a (g .within)) at h)) (g .within)
+        where
+          by : Within (roomOf store) (y .stored) (length (lastBytes y)) → Within (roomOf store) 0 (length a) → length (squeezed raw) ≤ roomOf store
+          by (inr k) v = omega (arith, whole-length)
+          by (inl k) (inl v) = omega (arith, whole-length, g .stored)
+          by (inl k) (inr v) = omega (arith, whole-length, g .stored)
+
+      all-roomy : length (squeezed raw) ≤ roomOf store → lacks (roomOf (written store 0 a)) (y .stored) (length (lastBytes y)) ≡ false
+      all-roomy h = rw (same-room store 0 a (g .within)) (lacks-not (roomOf store) (y .stored) (length (lastBytes y)) (omega (arith, whole-length)))
+
+    closes-squeezed : (n : ℕ) → closed (Open y) (written store 0 a) .0 ≡ Closed n → Squeezes raw store n (closed (Open y) (written store 0 a) .1)
+    unfolding toks
+    closes-squeezed n h = by (reads-ends (g .reads))
+      where
+        by : Ends y (g .mode) (g .place) (g .held) (g .run) → Squeezes raw store n (closed (Open y) (written store 0 a) .1)
+        by (open-still e f) =
+            let k = closed-in-comment (written store 0 a) y e in
+            let l : closed (Open y) (written store 0 a) .0 ≡ Refused openComment (y .opening) = ap (λ (z : Progress × List ℕ). z .0) k in
+            let z : _≡_ {A = ℕ} 0 1 = cc in
+            absurd (omega arith)
+        by (shut e f w) = at-end (lacks (roomOf (written store 0 a)) (y .stored) (length (lastBytes y))) refl
+          where
+            at-end : (t : Bool) → lacks (roomOf (written store 0 a)) (y .stored) (length (lastBytes y)) ≡ t
+                → Squeezes raw store n (closed (Open y) (written store 0 a) .1)
+            at-end true q =
+                let k = closed-no-room (written store 0 a) y e q in
+                let l : closed (Open y) (written store 0 a) .0 ≡ Refused 20 (y .taken) = ap (λ (z : Progress × List ℕ). z .0) k in
+                let z : _≡_ {A = ℕ} 0 1 = cc in
+                absurd (omega arith)
+            at-end false q =
+                let k = closed-closes (written store 0 a) y e q in
+                let l : closed (Open y) (written store 0 a) .0 ≡ Closed (y .stored + length (lastBytes y)) = ap (λ (z : Progress × List ℕ). z .0) k in
+                let c : n ≡ y .stored + length (lastBytes y) = cc in
+                let d : n ≡ length (squeezed raw) = c ∙ whole-length w in
+                record {
+                  fitting = record { short = omega (arith, g .short (omega arith)); clean = sym (g .faults) ∙ f; roomy = roomy-all w q };
+                  size = d;
+                  filled =
+                      ap (λ (z : Progress × List ℕ). z .1) k ∙ whole-written w ∙ ap (λ (m : ℕ). squeezed raw ++ drop m store) (sym d);
+                }
+
+    squeezed-closes : faultIn (toks raw 0) ≡ none → length (squeezed raw) ≤ roomOf store
+        → closed (Open y) (written store 0 a) .0 ≡ Closed (length (squeezed raw))
+    unfolding toks
+    squeezed-closes c h = by (reads-ends (g .reads))
+      where
+        by : Ends y (g .mode) (g .place) (g .held) (g .run) → closed (Open y) (written store 0 a) .0 ≡ Closed (length (squeezed raw))
+        by (open-still e f) =
+            let k : _≡_ {A = Option (ℕ × ℕ)} none (some (openComment, y .opening)) = sym c ∙ sym (g .faults) ∙ f in
+            let z : _≡_ {A = ℕ} 0 1 = cc in
+            absurd (omega arith)
+        by (shut e f w) = ap (λ (z : Progress × List ℕ). z .0) (closed-closes (written store 0 a) y e (all-roomy w h)) ∙ ap Closed (whole-length w)
+
+  finish-squeezed : (t : Taken) → Passes (roomOf store) start plain 0 raw (length raw) none t → (n : ℕ) → finish store t .0 ≡ Closed n
+      → Squeezes raw store n (finish store t .1)
+  finish-squeezed (on y a) g n h = closes-squeezed y a g n h
+  finish-squeezed (refused m p) g n h = let z : _≡_ {A = ℕ} 0 1 = cc in absurd (omega arith)
+
+  squeezed-finish : (t : Taken) → Passes (roomOf store) start plain 0 raw (length raw) none t → passes t ≡ true → Fitting raw store
+      → finish store t .0 ≡ Closed (length (squeezed raw))
+  unfolding passes
+  squeezed-finish (on y a) g k f = squeezed-closes y a g (f .clean) (f .roomy)
+  squeezed-finish (refused m p) g k f = cc
+
+  fitting-passes : Fitting raw store → passes (takes (roomOf store) start raw) ≡ true
+  unfolding squeezed toks
+  fitting-passes f =
+      reads-pass (roomOf store) reads-start raw (omega (arith, f .short)) (f .clean) (omega (arith, f .roomy))
+
+-- the close gives a length only if the raw text fits, and then that of the squeezed text, which the store then holds
+pub closed-squeezed : (cs : List (List ℕ)) (store : List ℕ) (n : ℕ) → intake cs store .0 ≡ Closed n
+    → Squeezes (allChunks cs) store n (intake cs store .1)
+closed-squeezed cs store n h =
+    let raw = allChunks cs in
+    let f = finishes cs store in
+    let s = finish-squeezed raw store (takes (roomOf store) start raw) (reads-through (roomOf store) reads-start raw) n (sym (f .0) ∙ h) in
+    record { fitting = s .fitting; size = s .size; filled = f .1 n h ∙ s .filled }
+
+-- and every raw text that fits is closed
+pub fitting-closed : (cs : List (List ℕ)) (store : List ℕ) → Fitting (allChunks cs) store → intake cs store .0 ≡ Closed (length (squeezed (allChunks cs)))
+fitting-closed cs store f =
+    let raw = allChunks cs in
+    finishes cs store .0
+    ∙ squeezed-finish raw store (takes (roomOf store) start raw) (reads-through (roomOf store) reads-start raw) (fitting-passes raw store f) f
