@@ -16,7 +16,7 @@ use Rattle.tokens.specs.Refusals.{tooLong, badByte}
 use Rattle.intake.specs.declared.Intake.{Intake}
 use Rattle.intake.specs.declared.Change.{Change}
 use Rattle.intake.specs.Intake.{rawMost, noStore, isPlain, isSlash, isLine, isBlock, isStar, markWith, waiting, Step, stepped, outside, behindSlash, inLine, inBlock, behindStar, step, lacks, refusalOf, lastBytes}
-use Rattle.intake.specs.Answers.{onlyIf, addsOf, stepBy, waitsOf, lastOf}
+use Rattle.intake.specs.Answers.{onlyIf, addsOf, stepBy, holdsOf, lastOf}
 
 -- ---- the tables
 
@@ -124,16 +124,10 @@ marked run = by (eqb run 0)
     by false = refl
 
 module _ (x : Intake) (b : ℕ) where
-  pub waits-step : (mode opening : ℕ) {c : Change} → c ≡ waitsOf (x .run) b mode opening
-      → stepBy x b c ≡ stepped x [] (markWith (x .run) b) mode opening
-  unfolding stepBy addsOf onlyIf
-  waits-step mode opening e = rw e
-
   -- nothing
-  pub slash-step : (run mode opening : ℕ)
-      → stepBy x b (record { mark = false; slash = false; kept = false; run = run; mode = mode; opening = opening }) ≡ stepped x [] run mode opening
+  pub holds-step : (run mode opening : ℕ) {c : Change} → c ≡ holdsOf run mode opening → stepBy x b c ≡ stepped x [] run mode opening
   unfolding stepBy addsOf onlyIf
-  slash-step run mode opening = refl
+  holds-step run mode opening e = rw e
 
   -- the mark, the `/` that waited, the byte itself
   pub kept-step : (run mode opening : ℕ)

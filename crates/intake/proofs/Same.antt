@@ -202,7 +202,7 @@ module _ (p b : ℕ) (s : List ℕ) (ih : Reread (suc p) s) (good : allowed b �
   slash-kind e false true k l = of-run (opened p) b-opened (rw e (slash-does p s ∙ rw (k, l)))
   slash-kind e false false k l =
       let a : (q : ℕ) (t : List ℕ) → starts 47 t ≡ false → starts 42 t ≡ false → act plain q b t ≡ token (b ∷ []) plain =
-          λ q t f g. rw e (slash-does q t ∙ rw (f, g)) in
+      λ q t f g. rw e (slash-does q t ∙ rw (f, g)) in
       of-token (token-kept p b s (b ∷ []) plain refl (a p s k l))
       (λ q. sign-same p b s ih q
       (a q (rest none plain (suc p) s) (same-starts (suc p) 47 s slash-mark k) (same-starts (suc p) 42 s star-mark l)) (a p s k l))

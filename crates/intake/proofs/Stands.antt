@@ -88,16 +88,23 @@ module _ (x : Intake) (p : ℕ) (r : Option Bool) (runs : Runs (x .run) r) where
     unfolding stepped
     plain-slash =
         record {
-          mode = plain; place = p; held = 47 ∷ []; run = r;
+          mode = plain;
+          place = p;
+          held = 47 ∷ [];
+          run = r;
           reads = record { stands = at-slash refl (omega arith); runs = runs; placed = omega arith };
-          becomes = λ s. refl; faults = λ s. refl;
+          becomes = λ s. refl;
+          faults = λ s. refl;
         }
 
     plain-blank : (b : ℕ) → blank b ≡ true → Steps (stepped x [] (markWith (x .run) b) isPlain 0) plain p (λ s. b ∷ s) r
     unfolding stepped pieceOf
     plain-blank b k =
         record {
-          mode = plain; place = suc p; held = []; run = longer r (eqb b 10);
+          mode = plain;
+          place = suc p;
+          held = [];
+          run = longer r (eqb b 10);
           reads = record { stands = in-plain refl; runs = runs-with b runs; placed = omega arith };
           becomes = λ s. sym (run-goes plain plain p b s (blank-act p b s k) refl r);
           faults = λ s. sym (fault-goes plain plain p b s (blank-act p b s k));
@@ -108,7 +115,10 @@ module _ (x : Intake) (p : ℕ) (r : Option Bool) (runs : Runs (x .run) r) where
     unfolding stepped
     plain-kept b g k o =
         record {
-          mode = plain; place = suc p; held = []; run = none;
+          mode = plain;
+          place = suc p;
+          held = [];
+          run = none;
           reads = record { stands = in-plain refl; runs = no-run refl; placed = omega arith };
           becomes = λ s. append-assoc (waiting (x .run)) (b ∷ []) _ ∙ rw (runs-waiting runs) (sym (sign-kept p b s g k o r));
           faults = λ s. sym (sign-fault p b s g k o);
@@ -118,7 +128,10 @@ module _ (x : Intake) (p : ℕ) (r : Option Bool) (runs : Runs (x .run) r) where
     unfolding stepped pieceOf
     line-lf =
         record {
-          mode = plain; place = suc p; held = []; run = longer r true;
+          mode = plain;
+          place = suc p;
+          held = [];
+          run = longer r true;
           reads = record { stands = in-plain refl; runs = runs-with 10 runs; placed = omega arith };
           becomes = λ s. sym (run-goes line plain p 10 s (lf-does p s) refl r);
           faults = λ s. sym (fault-goes line plain p 10 s (lf-does p s));
@@ -128,7 +141,10 @@ module _ (x : Intake) (p : ℕ) (r : Option Bool) (runs : Runs (x .run) r) where
     unfolding stepped pieceOf
     line-other b g o =
         record {
-          mode = line; place = suc p; held = []; run = longer r (eqb b 10);
+          mode = line;
+          place = suc p;
+          held = [];
+          run = longer r (eqb b 10);
           reads = record { stands = in-line refl; runs = runs-with b runs; placed = omega arith };
           becomes = λ s. sym (run-goes line line p b s (line-does p b s g o) refl r);
           faults = λ s. sym (fault-goes line line p b s (line-does p b s g o));
@@ -152,9 +168,13 @@ module _ (x : Intake) (p : ℕ) (r : Option Bool) (runs : Runs (x .run) r) where
       unfolding stepped
       block-at-star =
           record {
-            mode = block q; place = p; held = 42 ∷ []; run = longer r false;
+            mode = block q;
+            place = p;
+            held = 42 ∷ [];
+            run = longer r false;
             reads = record { stands = at-star refl h; runs = runs-with 42 runs; placed = omega arith };
-            becomes = star-twice; faults = λ s. refl;
+            becomes = star-twice;
+            faults = λ s. refl;
           }
 
       block-other : (b : ℕ) → allowed b ≡ true → (b ≡ 42 → ⊥)
@@ -162,7 +182,10 @@ module _ (x : Intake) (p : ℕ) (r : Option Bool) (runs : Runs (x .run) r) where
       unfolding stepped pieceOf
       block-other b g o =
           record {
-            mode = block q; place = suc p; held = []; run = longer r (eqb b 10);
+            mode = block q;
+            place = suc p;
+            held = [];
+            run = longer r (eqb b 10);
             reads = record { stands = in-block refl h; runs = runs-with b runs; placed = omega arith };
             becomes = λ s. sym (run-goes (block q) (block q) p b s (block-does p b s q g (rw (ne-eqb b 42 o))) refl r);
             faults = λ s. sym (fault-goes (block q) (block q) p b s (block-does p b s q g (rw (ne-eqb b 42 o))));
@@ -177,7 +200,10 @@ module _ (x : Intake) (p : ℕ) (r : Option Bool) (runs : Runs (x .run) r) where
     unfolding stepped pieceOf
     slash-to-line =
         record {
-          mode = line; place = suc (suc p); held = []; run = longer r false;
+          mode = line;
+          place = suc (suc p);
+          held = [];
+          run = longer r false;
           reads = record { stands = in-line refl; runs = runs-with 47 runs; placed = omega arith };
           becomes = λ s.
               sym
@@ -196,7 +222,10 @@ module _ (x : Intake) (p : ℕ) (r : Option Bool) (runs : Runs (x .run) r) where
     unfolding stepped pieceOf
     slash-to-block h =
         record {
-          mode = block p; place = suc (suc p); held = []; run = longer r false;
+          mode = block p;
+          place = suc (suc p);
+          held = [];
+          run = longer r false;
           reads = record { stands = in-block refl h; runs = runs-with 42 runs; placed = omega arith };
           becomes = λ s.
               sym
@@ -219,7 +248,10 @@ module _ (x : Intake) (p : ℕ) (r : Option Bool) (runs : Runs (x .run) r) where
       unfolding stepped pieceOf
       slash-then-blank k =
           record {
-            mode = plain; place = suc (suc p); held = []; run = longer none (eqb b 10);
+            mode = plain;
+            place = suc (suc p);
+            held = [];
+            run = longer none (eqb b 10);
             reads = record { stands = in-plain refl; runs = runs-with b (no-run refl); placed = omega arith };
             becomes = λ s.
                 append-assoc (waiting (x .run)) (47 ∷ []) _
@@ -235,7 +267,10 @@ module _ (x : Intake) (p : ℕ) (r : Option Bool) (runs : Runs (x .run) r) where
       unfolding stepped ofRun
       slash-then-kept g k =
           record {
-            mode = plain; place = suc (suc p); held = []; run = none;
+            mode = plain;
+            place = suc (suc p);
+            held = [];
+            run = none;
             reads = record { stands = in-plain refl; runs = no-run refl; placed = omega arith };
             becomes = λ s.
                 append-assoc (waiting (x .run)) (47 ∷ b ∷ []) _
@@ -255,7 +290,10 @@ module _ (x : Intake) (p : ℕ) (r : Option Bool) (runs : Runs (x .run) r) where
       unfolding stepped pieceOf
       star-to-plain =
           record {
-            mode = plain; place = suc (suc p); held = []; run = longer r false;
+            mode = plain;
+            place = suc (suc p);
+            held = [];
+            run = longer r false;
             reads = record { stands = in-plain refl; runs = runs-with 47 runs; placed = omega arith };
             becomes = λ s.
                 sym
@@ -275,7 +313,10 @@ module _ (x : Intake) (p : ℕ) (r : Option Bool) (runs : Runs (x .run) r) where
       unfolding stepped pieceOf
       star-at-star =
           record {
-            mode = block q; place = suc p; held = 42 ∷ []; run = longer r false;
+            mode = block q;
+            place = suc p;
+            held = 42 ∷ [];
+            run = longer r false;
             reads = record { stands = at-star refl h; runs = runs-with 42 runs; placed = omega arith };
             becomes = λ s. sym (run-goes (block q) (block q) p 42 (42 ∷ s) (stays 42 s (λ z. omega arith)) refl r);
             faults = λ s. sym (fault-goes (block q) (block q) p 42 (42 ∷ s) (stays 42 s (λ z. omega arith)));
@@ -286,7 +327,10 @@ module _ (x : Intake) (p : ℕ) (r : Option Bool) (runs : Runs (x .run) r) where
       unfolding stepped pieceOf
       star-to-block b g o n =
           record {
-            mode = block q; place = suc (suc p); held = []; run = longer r (eqb b 10);
+            mode = block q;
+            place = suc (suc p);
+            held = [];
+            run = longer r (eqb b 10);
             reads = record { stands = in-block refl h; runs = runs-with b runs; placed = omega arith };
             becomes = λ s.
                 sym

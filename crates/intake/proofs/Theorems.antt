@@ -94,7 +94,7 @@ cut-alike cs ds store e =
     let f = finishes cs store in
     let g = finishes ds store in
     let k : finish store (takes (roomOf store) start (allChunks cs)) ≡ finish store (takes (roomOf store) start (allChunks ds)) =
-        ap (λ (s : List ℕ). finish store (takes (roomOf store) start s)) e in
+    ap (λ (s : List ℕ). finish store (takes (roomOf store) start s)) e in
     let a : intake cs store .0 ≡ intake ds store .0 = f .0 ∙ ap (λ (z : Progress × List ℕ). z .0) k ∙ sym (g .0) in
     (a, λ n h. f .1 n h ∙ ap (λ (z : Progress × List ℕ). z .1) k ∙ sym (g .1 n (sym a ∙ h)))
 

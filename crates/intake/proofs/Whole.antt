@@ -138,9 +138,17 @@ module _ (room : ℕ) where
   unfolding takes refusal behind
   reads-through {x} {m} {p} {held} {r} k [] =
       record {
-        mode = m; place = p; held = held; run = r; reads = k;
-        becomes = rw (append-nil held); faults = rw (append-nil held);
-        counted = omega arith; short = λ h. omega arith; stored = omega arith; within = inl refl;
+        mode = m;
+        place = p;
+        held = held;
+        run = r;
+        reads = k;
+        becomes = rw (append-nil held);
+        faults = rw (append-nil held);
+        counted = omega arith;
+        short = λ h. omega arith;
+        stored = omega arith;
+        within = inl refl;
       }
   reads-through {x} {m} {p} {held} {r} k (b ∷ s) = by (eqb (refusal room x b) 0) refl (λ n q h t l. reads-through {x = step x b .intake} {m = n} {p = q} {held = h} {r = t} l s)
     where
@@ -154,7 +162,11 @@ module _ (room : ℕ) where
           let c = step-counts x b in
           let w : step x b .intake .stored ≡ x .stored + length (step x b .adds) = c .stored in
           record {
-            mode = g .mode; place = g .place; held = g .held; run = g .run; reads = g .reads;
+            mode = g .mode;
+            place = g .place;
+            held = g .held;
+            run = g .run;
+            reads = g .reads;
             becomes = append-assoc (step x b .adds) a _ ∙ ap (λ (l : List ℕ). step x b .adds ++ l) (g .becomes) ∙ st .becomes s;
             faults = g .faults ∙ st .faults s;
             counted = omega (arith, g .counted, c .taken);
@@ -200,9 +212,9 @@ module _ (room : ℕ) where
       goes st g ih =
           let c = step-counts x b in
           let n : length (step x b .adds) + length (rest (st .run) (st .mode) (st .place) (st .held ++ s)) ≡ length (rest r m p (held ++ b ∷ s)) =
-              sym (length-append (step x b .adds) _) ∙ ap length (st .becomes s) in
+          sym (length-append (step x b .adds) _) ∙ ap length (st .becomes s) in
           let q : refusal room x b ≡ 0 =
-              refused-not room x b (length (step x b .adds)) (omega arith) g (lacks-not room (x .stored) _ (omega arith)) in
+          refused-not room x b (length (step x b .adds)) (omega arith) g (lacks-not room (x .stored) _ (omega arith)) in
           ap passes (takes-on room x b s q)
           ∙ passes-behind _ _
           ∙ ih (omega (arith, c .taken)) (st .faults s ∙ f) (omega (arith, c .stored))

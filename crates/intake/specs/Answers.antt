@@ -9,7 +9,7 @@ use Rattle.intake.specs.declared.Intake.{Intake}
 use Rattle.intake.specs.declared.Change.{Change}
 use Rattle.intake.specs.declared.Progress.{Progress}
 use Rattle.intake.specs.declared.Progress.the-variants.{Open, Refused, Closed}
-use Rattle.intake.specs.Intake.{markWith, Step, stepped, Taken, on, refused, written}
+use Rattle.intake.specs.Intake.{Step, stepped, Taken, on, refused, written}
 
 -- a byte that is stored, or is not
 unfoldable pub onlyIf : Bool → ℕ → List ℕ
@@ -27,10 +27,9 @@ stepBy x b c = stepped x (addsOf (x .run) b c) (c .run) (c .mode) (c .opening)
 abbrev pub movedBy : Intake → Change → ℕ → Intake
 movedBy x c stored = record { taken = x .taken + 1; stored = stored; run = c .run; mode = c .mode; opening = c .opening }
 
--- a byte of a run changes this
-abbrev pub waitsOf : (run b mode opening : ℕ) → Change
-waitsOf run b mode opening =
-    record { mark = false; slash = false; kept = false; run = markWith run b; mode = mode; opening = opening }
+-- nothing is stored
+abbrev pub holdsOf : (run mode opening : ℕ) → Change
+holdsOf run mode opening = record { mark = false; slash = false; kept = false; run = run; mode = mode; opening = opening }
 
 -- what waits at the close, as a change
 abbrev pub lastOf : Bool → Change

@@ -7,7 +7,7 @@ ghost use Prim.Native.Nat.{ℕ, suc, _+_, _<_, _≤_, min};
 ghost use lib.ListN.{length};
 ghost use Rattle.tokens.specs.Refusals.{textMost};
 ghost use Rattle.intake.specs.Intake.{rawMost, roomOf, markWith, outside as outsideOf, behindSlash, inLine, inBlock, behindStar, step as stepOf, lacks as lacksOf, refusalOf, takes, written, chunked, closed as closedOf, begun};
-ghost use Rattle.intake.specs.Answers.{onlyIf, addsOf, stepBy, waitsOf, lastOf, movedBy, answered, added, passes, Puts};
+ghost use Rattle.intake.specs.Answers.{onlyIf, addsOf, stepBy, holdsOf, lastOf, movedBy, answered, added, passes, Puts};
 
 // The most bytes of a raw text, and of a store.
 const RAW: usize = 1_048_576;
@@ -71,18 +71,25 @@ fn mark_with(run: u8, b: u8) -> u8
     if (b == 10) | (run == 10) { 10 } else { 32 }
 }
 
-// A byte of a run: nothing is stored, and the intake stands in a mode.
-fn waits(run: u8, b: u8, mode: u8, opening: usize) -> Change
-    ensures { λ r. ⌜ r ≡ waitsOf run b mode opening ⌝ }
+// Nothing is stored: a mark, or none, waits, and the intake stands in a mode.
+fn holds(run: u8, mode: u8, opening: usize) -> Change
+    ensures { λ r. ⌜ r ≡ holdsOf run mode opening ⌝ }
 {
     Change {
         mark: false,
         slash: false,
         kept: false,
-        run: mark_with(run, b),
+        run,
         mode,
         opening,
     }
+}
+
+// A byte of a run.
+fn waits(run: u8, b: u8, mode: u8, opening: usize) -> Change
+    ensures { λ r. ⌜ r ≡ holdsOf (markWith run b) mode opening ⌝ }
+{
+    holds(mark_with(run, b), mode, opening)
 }
 
 // Outside comments.
@@ -90,14 +97,7 @@ fn outside(it: Intake, b: u8) -> Change
     ensures { λ r. ⌜ stepBy it b r ≡ outsideOf it b ⌝ }
 {
     if b == b'/' {
-        return Change {
-            mark: false,
-            slash: false,
-            kept: false,
-            run: it.run,
-            mode: SLASH,
-            opening: it.taken,
-        };
+        return holds(it.run, SLASH, it.taken);
     }
     if is_blank(b) {
         return waits(it.run, b, PLAIN, 0);
@@ -214,13 +214,15 @@ fn lacks(room: usize, stored: usize, n: usize) -> bool
 fn refusal(room: usize, it: Intake, b: u8, n: usize) -> u8
     ensures { λ r. ⌜ r ≡ refusalOf room it b n ⌝ }
 {
+    let good = is_allowed(b);
+    let full = lacks(room, it.stored, n);
     if RAW <= it.taken {
         return TOO_LONG;
     }
-    if !is_allowed(b) {
+    if !good {
         return BAD_BYTE;
     }
-    if lacks(room, it.stored, n) {
+    if full {
         return NO_STORE;
     }
     0
@@ -325,6 +327,20 @@ fn take_open(it: Intake, chunk: &[u8], store: &mut [u8]) -> Progress
     }
 }
 
+// What waits goes to the store.
+fn last(slash: bool) -> Change
+    ensures { λ r. ⌜ r ≡ lastOf slash ⌝ }
+{
+    Change {
+        mark: true,
+        slash,
+        kept: false,
+        run: 0,
+        mode: PLAIN,
+        opening: 0,
+    }
+}
+
 // The close, where the intake is open.
 fn close_open(it: Intake, store: &mut [u8]) -> Progress
     ensures { λ r. ⌜ r ≡ closedOf (Progress.Open it) (now (store .entry)) .0 ⌝ }
@@ -340,20 +356,6 @@ fn close_open(it: Intake, store: &mut [u8]) -> Progress
     }
     let end = put(store, it.stored, it.run, 0, c);
     Progress::Closed(end)
-}
-
-// What waits goes to the store.
-fn last(slash: bool) -> Change
-    ensures { λ r. ⌜ r ≡ lastOf slash ⌝ }
-{
-    Change {
-        mark: true,
-        slash,
-        kept: false,
-        run: 0,
-        mode: PLAIN,
-        opening: 0,
-    }
 }
 
 // ---- the calls

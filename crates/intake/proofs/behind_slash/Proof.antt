@@ -1,7 +1,7 @@
 -- `behind_slash` meets its contract: by what the byte is, a line of the definition's table.
 use mathlib.Core.Path.{sym, _∙_}
 use borrow.Author.Needs.{needs}
-use Rattle.intake.proofs.Bytes.{slash-line, slash-block, slash-blank, slash-kept, waits-step, slash-only-step, slash-kept-step}
+use Rattle.intake.proofs.Bytes.{slash-line, slash-block, slash-blank, slash-kept, holds-step, slash-only-step, slash-kept-step}
 use Rattle.intake.proofs.behind_slash.Statement.{statement}
 use Rattle.intake.proofs.behind_slash.Tie as tie
 
@@ -9,13 +9,13 @@ waits-requires : tie.Need-waits-requires
 waits-requires c κs = search needs
 
 returns : tie.Need-returns
-returns c = waits-step (c .before .before .args .it) (c .before .before .args .b) _ _ (c .waits .ensures) ∙ sym (slash-line (c .before .before .args .it) (c .before .before .args .b) (c .before .if1 .taken))
+returns c = holds-step (c .before .before .args .it) (c .before .before .args .b) _ _ _ (c .waits .ensures) ∙ sym (slash-line (c .before .before .args .it) (c .before .before .args .b) (c .before .if1 .taken))
 
 waits-requires-2 : tie.Need-waits-requires-2
 waits-requires-2 c κs = search needs
 
 returns-2 : tie.Need-returns-2
-returns-2 c = waits-step (c .before .before .before .args .it) (c .before .before .before .args .b) _ _ (c .waits2 .ensures) ∙ sym (slash-block (c .before .before .before .args .it) (c .before .before .before .args .b) (c .before .if2 .taken))
+returns-2 c = holds-step (c .before .before .before .args .it) (c .before .before .before .args .b) _ _ _ (c .waits2 .ensures) ∙ sym (slash-block (c .before .before .before .args .it) (c .before .before .before .args .b) (c .before .if2 .taken))
 
 is-blank-requires : tie.Need-is-blank-requires
 is-blank-requires c κs = search needs

@@ -1,7 +1,7 @@
 -- `behind_star` meets its contract: a `/` closes the comment, and any other byte is one of the comment.
 use mathlib.Core.Path.{sym, _∙_}
 use borrow.Author.Needs.{needs}
-use Rattle.intake.proofs.Bytes.{star-closes, star-goes, waits-step}
+use Rattle.intake.proofs.Bytes.{star-closes, star-goes, holds-step}
 use Rattle.intake.proofs.behind_star.Statement.{statement}
 use Rattle.intake.proofs.behind_star.Tie as tie
 
@@ -9,7 +9,7 @@ waits-requires : tie.Need-waits-requires
 waits-requires c κs = search needs
 
 returns : tie.Need-returns
-returns c = waits-step (c .before .before .args .it) (c .before .before .args .b) _ _ (c .waits .ensures) ∙ sym (star-closes (c .before .before .args .it) (c .before .before .args .b) (c .before .if1 .taken))
+returns c = holds-step (c .before .before .args .it) (c .before .before .args .b) _ _ _ (c .waits .ensures) ∙ sym (star-closes (c .before .before .args .it) (c .before .before .args .b) (c .before .if1 .taken))
 
 in-block-requires : tie.Need-in-block-requires
 in-block-requires c κs = search needs

@@ -1,12 +1,15 @@
 -- `outside` meets its contract: by what the byte is, a line of the definition's table.
 use mathlib.Core.Path.{sym, _∙_}
 use borrow.Author.Needs.{needs}
-use Rattle.intake.proofs.Bytes.{outside-slash, outside-blank, outside-kept, waits-step, slash-step, kept-step}
+use Rattle.intake.proofs.Bytes.{outside-slash, outside-blank, outside-kept, holds-step, kept-step}
 use Rattle.intake.proofs.outside.Statement.{statement}
 use Rattle.intake.proofs.outside.Tie as tie
 
+holds-requires : tie.Need-holds-requires
+holds-requires c κs = search needs
+
 returns : tie.Need-returns
-returns c = slash-step (c .before .args .it) (c .before .args .b) _ _ _ ∙ sym (outside-slash (c .before .args .it) (c .before .args .b) (c .if1 .taken))
+returns c = holds-step (c .before .before .args .it) (c .before .before .args .b) _ _ _ (c .holds .ensures) ∙ sym (outside-slash (c .before .before .args .it) (c .before .before .args .b) (c .before .if1 .taken))
 
 is-blank-requires : tie.Need-is-blank-requires
 is-blank-requires c κs = search needs
@@ -15,10 +18,12 @@ waits-requires : tie.Need-waits-requires
 waits-requires c κs = search needs
 
 returns-2 : tie.Need-returns-2
-returns-2 c = waits-step (c .before .before .before .before .args .it) (c .before .before .before .before .args .b) _ _ (c .waits .ensures) ∙ sym (outside-blank (c .before .before .before .before .args .it) (c .before .before .before .before .args .b) (c .before .before .before .if1 .left) (sym (c .before .before .is-blank .ensures) ∙ c .before .if2 .taken))
+returns-2 c = holds-step (c .before .before .before .before .args .it) (c .before .before .before .before .args .b) _ _ _ (c .waits .ensures) ∙ sym (outside-blank (c .before .before .before .before .args .it) (c .before .before .before .before .args .b) (c .before .before .before .if1 .left) (sym (c .before .before .is-blank .ensures) ∙ c .before .if2 .taken))
 
 returns-3 : tie.Need-returns-3
 returns-3 c = kept-step (c .before .before .before .args .it) (c .before .before .before .args .b) _ _ _ ∙ sym (outside-kept (c .before .before .before .args .it) (c .before .before .before .args .b) (c .before .before .if1 .left) (sym (c .before .is-blank .ensures) ∙ c .if2 .left))
 
 pub outside-spec : {M : Type 1} → statement M
-outside-spec = tie.close (tie.spec returns is-blank-requires waits-requires returns-2 returns-3)
+outside-spec =
+    tie.close
+    (tie.spec holds-requires returns is-blank-requires waits-requires returns-2 returns-3)

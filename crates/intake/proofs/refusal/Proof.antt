@@ -6,30 +6,30 @@ use Rattle.intake.proofs.Bytes.{refused-long, refused-bad, refused-room
 use Rattle.intake.proofs.refusal.Statement.{statement}
 use Rattle.intake.proofs.refusal.Tie as tie
 
-returns : tie.Need-returns
-returns c = sym (refused-long _ _ _ _ (c .if1 .taken))
-
 is-allowed-requires : tie.Need-is-allowed-requires
 is-allowed-requires c κs = search needs
-
-returns-2 : tie.Need-returns-2
-returns-2 c = sym (refused-bad _ (c .before .before .before .before .args .it) _ _ (c .before .before .if1 .left) (sym (c .before .is-allowed .ensures) ∙ not-true _ (c .if2 .taken)))
 
 lacks-requires : tie.Need-lacks-requires
 lacks-requires c κs = search needs
 
+returns : tie.Need-returns
+returns c = sym (refused-long _ _ _ _ (c .if1 .taken))
+
+returns-2 : tie.Need-returns-2
+returns-2 c = sym (refused-bad _ (c .before .before .before .before .before .args .it) _ _ (c .before .if1 .left) (sym (c .before .before .before .before .is-allowed .ensures) ∙ not-true _ (c .if2 .taken)))
+
 returns-3 : tie.Need-returns-3
 returns-3 c =
     sym
-    (refused-room _ (c .before .before .before .before .before .before .args .it) _ _ (c .before .before .before .before .if1 .left) (sym (c .before .before .before .is-allowed .ensures) ∙ not-false _ (c .before .before .if2 .left))
-    (sym (c .before .lacks .ensures) ∙ c .if3 .taken))
+    (refused-room _ (c .before .before .before .before .before .before .args .it) _ _ (c .before .before .if1 .left) (sym (c .before .before .before .before .before .is-allowed .ensures) ∙ not-false _ (c .before .if2 .left))
+    (sym (c .before .before .before .before .lacks .ensures) ∙ c .if3 .taken))
 
 returns-4 : tie.Need-returns-4
 returns-4 c =
     sym
-    (refused-not _ (c .before .before .before .before .before .before .args .it) _ _ (c .before .before .before .before .if1 .left) (sym (c .before .before .before .is-allowed .ensures) ∙ not-false _ (c .before .before .if2 .left))
-    (sym (c .before .lacks .ensures) ∙ c .if3 .left))
+    (refused-not _ (c .before .before .before .before .before .before .args .it) _ _ (c .before .before .if1 .left) (sym (c .before .before .before .before .before .is-allowed .ensures) ∙ not-false _ (c .before .if2 .left))
+    (sym (c .before .before .before .before .lacks .ensures) ∙ c .if3 .left))
 
 pub refusal-spec : {M : Type 1} → statement M
 refusal-spec =
-    tie.close (tie.spec returns is-allowed-requires returns-2 lacks-requires returns-3 returns-4)
+    tie.close (tie.spec is-allowed-requires lacks-requires returns returns-2 returns-3 returns-4)
