@@ -7,3 +7,4 @@ mod Whole
 mod Joined
 mod Same
 pub mod Theorems
+mod Samples

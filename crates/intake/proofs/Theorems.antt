@@ -7,22 +7,25 @@ use mathlib.Core.Bool.{Bool, true, false, _||_}
 use mathlib.Core.Logic.{_⊎_, inl, inr}
 use mathlib.Core.Option.{Option, none, some}
 use mathlib.Core.List.{List, [], _∷_, _++_}
-use lib.ListN.{length, drop, length-append}
-use Rattle.tokens.specs.Refusals.{badByte, openComment}
-use Rattle.tokens.specs.Tokens.{plain, toks, faultIn}
+use lib.ListN.{length, take, drop, length-append}
+use lib.Seq.{take-at}
+use borrow.Author.Tests.{le-leb}
+use Rattle.tokens.specs.Refusals.{textMost, badByte, openComment}
+use Rattle.tokens.specs.Tokens.{plain, toks, faultIn, faultOf}
 use Rattle.intake.specs.declared.Intake.{Intake}
 use Rattle.intake.specs.declared.Progress.{Progress}
 use Rattle.intake.specs.declared.Progress.the-variants.{Open, Refused, Closed}
 use Rattle.intake.specs.Squeezed.{squeezed}
-use Rattle.intake.specs.Intake.{rawMost, roomOf, lacks, Taken, on, refused, takes, written, afterTaking, chunked, lastBytes, closing, afterClosing, closed, begun}
-use Rattle.intake.specs.Calls.{calls, allChunks, intake}
+use Rattle.intake.specs.Intake.{rawMost, noStore, roomOf, lacks, Taken, on, refused, takes, written, afterTaking, chunked, lastBytes, closing, afterClosing, closed, begun}
+use Rattle.intake.specs.Calls.{calls, allChunks, intake, wordsOf}
 use Rattle.intake.specs.Answers.{passes}
 use Rattle.intake.proofs.Bytes.{lacks-fits, lacks-not}
 use Rattle.intake.proofs.Stores.{Within, written-more}
-use Rattle.intake.proofs.Turns.{closed-in-comment, closed-no-room, closed-closes}
+use Rattle.intake.proofs.Turns.{Takes, Closes, closed-in-comment, closed-no-room, closed-closes}
 use Rattle.intake.proofs.Pieces.{rest, fault}
 use Rattle.intake.proofs.Stands.{in-plain, no-run, Reads}
 use Rattle.intake.proofs.Whole.{Through, Passes, reads-through, reads-pass}
+use Rattle.intake.proofs.Same.{squeezed-same}
 use Rattle.intake.proofs.Joined.{calls-refused, calls-closed, Called, calls-is, within-store, same-room, Ends, shut, open-still, reads-ends}
 
 -- ---- a refused call writes nothing, and what is refused or closed stays so
@@ -162,7 +165,7 @@ module _ (raw store : List ℕ) where
                 → Squeezes raw store n (closed (Open y) (written store 0 a) .1)
             at-end true q =
                 let k = closed-no-room (written store 0 a) y e q in
-                let l : closed (Open y) (written store 0 a) .0 ≡ Refused 20 (y .taken) = ap (λ (z : Progress × List ℕ). z .0) k in
+                let l : closed (Open y) (written store 0 a) .0 ≡ Refused noStore (y .taken) = ap (λ (z : Progress × List ℕ). z .0) k in
                 let z : _≡_ {A = ℕ} 0 1 = cc in
                 absurd (omega arith)
             at-end false q =
@@ -220,3 +223,107 @@ fitting-closed cs store f =
     let raw = allChunks cs in
     finishes cs store .0
     ∙ squeezed-finish raw store (takes (roomOf store) start raw) (reads-through (roomOf store) reads-start raw) (fitting-passes raw store f) f
+
+-- ---- refusals 2 and 3 are the raw text's own fault, at its place
+
+module _ (raw store : List ℕ) where
+  close-refused : (y : Intake) (a : List ℕ) → Through (roomOf store) start plain 0 raw (length raw) none y a → (n q : ℕ)
+      → closed (Open y) (written store 0 a) .0 ≡ Refused n q → (n ≡ badByte) ⊎ (n ≡ openComment) → faultIn (toks raw 0) ≡ some (n, q)
+  unfolding toks
+  close-refused y a g n q h d = by (reads-ends (g .reads))
+    where
+      other : (m : ℕ) → n ≡ m → (m ≡ badByte → ⊥) → (m ≡ openComment → ⊥) → ⊥
+      other m e f o = either d
+        where
+          either : (n ≡ badByte) ⊎ (n ≡ openComment) → ⊥
+          either (inl k) = f (sym e ∙ k)
+          either (inr k) = o (sym e ∙ k)
+
+      by : Ends y (g .mode) (g .place) (g .held) (g .run) → fault plain 0 raw ≡ some (n, q)
+      by (open-still e f) =
+          let l : closed (Open y) (written store 0 a) .0 ≡ Refused openComment (y .opening) =
+          ap (λ (z : Progress × List ℕ). z .0) (closed-in-comment (written store 0 a) y e) in
+          let u : openComment ≡ n = cc in
+          let v : y .opening ≡ q = cc in
+          sym (g .faults) ∙ f ∙ rw (u, v)
+      by (shut e f w) = at-end (lacks (roomOf (written store 0 a)) (y .stored) (length (lastBytes y))) refl
+        where
+          at-end : (t : Bool) → lacks (roomOf (written store 0 a)) (y .stored) (length (lastBytes y)) ≡ t → fault plain 0 raw ≡ some (n, q)
+          at-end true k =
+              let l : closed (Open y) (written store 0 a) .0 ≡ Refused noStore (y .taken) =
+              ap (λ (z : Progress × List ℕ). z .0) (closed-no-room (written store 0 a) y e k) in
+              let u : n ≡ noStore = cc in
+              absurd (other noStore u (λ z. omega arith) (λ z. omega arith))
+          at-end false k =
+              let l : closed (Open y) (written store 0 a) .0 ≡ Closed (y .stored + length (lastBytes y)) =
+              ap (λ (z : Progress × List ℕ). z .0) (closed-closes (written store 0 a) y e k) in
+              let z : _≡_ {A = ℕ} 0 1 = cc in
+              absurd (omega arith)
+
+  finish-refused : (t : Taken) → Passes (roomOf store) start plain 0 raw (length raw) none t → (n q : ℕ) → finish store t .0 ≡ Refused n q
+      → (n ≡ badByte) ⊎ (n ≡ openComment) → faultIn (toks raw 0) ≡ some (n, q)
+  unfolding toks
+  finish-refused (on y a) g n q h d = close-refused y a g n q h d
+  finish-refused (refused m p) g n q h d = by d
+    where
+      by : (n ≡ badByte) ⊎ (n ≡ openComment) → fault plain 0 raw ≡ some (n, q)
+      by (inl k) =
+          let u : m ≡ n = cc in
+          let v : p ≡ q = cc in
+          g .0 (u ∙ k) ∙ rw (v, k)
+      by (inr k) =
+          let u : m ≡ n = cc in
+          absurd (g .1 (u ∙ k))
+
+pub refused-as-read : (cs : List (List ℕ)) (store : List ℕ) (n q : ℕ) → intake cs store .0 ≡ Refused n q → (n ≡ badByte) ⊎ (n ≡ openComment)
+    → faultIn (toks (allChunks cs) 0) ≡ some (n, q)
+refused-as-read cs store n q h d =
+    let raw = allChunks cs in
+    finish-refused raw store (takes (roomOf store) start raw) (reads-through (roomOf store) reads-start raw) n q (sym (finishes cs store .0) ∙ h) d
+
+-- ---- the store reads as the same tokens
+
+room-most : (store : List ℕ) → roomOf store ≤ textMost
+unfolding roomOf
+room-most store = omega arith
+
+pub same-tokens : (raw : List ℕ) → faultIn (toks raw 0) ≡ none
+    → (wordsOf (toks (squeezed raw) 0) ≡ wordsOf (toks raw 0)) × (faultIn (toks (squeezed raw) 0) ≡ none)
+same-tokens raw clean = squeezed-same raw clean
+
+short-clean : (text : List ℕ) → length text ≤ textMost → faultIn (toks text 0) ≡ none → faultOf text ≡ none
+unfolding faultOf
+short-clean text h k = rw (le-leb (length text) textMost h, faultOf) k
+
+-- a closed store's first n bytes are a text of the document's length with no fault, and have the raw text's tokens
+pub store-reads : (cs : List (List ℕ)) (store : List ℕ) (n : ℕ) → intake cs store .0 ≡ Closed n
+    → (wordsOf (toks (take n (intake cs store .1)) 0) ≡ wordsOf (toks (allChunks cs) 0)) × (faultOf (take n (intake cs store .1)) ≡ none)
+store-reads cs store n h =
+    let s = closed-squeezed cs store n h in
+    let text = squeezed (allChunks cs) in
+    let t : take n (intake cs store .1) ≡ text = rw (s .filled) (take-at text (drop n store) n (sym (s .size))) in
+    let k = same-tokens (allChunks cs) (s .fitting .clean) in
+    rw t (k .0, short-clean text (omega (arith, s .fitting .roomy, room-most store)) (k .1))
+
+-- ---- the contracts allow one answer and one store
+
+pub one-answer : (p : Progress) (chunk store : List ℕ) {r q : Progress} {after other : List ℕ} → Takes p chunk store r after → Takes p chunk store q other
+    → (r ≡ q) × (after ≡ other)
+one-answer p chunk store a b = (a .0 ∙ sym (b .0), a .1 ∙ sym (b .1))
+
+pub one-close : (p : Progress) (store : List ℕ) {r q : Progress} {after other : List ℕ} → Closes p store r after → Closes p store q other
+    → (r ≡ q) × (after ≡ other)
+one-close p store a b = (a .0 ∙ sym (b .0), a .1 ∙ sym (b .1))
+
+-- ---- the last answer is a refusal or a length
+
+never-open : (store : List ℕ) (at : ℕ) (t : Taken) (x : Intake) → afterClosing store at t .0 ≡ Open x → ⊥
+unfolding afterClosing
+never-open store at (on y a) x e = let z : _≡_ {A = ℕ} 0 1 = cc in omega arith
+never-open store at (refused n p) x e = let z : _≡_ {A = ℕ} 0 1 = cc in omega arith
+
+pub close-answers : (p : Progress) (store : List ℕ) (x : Intake) → closed p store .0 ≡ Open x → ⊥
+unfolding closed
+close-answers (Open y) store x e = never-open store (y .stored) (closing (roomOf store) y) x e
+close-answers (Refused n q) store x e = let z : _≡_ {A = ℕ} 0 1 = cc in omega arith
+close-answers (Closed n) store x e = let z : _≡_ {A = ℕ} 0 1 = cc in omega arith

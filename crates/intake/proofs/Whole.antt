@@ -11,7 +11,7 @@ use lib.Dec.{eqb, leb}
 use borrow.Author.Tests.{eqb-true, eqb-false}
 use Rattle.tokens.specs.Written.{cases}
 use Rattle.tokens.specs.Bytes.{between, allowed, blank}
-use Rattle.tokens.specs.Refusals.{tooLong, badByte}
+use Rattle.tokens.specs.Refusals.{tooLong, badByte, openComment}
 use Rattle.tokens.specs.Tokens.{Mode, plain, line, block}
 use Rattle.intake.specs.declared.Intake.{Intake}
 use Rattle.intake.specs.Intake.{rawMost, noStore, isSlash, isLine, isBlock, isStar, Step, stepped, outside, behindSlash, inLine, inBlock, behindStar, step, lacks, refusalOf, refusal, Taken, on, refused, behind, takes}
@@ -114,7 +114,7 @@ pub record Through (room : ℕ) (x : Intake) (m : Mode) (p : ℕ) (s : List ℕ)
 
 abbrev pub Passes : (room : ℕ) (x : Intake) (m : Mode) (p : ℕ) (s : List ℕ) (n : ℕ) (r : Option Bool) → Taken → Type 0
 Passes room x m p s n r (on y adds) = Through room x m p s n r y adds
-Passes room x m p s n r (refused k q) = k ≡ badByte → fault m p s ≡ some (badByte, q)
+Passes room x m p s n r (refused k q) = (k ≡ badByte → fault m p s ≡ some (badByte, q)) × (k ≡ openComment → ⊥)
 
 -- a refusal 2 is of a byte that is not allowed
 bad-refusal : (room : ℕ) (x : Intake) (b n : ℕ) → refusalOf room x b n ≡ badByte → allowed b ≡ false
@@ -126,6 +126,17 @@ bad-refusal room x b n e = by (leb rawMost (x .taken)) (allowed b) (lacks room (
     by false false v z = refl
     by false true true z = absurd (omega arith)
     by false true false z = absurd (omega arith)
+
+-- and none is 3, which only the close gives
+no-open-refusal : (room : ℕ) (x : Intake) (b n : ℕ) → refusalOf room x b n ≡ openComment → ⊥
+unfolding refusalOf cases
+no-open-refusal room x b n e = by (leb rawMost (x .taken)) (allowed b) (lacks room (x .stored) n) e
+  where
+    by : (t u v : Bool) → cases ((t, tooLong) ∷ (not u, badByte) ∷ (v, noStore) ∷ []) 0 ≡ openComment → ⊥
+    by true u v z = omega arith
+    by false false v z = omega arith
+    by false true true z = omega arith
+    by false true false z = omega arith
 
 joined-within : (room at n m : ℕ) → Within room at n → Within room (at + n) m → Within room at (n + m)
 joined-within room at n m (inl e) (inl f) = inl (omega arith)
@@ -176,10 +187,11 @@ module _ (room : ℕ) where
                 rw (length-append (step x b .adds) a)
                 (joined-within room (x .stored) (length (step x b .adds)) (length a) (lacks-fits room (x .stored) _ (f .roomy)) (rw w at (g .within)));
           }
-      then f st (refused n q) g = λ e. sym (st .faults s) ∙ g e
+      then f st (refused n q) g = (λ e. sym (st .faults s) ∙ g .0 e, g .1)
 
-      stops : (refusal room x b ≡ 0 → ⊥) → refusal room x b ≡ badByte → fault m p (held ++ b ∷ s) ≡ some (badByte, x .taken)
-      stops h e = bad-read k b s (bad-refusal room x b (length (step x b .adds)) e)
+      stops : Passes room x m p (held ++ b ∷ s) (length (b ∷ s)) r (refused (refusal room x b) (x .taken))
+      stops =
+          (λ e. bad-read k b s (bad-refusal room x b (length (step x b .adds)) e), no-open-refusal room x b (length (step x b .adds)))
 
       by : (t : Bool) → eqb (refusal room x b) 0 ≡ t
           → ((n : Mode) (q : ℕ) (h : List ℕ) (t : Option Bool) → Reads (step x b .intake) n q h t
@@ -193,7 +205,7 @@ module _ (room : ℕ) where
           let f = first (eqb-true (refusal room x b) 0 h) in
           let st = reads-step k b (f .good) in
           then f st (takes room (step x b .intake) s) (ih (st .mode) (st .place) (st .held) (st .run) (st .reads))
-      by false h ih = stops (eqb-false (refusal room x b) 0 h)
+      by false h ih = stops
 
   -- nothing is refused where the text isn't too long, has no fault, and what becomes of it has room
   pub reads-pass : {x : Intake} {m : Mode} {p : ℕ} {held : List ℕ} {r : Option Bool} → Reads x m p held r → (s : List ℕ)
