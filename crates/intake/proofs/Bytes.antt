@@ -1,10 +1,10 @@
 -- One byte: the definition's tables by what is known of the byte, and the changes that stand for them.
 use Prim.Native.Nat.{ℕ, _+_, _-_, _^_, _≤_, _<_}
 use native.Mathlib.Omega.{arith}
-use mathlib.Core.Path.{_≡_, refl, sym, ap, _∙_}
+use mathlib.Core.Path.{_≡_, refl, sym, _∙_}
 use mathlib.Core.Bool.{Bool, true, false, not, _&&_, _||_, and-false}
 use mathlib.Core.Logic.{_⊎_, inl, inr}
-use mathlib.Core.List.{List, [], _∷_, _++_}
+use mathlib.Core.List.{[], _∷_, _++_}
 use lib.ListN.{length}
 use lib.Dec.{eqb, leb, ltb}
 use mir.Val.{boolByte, Fits}
@@ -15,7 +15,7 @@ use Rattle.tokens.specs.Bytes.{allowed, blank}
 use Rattle.tokens.specs.Refusals.{tooLong, badByte}
 use Rattle.intake.specs.declared.Intake.{Intake}
 use Rattle.intake.specs.declared.Change.{Change}
-use Rattle.intake.specs.Intake.{rawMost, noStore, isPlain, isSlash, isLine, isBlock, isStar, markWith, waiting, Step, stepped, outside, behindSlash, inLine, inBlock, behindStar, step, lacks, refusalOf, lastBytes}
+use Rattle.intake.specs.Intake.{rawMost, noStore, isPlain, isSlash, isLine, isBlock, isStar, markWith, waiting, stepped, outside, behindSlash, inLine, inBlock, behindStar, step, lacks, refusalOf, lastBytes}
 use Rattle.intake.specs.Answers.{onlyIf, addsOf, stepBy, holdsOf, lastOf}
 
 -- ---- the tables

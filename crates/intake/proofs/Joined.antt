@@ -1,30 +1,29 @@
 -- Calls one after the other do what one call with all the bytes does; the close behind them.
-use Prim.Native.Nat.{ℕ, suc, _+_, _≤_, min}
-use native.Mathlib.Nat.{zero-add}
+use Prim.Native.Nat.{ℕ, _+_, min}
 use native.Mathlib.Omega.{arith}
 use mathlib.Core.Path.{_≡_, refl, sym, ap, _∙_}
 use mathlib.Core.Bool.{Bool, true, false, _||_}
-use mathlib.Core.Logic.{_⊎_, inl, inr}
+use mathlib.Core.Logic.{inl, inr}
 use mathlib.Core.Option.{Option, none, some}
 use mathlib.Core.List.{List, [], _∷_, _++_, append-assoc, append-nil}
-use lib.ListN.{length, take, drop, length-append}
+use lib.ListN.{length}
 use lib.Dec.{eqb}
 use borrow.Author.Tests.{eqb-true, eqb-false}
 use Rattle.tokens.specs.Refusals.{textMost, openComment}
-use Rattle.tokens.specs.Tokens.{Mode, plain, line, block, ended, lex, faultIn}
+use Rattle.tokens.specs.Tokens.{Mode, plain, block, ended, lex, faultIn}
 use Rattle.tokens.proofs.Reading.{slash-does, block-does}
 use Rattle.tokens.specs.Written.{starts, cases}
 use Rattle.intake.specs.declared.Intake.{Intake}
 use Rattle.intake.specs.declared.Progress.{Progress}
 use Rattle.intake.specs.declared.Progress.the-variants.{Open, Refused, Closed}
 use Rattle.intake.specs.Squeezed.{pieces, ofRun, joinedRuns}
-use Rattle.intake.specs.Intake.{roomOf, isSlash, isBlock, isStar, waiting, step, lacks, refusal, Taken, on, refused, behind, takes, written, afterTaking, chunked, lastBytes, closing, closed}
+use Rattle.intake.specs.Intake.{roomOf, isBlock, isStar, waiting, step, refusal, Taken, on, refused, behind, takes, written, afterTaking, chunked, lastBytes}
 use Rattle.intake.specs.Calls.{calls, allChunks}
 use Rattle.intake.proofs.Stores.{Within, written-none, written-more, written-length, room-least}
 use Rattle.intake.proofs.Turns.{takes-on, takes-refused}
 use Rattle.intake.proofs.Pieces.{rest, fault, token-kept, token-fault, fault-goes}
 use Rattle.intake.proofs.Stands.{Stands, in-plain, at-slash, in-line, in-block, at-star, Reads, runs-waiting, star-good}
-use Rattle.intake.proofs.Whole.{Through, Passes, reads-through}
+use Rattle.intake.proofs.Whole.{Passes, reads-through}
 
 -- ---- bytes behind bytes
 

@@ -1,22 +1,18 @@
 -- What a byte does by the token rules, as pieces of runs and as faults; what was read and isn't decided yet stands before the rest.
-use Prim.Native.Nat.{ℕ, suc, _+_}
-use native.Mathlib.Omega.{arith}
-use mathlib.Core.Path.{_≡_, refl, sym, ap, _∙_}
-use mathlib.Core.Bool.{Bool, true, false, _&&_, _||_, or-false, or-true}
+use Prim.Native.Nat.{ℕ, suc}
+use mathlib.Core.Path.{_≡_, refl}
+use mathlib.Core.Bool.{Bool, true, false, or-false}
 use mathlib.Core.Option.{Option, none, some}
-use mathlib.Core.List.{List, [], _∷_, _++_, append-assoc}
-use lib.ListN.{length}
+use mathlib.Core.List.{List, [], _∷_, _++_}
 use lib.Dec.{eqb}
-use borrow.Author.Tests.{eq-eqb, ne-eqb, eqb-true, eqb-false}
-use Rattle.tokens.specs.Written.{starts, cases}
 use Rattle.tokens.specs.Bytes.{allowed, blank, wordy}
 use Rattle.tokens.specs.Refusals.{badByte}
-use Rattle.tokens.specs.Tokens.{Mode, plain, inword, line, closing, opened, block, Act, go, token, bad, run, act, ended, done, lex, faultIn}
+use Rattle.tokens.specs.Tokens.{Mode, plain, inword, go, token, run, act, done, lex, faultIn}
 use Rattle.tokens.proofs.Allowed.{wordy-allowed, blank-allowed, blank-unwordy}
 use Rattle.tokens.proofs.Stream.{in-word, behind-word}
 use Rattle.tokens.proofs.Reading.{word-does, sign-does, blank-does, bad-does}
 use Rattle.tokens.proofs.Faults.{fault-in-word}
-use Rattle.intake.specs.Squeezed.{Piece, kept, inRun, pieceOf, modeOf, pieces, markOf, ofRun, longer, joinedRuns}
+use Rattle.intake.specs.Squeezed.{inRun, pieceOf, modeOf, pieces, ofRun, longer, joinedRuns}
 
 -- what becomes of the rest of a raw text, behind a run r
 abbrev pub rest : Option Bool → Mode → ℕ → List ℕ → List ℕ

@@ -1,22 +1,22 @@
 -- A squeezed text reads as the same tokens as its raw text: a run's mark parts what the run parted, and nothing new meets.
-use Prim.Native.Nat.{ℕ, suc, _+_}
+use Prim.Native.Nat.{ℕ, suc}
 use native.Mathlib.Omega.{arith}
-use mathlib.Core.Path.{_≡_, refl, sym, ap, _∙_, subst}
+use mathlib.Core.Path.{_≡_, refl, sym, ap, _∙_}
 use mathlib.Core.Bool.{Bool, true, false, _&&_, _||_}
 use mathlib.Core.Option.{Option, none, some}
 use mathlib.Core.List.{List, [], _∷_, _++_}
 use lib.Dec.{eqb}
-use borrow.Author.Tests.{eq-eqb, ne-eqb, eqb-true, eqb-false}
+use borrow.Author.Tests.{ne-eqb, eqb-true, eqb-false}
 use Rattle.tokens.specs.Written.{starts, cases}
-use Rattle.tokens.specs.Bytes.{between, allowed, blank, letter, digit, wordy}
+use Rattle.tokens.specs.Bytes.{allowed, blank, wordy}
 use Rattle.tokens.specs.Refusals.{badByte}
-use Rattle.tokens.specs.Tokens.{toks, Tok, Toks, stop, tok, Mode, plain, inword, line, closing, opened, block, Act, go, token, bad, run, outside, inMode, act, ended, done, lex, faultIn}
-use Rattle.tokens.proofs.Allowed.{wordy-allowed, blank-allowed, blank-unwordy}
+use Rattle.tokens.specs.Tokens.{toks, Toks, stop, Mode, plain, inword, line, closing, opened, block, Act, go, token, bad, run, inMode, act, ended, done, lex, faultIn}
+use Rattle.tokens.proofs.Allowed.{wordy-allowed, blank-unwordy}
 use Rattle.tokens.proofs.Stream.{in-word, behind-word}
-use Rattle.tokens.proofs.Reading.{slashed, word-does, sign-does, blank-does, bad-does, slash-does}
+use Rattle.tokens.proofs.Reading.{word-does, sign-does, slash-does}
 use Rattle.intake.specs.Squeezed.{squeezed, Piece, kept, inRun, pieceOf, modeOf, pieces, markOf, ofRun, longer, joinedRuns}
 use Rattle.intake.specs.Calls.{wordsOf}
-use Rattle.intake.proofs.Pieces.{rest, fault, blank-act, pieces-in-word, run-goes, token-kept, bad-fault}
+use Rattle.intake.proofs.Pieces.{rest, blank-act, pieces-in-word, run-goes, token-kept, bad-fault}
 
 -- ---- a run's mark stands before what is kept
 

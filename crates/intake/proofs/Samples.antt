@@ -58,6 +58,7 @@ texts-taken = refl
 taken : ℕ → Intake
 taken n = record { taken = n; stored = 0; run = 32; mode = 2; opening = 0 }
 
-limit-met : (chunked (Open (taken 1_048_575)) (bytes "a") [] ≡ (Open (taken 1_048_576), [])) × (chunked (Open (taken 1_048_575)) (bytes "ab") [] ≡ (Refused 1 1_048_576, []))
+limit-met : (chunked (Open (taken 1_048_575)) (bytes "a") [] ≡ (Open (taken 1_048_576), []))
+    × (chunked (Open (taken 1_048_575)) (bytes "ab") [] ≡ (Refused 1 1_048_576, []))
 unfolding taken bytes cases between blank allowed roomOf markWith waiting stepped inLine step lacks refusalOf refusal behind takes written afterTaking chunked
 limit-met = (refl, refl)

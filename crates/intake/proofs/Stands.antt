@@ -2,18 +2,18 @@
 use Prim.Native.Nat.{ℕ, suc, _+_}
 use native.Mathlib.Omega.{arith}
 use mathlib.Core.Path.{_≡_, refl, sym, ap, _∙_, subst}
-use mathlib.Core.Bool.{Bool, true, false, _&&_, _||_}
+use mathlib.Core.Bool.{Bool, true, false, _||_}
 use mathlib.Core.Option.{Option, none, some}
 use mathlib.Core.List.{List, [], _∷_, _++_, append-assoc}
 use lib.ListN.{length}
 use lib.Dec.{eqb}
-use borrow.Author.Tests.{eq-eqb, ne-eqb, eqb-true, eqb-false}
+use borrow.Author.Tests.{ne-eqb, eqb-true, eqb-false}
 use Rattle.tokens.specs.Written.{starts, cases}
 use Rattle.tokens.specs.Bytes.{between, allowed, blank}
-use Rattle.tokens.specs.Tokens.{Mode, plain, line, closing, opened, block, Act, go, token, act}
+use Rattle.tokens.specs.Tokens.{Mode, plain, line, closing, opened, block, go, token, act}
 use Rattle.tokens.proofs.Reading.{lf-does, slash-does, second-slash-does, second-star-does, star-does, last-slash-does, line-does, block-does}
 use Rattle.intake.specs.declared.Intake.{Intake}
-use Rattle.intake.specs.Squeezed.{pieceOf, inRun, ofRun, markOf, longer}
+use Rattle.intake.specs.Squeezed.{pieceOf, ofRun, markOf, longer}
 use Rattle.intake.specs.Intake.{isPlain, isSlash, isLine, isBlock, isStar, markWith, waiting, Step, stepped, outside, behindSlash, inLine, inBlock, behindStar, step}
 use Rattle.intake.proofs.Bytes.{outside-slash, outside-blank, outside-kept, slash-line, slash-block, slash-blank, slash-kept, line-ends, line-goes, block-star, block-goes, star-closes, star-goes, step-slash, step-line, step-block, step-star, step-outside}
 use Rattle.intake.proofs.Pieces.{rest, fault, longer-none, longer-same, run-goes, fault-goes, token-kept, token-fault, sign-kept, sign-fault, blank-act}
@@ -404,7 +404,8 @@ module _ (x : Intake) (p : ℕ) (r : Option Bool) (runs : Runs (x .run) r) (b : 
         by false true k l =
             let e = eqb-true b 42 l in
             rw (star-goes x b (eqb-false b 47 k), block-star x b e)
-            (subst (λ (c : ℕ). Steps (stepped x [] (markWith (x .run) c) isStar (x .opening)) (block q) p (λ s. 42 ∷ c ∷ s) r) (sym e) (star-at-star x p r runs h q o))
+            (subst (λ (c : ℕ). Steps (stepped x [] (markWith (x .run) c) isStar (x .opening)) (block q) p (λ s. 42 ∷ c ∷ s) r) (sym e)
+            (star-at-star x p r runs h q o))
         by false false k l =
             rw (star-goes x b (eqb-false b 47 k), block-goes x b (eqb-false b 42 l))
             (star-to-block x p r runs h q o b good (eqb-false b 47 k) (eqb-false b 42 l))

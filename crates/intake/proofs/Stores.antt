@@ -1,5 +1,5 @@
 -- Bytes written to a store one behind the other.
-use Prim.Native.Nat.{ℕ, suc, _+_, _≤_, _<_}
+use Prim.Native.Nat.{ℕ, _+_, _≤_, _<_}
 use native.Mathlib.Nat.{add-zero, add-assoc}
 use native.Mathlib.Numerals.{add-one}
 use native.Mathlib.Omega.{arith}
@@ -8,7 +8,7 @@ use mathlib.Core.Bool.{Bool, true, false, not, _&&_}
 use mathlib.Core.Logic.{_⊎_, inl, inr}
 use mathlib.Core.List.{List, [], _∷_, _++_, append-assoc}
 use lib.ListN.{length, take, drop, set, length-append, length-drop, take-append-drop}
-use lib.Seq.{length-take-le, set-split, take-at, drop-at, drop-drop, drop-append-add}
+use lib.Seq.{length-take-le, set-split, take-at, drop-drop, drop-append-add}
 use lib.Dec.{eqb}
 use Rattle.intake.specs.declared.Change.{Change}
 use Rattle.intake.specs.Intake.{roomOf, lacks, written}

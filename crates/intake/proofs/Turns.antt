@@ -1,11 +1,9 @@
 -- One turn of the two loops over a chunk, and what the calls make of it.
-use Prim.Native.Nat.{ℕ, suc, _+_, _≤_, _<_, min}
+use Prim.Native.Nat.{ℕ, _+_, _≤_, _<_, min}
 use native.Mathlib.Numerals.{add-one}
-use native.Mathlib.Omega.{arith}
 use mathlib.Core.Path.{_≡_, refl, sym, ap, _∙_}
 use mathlib.Core.Bool.{Bool, true, false, _||_}
-use mathlib.Core.Logic.{_⊎_, inl, inr}
-use mathlib.Core.List.{List, [], _∷_, _++_}
+use mathlib.Core.List.{List, _∷_, _++_}
 use lib.ListN.{length, getD, drop, drop-of-length-le}
 use lib.Seq.{drop-cons}
 use lib.Dec.{eqb}
@@ -16,7 +14,7 @@ use Rattle.intake.specs.declared.Intake.{Intake}
 use Rattle.intake.specs.declared.Change.{Change}
 use Rattle.intake.specs.declared.Progress.{Progress}
 use Rattle.intake.specs.declared.Progress.the-variants.{Open, Refused, Closed}
-use Rattle.intake.specs.Intake.{rawMost, roomOf, Step, stepped, step, lacks, refusalOf, refusal, Taken, on, refused, behind, takes, written, afterTaking, chunked, noStore, isSlash, isBlock, isStar, lastBytes, closing, afterClosing, closed}
+use Rattle.intake.specs.Intake.{roomOf, Step, stepped, step, lacks, refusalOf, refusal, Taken, on, refused, behind, takes, written, afterTaking, chunked, noStore, isSlash, isBlock, isStar, lastBytes, closing, afterClosing, closed}
 use Rattle.intake.specs.Answers.{addsOf, stepBy, movedBy, lastOf, answered, added, passes, Puts}
 use Rattle.intake.proofs.Bytes.{Free, free, last-adds}
 use Rattle.intake.proofs.Stores.{Within, written-none, written-more, puts-length, lacks-more, room-least, within-lacks}
@@ -94,7 +92,8 @@ module _ (room : ℕ) (chunk : List ℕ) (first here : Intake) (i n : ℕ) (c : 
       ∙ ap (λ (l : List ℕ). answered (takes room here l)) (cut chunk i h)
       ∙ ap answered (takes-on room here (getD chunk i 0) (drop (i + 1) chunk) (sym (refusal-is here (getD chunk i 0) c e room n k) ∙ f))
       ∙ answered-behind _ _
-      ∙ ap (λ (y : Intake). answered (takes room y (drop (i + 1) chunk))) (sym (m ∙ intake-is here (getD chunk i 0) c e (here .stored + n) (ap (λ (z : ℕ). here .stored + z) k)))
+      ∙ ap (λ (y : Intake). answered (takes room y (drop (i + 1) chunk)))
+      (sym (m ∙ intake-is here (getD chunk i 0) c e (here .stored + n) (ap (λ (z : ℕ). here .stored + z) k)))
 
   pub looked-refused : (number : ℕ) → number ≡ refusalOf room here (getD chunk i 0) n → (number ≡ 0 → ⊥)
       → Refused number (here .taken) ≡ answered (takes room first chunk)
@@ -120,7 +119,8 @@ pub record Filling (chunk before : List ℕ) (first : Intake) (store : List ℕ)
       ≡ written store (here .stored) (added (takes (roomOf before) here (drop i chunk)))
   pub kept : length store ≡ length before
 
-module _ {chunk before : List ℕ} {first : Intake} {store : List ℕ} {here : Intake} {i : ℕ} (known : Filling chunk before first store here i) (h : i < length chunk) where
+module _ {chunk before : List ℕ} {first : Intake} {store : List ℕ} {here : Intake} {i : ℕ}
+    (known : Filling chunk before first store here i) (h : i < length chunk) where
   now-passed : passes (takes (roomOf before) here (getD chunk i 0 ∷ drop (i + 1) chunk)) ≡ true
   now-passed = rw (cut chunk i h) at (known .passed)
 

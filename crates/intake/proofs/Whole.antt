@@ -1,9 +1,9 @@
 -- A whole text, byte by byte: what was added, then what waits, is what becomes of it; what it counts, and when nothing is refused.
-use Prim.Native.Nat.{ℕ, suc, _+_, _≤_, _<_}
+use Prim.Native.Nat.{ℕ, suc, _+_, _≤_}
 use native.Mathlib.Omega.{arith}
 use mathlib.Core.Path.{_≡_, refl, sym, ap, _∙_}
 use mathlib.Core.Bool.{Bool, true, false, not, false≢true}
-use mathlib.Core.Logic.{_⊎_, inl, inr}
+use mathlib.Core.Logic.{inl, inr}
 use mathlib.Core.Option.{Option, none, some}
 use mathlib.Core.List.{List, [], _∷_, _++_, append-assoc, append-nil}
 use lib.ListN.{length, length-append}
@@ -16,9 +16,9 @@ use Rattle.tokens.specs.Tokens.{Mode, plain, line, block}
 use Rattle.intake.specs.declared.Intake.{Intake}
 use Rattle.intake.specs.Intake.{rawMost, noStore, isSlash, isLine, isBlock, isStar, Step, stepped, outside, behindSlash, inLine, inBlock, behindStar, step, lacks, refusalOf, refusal, Taken, on, refused, behind, takes}
 use Rattle.intake.specs.Answers.{passes}
-use Rattle.intake.proofs.Bytes.{outside-slash, outside-blank, outside-kept, slash-line, slash-block, slash-blank, slash-kept, star-closes, star-goes, step-slash, step-line, step-block, step-star, step-outside, Free, free, refused-not, lacks-not, lacks-none, lacks-fits}
+use Rattle.intake.proofs.Bytes.{outside-slash, outside-blank, outside-kept, slash-line, slash-block, slash-blank, slash-kept, star-closes, star-goes, step-slash, step-line, step-block, step-star, step-outside, Free, free, refused-not, lacks-not, lacks-fits}
 use Rattle.intake.proofs.Stores.{Within}
-use Rattle.intake.proofs.Turns.{takes-on, takes-refused, passes-behind}
+use Rattle.intake.proofs.Turns.{takes-on, passes-behind}
 use Rattle.intake.proofs.Pieces.{rest, fault, token-fault, fault-goes, bad-fault}
 use Rattle.intake.proofs.Stands.{Stands, in-plain, at-slash, in-line, in-block, at-star, Reads, Steps, reads-step, star-good, alone, stays}
 
@@ -161,7 +161,8 @@ module _ (room : ℕ) where
         stored = omega arith;
         within = inl refl;
       }
-  reads-through {x} {m} {p} {held} {r} k (b ∷ s) = by (eqb (refusal room x b) 0) refl (λ n q h t l. reads-through {x = step x b .intake} {m = n} {p = q} {held = h} {r = t} l s)
+  reads-through {x} {m} {p} {held} {r} k (b ∷ s) =
+      by (eqb (refusal room x b) 0) refl (λ n q h t l. reads-through {x = step x b .intake} {m = n} {p = q} {held = h} {r = t} l s)
     where
       first : refusal room x b ≡ 0 → Free room x b (length (step x b .adds))
       first e = free room x b (length (step x b .adds)) e

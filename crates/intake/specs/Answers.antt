@@ -8,7 +8,7 @@ use lib.Dec.{eqb}
 use Rattle.intake.specs.declared.Intake.{Intake}
 use Rattle.intake.specs.declared.Change.{Change}
 use Rattle.intake.specs.declared.Progress.{Progress}
-use Rattle.intake.specs.declared.Progress.the-variants.{Open, Refused, Closed}
+use Rattle.intake.specs.declared.Progress.the-variants.{Open, Refused}
 use Rattle.intake.specs.Intake.{Step, stepped, Taken, on, refused, written}
 
 -- a byte that is stored, or is not

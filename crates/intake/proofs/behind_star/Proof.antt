@@ -9,13 +9,17 @@ waits-requires : tie.Need-waits-requires
 waits-requires c κs = search needs
 
 returns : tie.Need-returns
-returns c = holds-step (c .before .before .args .it) (c .before .before .args .b) _ _ _ (c .waits .ensures) ∙ sym (star-closes (c .before .before .args .it) (c .before .before .args .b) (c .before .if1 .taken))
+returns c =
+    let args = c .before .before .args in
+    holds-step (args .it) (args .b) _ _ _ (c .waits .ensures) ∙ sym (star-closes (args .it) (args .b) (c .before .if1 .taken))
 
 in-block-requires : tie.Need-in-block-requires
 in-block-requires c κs = search needs
 
 returns-2 : tie.Need-returns-2
-returns-2 c = c .in-block .ensures ∙ sym (star-goes (c .before .before .args .it) (c .before .before .args .b) (c .before .if1 .left))
+returns-2 c =
+    let args = c .before .before .args in
+    c .in-block .ensures ∙ sym (star-goes (args .it) (args .b) (c .before .if1 .left))
 
 pub behind-star-spec : {M : Type 1} → statement M
 behind-star-spec = tie.close (tie.spec waits-requires returns in-block-requires returns-2)

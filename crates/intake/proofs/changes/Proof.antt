@@ -9,31 +9,44 @@ behind-slash-requires : tie.Need-behind-slash-requires
 behind-slash-requires c κs = search needs
 
 returns : tie.Need-returns
-returns c = c .behind-slash .ensures ∙ sym (step-slash (c .before .before .before .args .it) (c .before .before .before .args .b) (c .before .if1 .taken))
+returns c =
+    let args = c .before .before .before .args in
+    c .behind-slash .ensures ∙ sym (step-slash (args .it) (args .b) (c .before .if1 .taken))
 
 in-line-requires : tie.Need-in-line-requires
 in-line-requires c κs = search needs
 
 returns-2 : tie.Need-returns-2
-returns-2 c = c .in-line .ensures ∙ sym (step-line (c .before .before .before .before .before .args .it) (c .before .before .before .before .before .args .b) (c .before .if2 .taken))
+returns-2 c =
+    let args = c .before .before .before .before .before .args in
+    c .in-line .ensures ∙ sym (step-line (args .it) (args .b) (c .before .if2 .taken))
 
 in-block-requires : tie.Need-in-block-requires
 in-block-requires c κs = search needs
 
 returns-3 : tie.Need-returns-3
-returns-3 c = c .in-block .ensures ∙ sym (step-block (c .before .before .before .before .before .before .before .args .it) (c .before .before .before .before .before .before .before .args .b) (c .before .if3 .taken))
+returns-3 c =
+    let args = c .before .before .before .before .before .before .before .args in
+    c .in-block .ensures ∙ sym (step-block (args .it) (args .b) (c .before .if3 .taken))
 
 behind-star-requires : tie.Need-behind-star-requires
 behind-star-requires c κs = search needs
 
 returns-4 : tie.Need-returns-4
-returns-4 c = c .behind-star .ensures ∙ sym (step-star (c .before .before .before .before .before .before .before .before .before .args .it) (c .before .before .before .before .before .before .before .before .before .args .b) (c .before .if4 .taken))
+returns-4 c =
+    let args = c .before .before .before .before .before .before .before .before .before .args in
+    c .behind-star .ensures ∙ sym (step-star (args .it) (args .b) (c .before .if4 .taken))
 
 outside-requires : tie.Need-outside-requires
 outside-requires c κs = search needs
 
 returns-5 : tie.Need-returns-5
-returns-5 c = c .outside .ensures ∙ sym (step-outside (c .before .before .before .before .before .before .before .before .before .args .it) (c .before .before .before .before .before .before .before .before .before .args .b) (c .before .before .before .before .before .before .before .if1 .left) (c .before .before .before .before .before .if2 .left) (c .before .before .before .if3 .left) (c .before .if4 .left))
+returns-5 c =
+    let args = c .before .before .before .before .before .before .before .before .before .args in
+    c .outside .ensures
+    ∙ sym
+    (step-outside (args .it) (args .b) (c .before .before .before .before .before .before .before .if1 .left)
+    (c .before .before .before .before .before .if2 .left) (c .before .before .before .if3 .left) (c .before .if4 .left))
 
 pub changes-spec : {M : Type 1} → statement M
 changes-spec =

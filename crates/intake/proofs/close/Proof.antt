@@ -20,7 +20,9 @@ same-length : tie.Need-same-length
 same-length c = search needs
 
 returns : tie.Need-returns
-returns c = close-open (c .before .before .before .before .before .before .before .before .args .store .now) (c .before .before .before .before .before .p .given .1) (c .before .before .close-open .ensures)
+returns c =
+    let args = c .before .before .before .before .before .before .before .before .args in
+    close-open (args .store .now) (c .before .before .before .before .before .p .given .1) (c .before .before .close-open .ensures)
 
 returns-2 : tie.Need-returns-2
 returns-2 c = close-refused (c .before .before .before .before .args .store .now) (c .before .p2 .given .1)

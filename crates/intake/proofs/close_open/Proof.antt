@@ -6,7 +6,9 @@ use Rattle.intake.proofs.close_open.Statement.{statement}
 use Rattle.intake.proofs.close_open.Tie as tie
 
 returns : tie.Need-returns
-returns c = close-in-comment (c .before .before .before .before .args .store .now) (c .before .before .before .before .args .it) (c .if1 .taken)
+returns c =
+    let args = c .before .before .before .before .args in
+    close-in-comment (args .store .now) (args .it) (c .if1 .taken)
 
 last-requires : tie.Need-last-requires
 last-requires c κs = search needs
@@ -22,21 +24,33 @@ lacks-requires c κs = search needs
 
 returns-2 : tie.Need-returns-2
 returns-2 c =
-    close-no-room (c .before .before .before .before .before .before .before .before .before .before .args .store .now) (c .before .before .before .before .before .before .before .before .before .before .args .it) (c .before .before .before .before .before .before .if1 .left) (c .before .before .before .before .last .ensures)
-    (room-said (c .before .before .before .before .before .before .before .before .before .before .args .store .now) (c .before .before .before .before .before .before .before .before .before .before .args .it .stored) (c .before .before .room .ensures) (c .before .before .before .count .ensures 0) (sym (c .before .lacks .ensures) ∙ c .if2 .taken))
+    let args = c .before .before .before .before .before .before .before .before .before .before .args in
+    let said =
+    room-said (args .store .now) (args .it .stored) (c .before .before .room .ensures)
+    (c .before .before .before .count .ensures 0) (sym (c .before .lacks .ensures) ∙ c .if2 .taken) in
+    close-no-room (args .store .now) (args .it) (c .before .before .before .before .before .before .if1 .left)
+    (c .before .before .before .before .last .ensures) said
 
 put-requires : tie.Need-put-requires
 put-requires c κs =
-    close-room (c .before .before .before .before .before .before .before .before .before .before .before .args .store .now) (c .before .before .before .before .before .before .before .before .before .before .before .args .it) (c .before .before .before .before .before .before .before .if1 .left) (c .before .before .before .before .before .last .ensures)
-    (room-said (c .before .before .before .before .before .before .before .before .before .before .before .args .store .now) (c .before .before .before .before .before .before .before .before .before .before .before .args .it .stored) (c .before .before .before .room .ensures) (c .before .before .before .before .count .ensures 0) (sym (c .before .before .lacks .ensures) ∙ c .before .if2 .left))
+    let args = c .before .before .before .before .before .before .before .before .before .before .before .args in
+    let said =
+    room-said (args .store .now) (args .it .stored) (c .before .before .before .room .ensures)
+    (c .before .before .before .before .count .ensures 0) (sym (c .before .before .lacks .ensures) ∙ c .before .if2 .left) in
+    close-room (args .store .now) (args .it) (c .before .before .before .before .before .before .before .if1 .left)
+    (c .before .before .before .before .before .last .ensures) said
 
 same-length : tie.Need-same-length
 same-length c = search needs
 
 returns-3 : tie.Need-returns-3
 returns-3 c =
-    close-closes (c .before .before .before .before .before .before .before .before .before .before .before .before .before .before .args .store .now) (c .before .before .before .before .before .before .before .before .before .before .before .before .before .before .args .it) (c .before .before .before .before .before .before .before .before .before .before .if1 .left) (c .before .before .before .before .before .before .before .before .last .ensures)
-    (room-said (c .before .before .before .before .before .before .before .before .before .before .before .before .before .before .args .store .now) (c .before .before .before .before .before .before .before .before .before .before .before .before .before .before .args .it .stored) (c .before .before .before .before .before .before .room .ensures) (c .before .before .before .before .before .before .before .count .ensures 0) (sym (c .before .before .before .before .before .lacks .ensures) ∙ c .before .before .before .before .if2 .left)) (c .before .before .put .ensures)
+    let args = c .before .before .before .before .before .before .before .before .before .before .before .before .before .before .args in
+    let said =
+    room-said (args .store .now) (args .it .stored) (c .before .before .before .before .before .before .room .ensures)
+    (c .before .before .before .before .before .before .before .count .ensures 0) (sym (c .before .before .before .before .before .lacks .ensures) ∙ c .before .before .before .before .if2 .left) in
+    close-closes (args .store .now) (args .it) (c .before .before .before .before .before .before .before .before .before .before .if1 .left)
+    (c .before .before .before .before .before .before .before .before .last .ensures) said (c .before .before .put .ensures)
 
 pub close-open-spec : {M : Type 1} → statement M
 close-open-spec =

@@ -13,13 +13,17 @@ cast-result-2 : tie.Need-cast-result-2
 cast-result-2 c = search needs
 
 add-result : tie.Need-add-result
-add-result c = record { fits = two-small (c .before .before .args .c .mark && not (eqb (c .before .before .args .run) 0)) (c .before .before .args .c .slash) }
+add-result c =
+    let args = c .before .before .args in
+    record { fits = two-small (args .c .mark && not (eqb (args .run) 0)) (args .c .slash) }
 
 cast-result-3 : tie.Need-cast-result-3
 cast-result-3 c = search needs
 
 add-result-2 : tie.Need-add-result-2
-add-result-2 c = record { fits = three-small (c .before .before .before .args .c .mark && not (eqb (c .before .before .before .args .run) 0)) (c .before .before .before .args .c .slash) (c .before .before .before .args .c .kept) }
+add-result-2 c =
+    let args = c .before .before .before .args in
+    record { fits = three-small (args .c .mark && not (eqb (args .run) 0)) (args .c .slash) (args .c .kept) }
 
 returns : tie.Need-returns
 returns c = λ b. counted-adds _ b (c .before .before .before .args .c)

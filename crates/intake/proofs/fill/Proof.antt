@@ -23,10 +23,14 @@ changes-requires : tie.Need-changes-requires Inv-loop μ-loop
 changes-requires c κs = search needs
 
 put-requires : tie.Need-put-requires Inv-loop μ-loop
-put-requires c κs = fill-room (c .before .before .before .before .loop .inv) (c .before .before .before .loop-test .taken) (c .before .changes .result) (c .before .changes .ensures)
+put-requires c κs =
+    let loop = c .before .before .before .before .loop in
+    fill-room (loop .inv) (c .before .before .before .loop-test .taken) (c .before .changes .result) (c .before .changes .ensures)
 
 moved-requires : tie.Need-moved-requires Inv-loop μ-loop
-moved-requires c κs = byte-free (c .before .before .before .before .before .before .before .loop .inv) (c .before .before .before .before .before .before .loop-test .taken) .short
+moved-requires c κs =
+    let loop = c .before .before .before .before .before .before .before .loop in
+    byte-free (loop .inv) (c .before .before .before .before .before .before .loop-test .taken) .short
 
 add-i : tie.Need-add-i Inv-loop μ-loop
 add-i c = search needs
@@ -35,7 +39,11 @@ loop-less : tie.Need-loop-less Inv-loop μ-loop
 loop-less c = search needs
 
 loop-again : tie.Need-loop-again Inv-loop μ-loop
-loop-again c = filled-on (c .before .before .before .before .before .before .before .before .loop .inv) (c .before .before .before .before .before .before .before .loop-test .taken) (c .before .before .before .before .before .changes .result) (c .before .before .before .before .before .changes .ensures) (c .before .before .before .put .ensures) (c .moved .ensures)
+loop-again c =
+    let loop = c .before .before .before .before .before .before .before .before .loop in
+    filled-on (loop .inv) (c .before .before .before .before .before .before .before .loop-test .taken)
+    (c .before .before .before .before .before .changes .result) (c .before .before .before .before .before .changes .ensures)
+    (c .before .before .before .put .ensures) (c .moved .ensures)
 
 same-length : tie.Need-same-length Inv-loop μ-loop
 same-length c = c .before .loop .inv .kept

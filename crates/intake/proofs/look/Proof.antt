@@ -31,14 +31,24 @@ refusal-requires c κs = search needs
 
 returns : tie.Need-returns Inv-loop μ-loop
 returns c =
-    looked-refused (c .before .before .before .before .before .before .before .before .args .room) (c .before .before .before .before .before .before .before .before .args .chunk .now) (c .before .before .before .before .before .before .before .before .args .it) (c .before .before .before .before .before .before .loop .here) (c .before .before .before .before .before .before .loop .i) _ _ (c .before .before .before .before .before .before .loop .inv) (c .before .before .before .before .before .loop-test .taken)
-    (c .before .before .before .changes .ensures) (c .before .before .count .ensures _) _ (c .before .refusal .ensures) (c .if1 .taken)
+    let args = c .before .before .before .before .before .before .before .before .args in
+    let loop = c .before .before .before .before .before .before .loop in
+    looked-refused (args .room) (args .chunk .now) (args .it) (loop .here) (loop .i) _ _ (loop .inv)
+    (c .before .before .before .before .before .loop-test .taken) (c .before .before .before .changes .ensures)
+    (c .before .before .count .ensures _) _ (c .before .refusal .ensures) (c .if1 .taken)
 
 add-moved : tie.Need-add-moved Inv-loop μ-loop
-add-moved c = free-fits (c .before .before .before .before .before .before .before .before .before .args .room) (c .before .before .before .before .before .before .before .loop .here) _ _ (search needs) (search needs) (free (c .before .before .before .before .before .before .before .before .before .args .room) (c .before .before .before .before .before .before .before .loop .here) _ _ (sym (c .before .before .refusal .ensures) ∙ c .before .if1 .left))
+add-moved c =
+    let args = c .before .before .before .before .before .before .before .before .before .args in
+    let loop = c .before .before .before .before .before .before .before .loop in
+    free-fits (args .room) (loop .here) _ _ (search needs) (search needs)
+    (free (args .room) (loop .here) _ _ (sym (c .before .before .refusal .ensures) ∙ c .before .if1 .left))
 
 moved-requires : tie.Need-moved-requires Inv-loop μ-loop
-moved-requires c κs = free (c .before .before .before .before .before .before .before .before .before .args .room) (c .before .before .before .before .before .before .before .loop .here) _ _ (sym (c .before .before .refusal .ensures) ∙ c .before .if1 .left) .short
+moved-requires c κs =
+    let args = c .before .before .before .before .before .before .before .before .before .args in
+    let loop = c .before .before .before .before .before .before .before .loop in
+    free (args .room) (loop .here) _ _ (sym (c .before .before .refusal .ensures) ∙ c .before .if1 .left) .short
 
 add-i : tie.Need-add-i Inv-loop μ-loop
 add-i c = search needs
@@ -48,11 +58,18 @@ loop-less c = search needs
 
 loop-again : tie.Need-loop-again Inv-loop μ-loop
 loop-again c =
-    looked-on (c .before .before .before .before .before .before .before .before .before .before .args .room) (c .before .before .before .before .before .before .before .before .before .before .args .chunk .now) (c .before .before .before .before .before .before .before .before .before .before .args .it) (c .before .before .before .before .before .before .before .before .loop .here) (c .before .before .before .before .before .before .before .before .loop .i) _ _ (c .before .before .before .before .before .before .before .before .loop .inv) (c .before .before .before .before .before .before .before .loop-test .taken)
-    (c .before .before .before .before .before .changes .ensures) (c .before .before .before .before .count .ensures _) _ (sym (c .before .before .before .refusal .ensures) ∙ c .before .before .if1 .left) (c .moved .ensures)
+    let args = c .before .before .before .before .before .before .before .before .before .before .args in
+    let loop = c .before .before .before .before .before .before .before .before .loop in
+    looked-on (args .room) (args .chunk .now) (args .it) (loop .here) (loop .i) _ _ (loop .inv)
+    (c .before .before .before .before .before .before .before .loop-test .taken) (c .before .before .before .before .before .changes .ensures)
+    (c .before .before .before .before .count .ensures _) _ (sym (c .before .before .before .refusal .ensures) ∙ c .before .before .if1 .left)
+    (c .moved .ensures)
 
 returns-2 : tie.Need-returns-2 Inv-loop μ-loop
-returns-2 c = looked-all _ (c .before .before .before .args .chunk .now) (c .before .before .before .args .it) (c .before .loop .here) (c .before .loop .i) (c .before .loop .inv) (c .loop-test .left)
+returns-2 c =
+    let args = c .before .before .before .args in
+    let loop = c .before .loop in
+    looked-all _ (args .chunk .now) (args .it) (loop .here) (loop .i) (loop .inv) (c .loop-test .left)
 
 pub look-spec : {M : Type 1} → statement M
 look-spec =

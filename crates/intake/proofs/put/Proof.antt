@@ -5,19 +5,33 @@ use Rattle.intake.proofs.put.Statement.{statement}
 use Rattle.intake.proofs.put.Tie as tie
 
 put-if-requires : tie.Need-put-if-requires
-put-if-requires c κs = λ due. room-one (c .before .before .before .args .run) (c .before .before .before .args .b) (c .before .before .before .args .c) (c .before .before .before .args .store .now) (c .before .before .before .args .at) (c .before .before .before .pre) due
+put-if-requires c κs =
+    let args = c .before .before .before .args in
+    λ due. room-one (args .run) (args .b) (args .c) (args .store .now) (args .at) (c .before .before .before .pre) due
 
 put-if-requires-2 : tie.Need-put-if-requires-2
-put-if-requires-2 c κs = λ due. room-two (c .before .before .before .before .before .before .before .args .run) (c .before .before .before .before .before .before .before .args .b) (c .before .before .before .before .before .before .before .args .c) (c .before .before .before .before .before .before .before .args .store .now) (c .before .before .before .before .before .before .before .args .at) (c .before .before .before .before .before .before .before .pre) (c .before .before .before .put-if .ensures) due
+put-if-requires-2 c κs =
+    let args = c .before .before .before .before .before .before .before .args in
+    λ due. room-two (args .run) (args .b) (args .c) (args .store .now) (args .at)
+    (c .before .before .before .before .before .before .before .pre) (c .before .before .before .put-if .ensures) due
 
 put-if-requires-3 : tie.Need-put-if-requires-3
-put-if-requires-3 c κs = λ due. room-three (c .before .before .before .before .before .before .before .before .before .before .before .args .run) (c .before .before .before .before .before .before .before .before .before .before .before .args .b) (c .before .before .before .before .before .before .before .before .before .before .before .args .c) (c .before .before .before .before .before .before .before .before .before .before .before .args .store .now) (c .before .before .before .before .before .before .before .before .before .before .before .args .at) (c .before .before .before .before .before .before .before .before .before .before .before .pre) (c .before .before .before .before .before .before .before .put-if .ensures) (c .before .before .before .put-if2 .ensures) due
+put-if-requires-3 c κs =
+    let args = c .before .before .before .before .before .before .before .before .before .before .before .args in
+    λ due. room-three (args .run) (args .b) (args .c) (args .store .now) (args .at)
+    (c .before .before .before .before .before .before .before .before .before .before .before .pre)
+    (c .before .before .before .before .before .before .before .put-if .ensures) (c .before .before .before .put-if2 .ensures) due
 
 same-length : tie.Need-same-length
 same-length c = search needs
 
 returns : tie.Need-returns
-returns c = put-three (c .before .before .before .before .before .before .before .before .before .before .before .before .before .before .args .run) (c .before .before .before .before .before .before .before .before .before .before .before .before .before .before .args .b) (c .before .before .before .before .before .before .before .before .before .before .before .before .before .before .args .c) (c .before .before .before .before .before .before .before .before .before .before .before .before .before .before .args .store .now) (c .before .before .before .before .before .before .before .before .before .before .before .before .before .before .args .at) (c .before .before .before .before .before .before .before .before .before .before .before .before .before .before .pre) (c .before .before .before .before .before .before .before .before .before .before .put-if .ensures) (c .before .before .before .before .before .before .put-if2 .ensures) (c .before .before .put-if3 .ensures)
+returns c =
+    let args = c .before .before .before .before .before .before .before .before .before .before .before .before .before .before .args in
+    put-three (args .run) (args .b) (args .c) (args .store .now) (args .at)
+    (c .before .before .before .before .before .before .before .before .before .before .before .before .before .before .pre)
+    (c .before .before .before .before .before .before .before .before .before .before .put-if .ensures)
+    (c .before .before .before .before .before .before .put-if2 .ensures) (c .before .before .put-if3 .ensures)
 
 pub put-spec : {M : Type 1} → statement M
 put-spec =

@@ -16,19 +16,22 @@ returns : tie.Need-returns
 returns c = sym (refused-long _ _ _ _ (c .if1 .taken))
 
 returns-2 : tie.Need-returns-2
-returns-2 c = sym (refused-bad _ (c .before .before .before .before .before .args .it) _ _ (c .before .if1 .left) (sym (c .before .before .before .before .is-allowed .ensures) ∙ not-true _ (c .if2 .taken)))
+returns-2 c =
+    let args = c .before .before .before .before .before .args in
+    sym
+    (refused-bad _ (args .it) _ _ (c .before .if1 .left) (sym (c .before .before .before .before .is-allowed .ensures) ∙ not-true _ (c .if2 .taken)))
 
 returns-3 : tie.Need-returns-3
 returns-3 c =
-    sym
-    (refused-room _ (c .before .before .before .before .before .before .args .it) _ _ (c .before .before .if1 .left) (sym (c .before .before .before .before .before .is-allowed .ensures) ∙ not-false _ (c .before .if2 .left))
-    (sym (c .before .before .before .before .lacks .ensures) ∙ c .if3 .taken))
+    let args = c .before .before .before .before .before .before .args in
+    let good = sym (c .before .before .before .before .before .is-allowed .ensures) ∙ not-false _ (c .before .if2 .left) in
+    sym (refused-room _ (args .it) _ _ (c .before .before .if1 .left) good (sym (c .before .before .before .before .lacks .ensures) ∙ c .if3 .taken))
 
 returns-4 : tie.Need-returns-4
 returns-4 c =
-    sym
-    (refused-not _ (c .before .before .before .before .before .before .args .it) _ _ (c .before .before .if1 .left) (sym (c .before .before .before .before .before .is-allowed .ensures) ∙ not-false _ (c .before .if2 .left))
-    (sym (c .before .before .before .before .lacks .ensures) ∙ c .if3 .left))
+    let args = c .before .before .before .before .before .before .args in
+    let good = sym (c .before .before .before .before .before .is-allowed .ensures) ∙ not-false _ (c .before .if2 .left) in
+    sym (refused-not _ (args .it) _ _ (c .before .before .if1 .left) good (sym (c .before .before .before .before .lacks .ensures) ∙ c .if3 .left))
 
 pub refusal-spec : {M : Type 1} → statement M
 refusal-spec =

@@ -20,13 +20,20 @@ same-length : tie.Need-same-length
 same-length c = search needs
 
 returns : tie.Need-returns
-returns c = take-open (c .before .before .before .before .before .before .before .before .before .args .chunk .now) (c .before .before .before .before .before .before .before .before .before .args .store .now) (c .before .before .before .before .before .p .given .1) (c .before .before .take-open .ensures)
+returns c =
+    let args = c .before .before .before .before .before .before .before .before .before .args in
+    take-open (args .chunk .now) (args .store .now) (c .before .before .before .before .before .p .given .1)
+    (c .before .before .take-open .ensures)
 
 returns-2 : tie.Need-returns-2
-returns-2 c = take-refused (c .before .before .before .before .before .args .chunk .now) (c .before .before .before .before .before .args .store .now) (c .before .p2 .given .1)
+returns-2 c =
+    let args = c .before .before .before .before .before .args in
+    take-refused (args .chunk .now) (args .store .now) (c .before .p2 .given .1)
 
 returns-3 : tie.Need-returns-3
-returns-3 c = take-closed (c .before .before .before .before .before .args .chunk .now) (c .before .before .before .before .before .args .store .now) (c .before .p3 .given .1)
+returns-3 c =
+    let args = c .before .before .before .before .before .args in
+    take-closed (args .chunk .now) (args .store .now) (c .before .p3 .given .1)
 
 pub take-spec : {M : Type 1} → statement M
 take-spec =

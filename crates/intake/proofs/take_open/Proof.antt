@@ -15,8 +15,11 @@ enum-known-x c = search needs
 
 fill-requires : tie.Need-fill-requires
 fill-requires c κs =
-    look-passes (c .before .before .before .before .before .before .before .before .args .it) (c .before .before .before .before .before .before .before .before .args .chunk .now) (c .before .before .before .before .before .before .before .before .args .store .now)
-    (look-said (c .before .before .before .before .before .before .before .before .args .it) (c .before .before .before .before .before .before .before .before .args .chunk .now) (c .before .before .before .before .before .before .before .before .args .store .now) (c .before .before .before .before .before .room .ensures) (c .before .before .x .given .1) (c .before .before .before .before .look .ensures))
+    let args = c .before .before .before .before .before .before .before .before .args in
+    let said =
+    look-said (args .it) (args .chunk .now) (args .store .now) (c .before .before .before .before .before .room .ensures)
+    (c .before .before .x .given .1) (c .before .before .before .before .look .ensures) in
+    look-passes (args .it) (args .chunk .now) (args .store .now) said
 
 enum-known-n : tie.Need-enum-known-n
 enum-known-n c = search needs
@@ -29,18 +32,27 @@ same-length c = search needs
 
 returns : tie.Need-returns
 returns c =
-    taken-on (c .before .before .before .before .before .before .before .before .before .before .before .args .it) (c .before .before .before .before .before .before .before .before .before .before .before .args .chunk .now) (c .before .before .before .before .before .before .before .before .before .before .before .args .store .now)
-    (look-said (c .before .before .before .before .before .before .before .before .before .before .before .args .it) (c .before .before .before .before .before .before .before .before .before .before .before .args .chunk .now) (c .before .before .before .before .before .before .before .before .before .before .before .args .store .now) (c .before .before .before .before .before .before .before .before .room .ensures) (c .before .before .before .before .before .x .given .1) (c .before .before .before .before .before .before .before .look .ensures)) (c .before .before .fill .ensures)
+    let args = c .before .before .before .before .before .before .before .before .before .before .before .args in
+    let said =
+    look-said (args .it) (args .chunk .now) (args .store .now) (c .before .before .before .before .before .before .before .before .room .ensures)
+    (c .before .before .before .before .before .x .given .1) (c .before .before .before .before .before .before .before .look .ensures) in
+    taken-on (args .it) (args .chunk .now) (args .store .now) said (c .before .before .fill .ensures)
 
 returns-2 : tie.Need-returns-2
 returns-2 c =
-    taken-refused (c .before .before .before .before .before .before .before .args .it) (c .before .before .before .before .before .before .before .args .chunk .now) (c .before .before .before .before .before .before .before .args .store .now)
-    (look-said (c .before .before .before .before .before .before .before .args .it) (c .before .before .before .before .before .before .before .args .chunk .now) (c .before .before .before .before .before .before .before .args .store .now) (c .before .before .before .before .room .ensures) (c .before .n .given .1) (c .before .before .before .look .ensures))
+    let args = c .before .before .before .before .before .before .before .args in
+    let said =
+    look-said (args .it) (args .chunk .now) (args .store .now) (c .before .before .before .before .room .ensures)
+    (c .before .n .given .1) (c .before .before .before .look .ensures) in
+    taken-refused (args .it) (args .chunk .now) (args .store .now) said
 
 returns-3 : tie.Need-returns-3
 returns-3 c =
-    never-closed (c .before .before .before .before .before .before .before .args .it) (c .before .before .before .before .before .before .before .args .chunk .now) (c .before .before .before .before .before .before .before .args .store .now)
-    (look-said (c .before .before .before .before .before .before .before .args .it) (c .before .before .before .before .before .before .before .args .chunk .now) (c .before .before .before .before .before .before .before .args .store .now) (c .before .before .before .before .room .ensures) (c .before .n2 .given .1) (c .before .before .before .look .ensures))
+    let args = c .before .before .before .before .before .before .before .args in
+    let said =
+    look-said (args .it) (args .chunk .now) (args .store .now) (c .before .before .before .before .room .ensures)
+    (c .before .n2 .given .1) (c .before .before .before .look .ensures) in
+    never-closed (args .it) (args .chunk .now) (args .store .now) said
 
 pub take-open-spec : {M : Type 1} → statement M
 take-open-spec =
