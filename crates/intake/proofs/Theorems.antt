@@ -4,7 +4,7 @@ use native.Mathlib.Nat.{zero-add}
 use native.Mathlib.Omega.{arith}
 use mathlib.Core.Path.{_≡_, refl, sym, ap, _∙_}
 use mathlib.Core.Bool.{Bool, true, false}
-use mathlib.Core.Logic.{_⊎_, inl, inr}
+use mathlib.Core.Logic.{_↔_, _⊎_, inl, inr}
 use mathlib.Core.Option.{Option, none, some}
 use mathlib.Core.List.{List, [], _++_}
 use lib.ListN.{length, take, drop, length-append}
@@ -52,18 +52,16 @@ refused-close-untouched (Open x) store n q e = untouched-close store (x .stored)
 refused-close-untouched (Refused m o) store n q e = refl
 refused-close-untouched (Closed m) store n q e = refl
 
--- any later calls, and a close behind them
+-- any later calls, and a close behind them, where the intake is refused or closed
 pub record Repeats (p : Progress) : Type 0 where
   pub chunks : (cs : List (List ℕ)) (store : List ℕ) → calls p cs store ≡ (p, store)
   pub close : (store : List ℕ) → closed p store ≡ (p, store)
 
-pub repeats-refused : (n q : ℕ) → Repeats (Refused n q)
+pub repeats : (p : Progress) → ((x : Intake) → p ≡ Open x → ⊥) → Repeats p
 unfolding closed
-repeats-refused n q = record { chunks = calls-refused n q; close = λ store. refl }
-
-pub repeats-closed : (n : ℕ) → Repeats (Closed n)
-unfolding closed
-repeats-closed n = record { chunks = calls-closed n; close = λ store. refl }
+repeats (Open x) h = absurd (h x refl)
+repeats (Refused n q) h = record { chunks = calls-refused n q; close = λ store. refl }
+repeats (Closed n) h = record { chunks = calls-closed n; close = λ store. refl }
 
 -- ---- however the text is cut
 
@@ -218,11 +216,17 @@ closed-squeezed cs store n h =
     record { fitting = s .fitting; size = s .size; filled = f .1 n h ∙ s .filled }
 
 -- and every raw text that fits is closed
-pub fitting-closed : (cs : List (List ℕ)) (store : List ℕ) → Fitting (allChunks cs) store → intake cs store .0 ≡ Closed (length (squeezed (allChunks cs)))
+fitting-closed : (cs : List (List ℕ)) (store : List ℕ) → Fitting (allChunks cs) store → intake cs store .0 ≡ Closed (length (squeezed (allChunks cs)))
 fitting-closed cs store f =
     let raw = allChunks cs in
     finishes cs store .0
     ∙ squeezed-finish raw store (takes (roomOf store) start raw) (reads-through (roomOf store) reads-start raw) (fitting-passes raw store f) f
+
+-- the answer is a length exactly where the raw text fits, and it is that of the squeezed text
+pub squeezes : (cs : List (List ℕ)) (store : List ℕ) (n : ℕ)
+    → (intake cs store .0 ≡ Closed n) ↔ ((n ≡ length (squeezed (allChunks cs))) × Fitting (allChunks cs) store)
+squeezes cs store n =
+    (λ h. let s = closed-squeezed cs store n h in (s .size, s .fitting), λ f. fitting-closed cs store (f .1) ∙ ap Closed (sym (f .0)))
 
 -- ---- refusals 2 and 3 are the raw text's own fault, at its place
 

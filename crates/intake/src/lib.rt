@@ -3,7 +3,7 @@ use tokens::is_allowed;
 use tokens::is_blank;
 ghost use mathlib.Core.Path.{_≡_};
 ghost use mathlib.Core.Bool.{true, false};
-ghost use Prim.Native.Nat.{ℕ, suc, _+_, _<_, _≤_, min};
+ghost use Prim.Native.Nat.{ℕ, _<_, min};
 ghost use lib.ListN.{length};
 ghost use Rattle.tokens.specs.Refusals.{textMost};
 ghost use Rattle.intake.specs.Intake.{rawMost, roomOf, markWith, outside as outsideOf, behindSlash, inLine, inBlock, behindStar, step as stepOf, lacks as lacksOf, refusalOf, takes, written, chunked, closed as closedOf, begun};
@@ -51,8 +51,7 @@ pub enum Progress {
     Closed(usize),
 }
 
-// What a byte changes: does the run's mark that waits go to the store, the `/` that waits, and the byte itself? Then the mark that waits behind it, and where the
-// intake stands.
+// What a byte changes: whether the mark that waits, the `/` that waits and the byte itself are stored; then the mark behind it, and where the intake stands.
 struct Change {
     mark: bool,
     slash: bool,
