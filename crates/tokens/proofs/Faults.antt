@@ -62,7 +62,7 @@ unfolding faultOf
 fault-too-long text h = rw (lt-leb (length text) textMost h, faultOf)
 
 -- reading on in a word meets the fault that reading from there meets
-fault-in-word : (p : ℕ) (s : List ℕ) → faultIn (lex inword p s) ≡ faultIn (lex plain p s)
+pub fault-in-word : (p : ℕ) (s : List ℕ) → faultIn (lex inword p s) ≡ faultIn (lex plain p s)
 unfolding lex ended done faultIn
 fault-in-word p [] = refl
 fault-in-word p (b ∷ s) = by (wordy b) refl

@@ -1,7 +1,7 @@
-mod Allowed
-mod Reading
-mod Stream
+pub mod Allowed
+pub mod Reading
+pub mod Stream
 pub mod Laws
-mod Faults
+pub mod Faults
 pub mod Clean
 mod Samples

@@ -22,15 +22,15 @@ use Rattle.tokens.proofs.Allowed.{blank-allowed, blank-unwordy}
 -- ---- what a byte b does, with s behind it, by what is known of it
 
 module _ (p b : ℕ) (s : List ℕ) where
-  bad-does : (m : Mode) → allowed b ≡ false → act m p b s ≡ bad
+  pub bad-does : (m : Mode) → allowed b ≡ false → act m p b s ≡ bad
   unfolding act cases
   bad-does m e = rw e
 
-  line-does : allowed b ≡ true → (b ≡ 10 → ⊥) → act line p b s ≡ go line
+  pub line-does : allowed b ≡ true → (b ≡ 10 → ⊥) → act line p b s ≡ go line
   unfolding act inMode cases
   line-does e h = rw (e, ne-eqb b 10 h)
 
-  block-does : (q : ℕ) → allowed b ≡ true → eqb b 42 && starts 47 s ≡ false → act (block q) p b s ≡ go (block q)
+  pub block-does : (q : ℕ) → allowed b ≡ true → eqb b 42 && starts 47 s ≡ false → act (block q) p b s ≡ go (block q)
   unfolding act inMode cases
   block-does q e h = rw (e, h)
 
@@ -38,42 +38,42 @@ module _ (p b : ℕ) (s : List ℕ) where
   unfolding act inMode outside cases
   word-does e h = rw (e, h)
 
-  blank-does : allowed b ≡ true → wordy b ≡ false → blank b ≡ true → act plain p b s ≡ go plain
+  pub blank-does : allowed b ≡ true → wordy b ≡ false → blank b ≡ true → act plain p b s ≡ go plain
   unfolding act inMode outside cases
   blank-does e h k = rw (e, h, k)
 
-  sign-does : allowed b ≡ true → wordy b ≡ false → blank b ≡ false → (b ≡ 47 → ⊥) → act plain p b s ≡ token (b ∷ []) plain
+  pub sign-does : allowed b ≡ true → wordy b ≡ false → blank b ≡ false → (b ≡ 47 → ⊥) → act plain p b s ≡ token (b ∷ []) plain
   unfolding act inMode outside cases
   sign-does e h k j = rw (e, h, k, ne-eqb b 47 j)
 
 -- ---- what the bytes LF, `/` and `*` do
 
 -- a `/` outside comments
-abbrev slashed : ℕ → List ℕ → Act
+abbrev pub slashed : ℕ → List ℕ → Act
 slashed p s = cases ((starts 47 s, go line) ∷ (starts 42 s, go (opened p)) ∷ []) (token (47 ∷ []) plain)
 
 module _ (p : ℕ) (s : List ℕ) where
-  lf-does : act line p 10 s ≡ go plain
+  pub lf-does : act line p 10 s ≡ go plain
   unfolding act inMode cases allowed blank between
   lf-does = refl
 
-  slash-does : act plain p 47 s ≡ slashed p s
+  pub slash-does : act plain p 47 s ≡ slashed p s
   unfolding act inMode outside cases allowed blank between wordy letter digit
   slash-does = refl
 
-  second-slash-does : act line p 47 s ≡ go line
+  pub second-slash-does : act line p 47 s ≡ go line
   unfolding act inMode cases allowed blank between
   second-slash-does = refl
 
-  second-star-does : (q : ℕ) → act (opened q) p 42 s ≡ go (block q)
+  pub second-star-does : (q : ℕ) → act (opened q) p 42 s ≡ go (block q)
   unfolding act inMode cases allowed blank between
   second-star-does q = refl
 
-  star-does : (q : ℕ) → starts 47 s ≡ true → act (block q) p 42 s ≡ go closing
+  pub star-does : (q : ℕ) → starts 47 s ≡ true → act (block q) p 42 s ≡ go closing
   unfolding act inMode cases allowed blank between
   star-does q e = rw e
 
-  last-slash-does : act closing p 47 s ≡ go plain
+  pub last-slash-does : act closing p 47 s ≡ go plain
   unfolding act inMode cases allowed blank between
   last-slash-does = refl
 

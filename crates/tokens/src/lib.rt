@@ -39,13 +39,13 @@ pub fn is_wordy(b: u8) -> bool
     }
 }
 
-fn is_blank(b: u8) -> bool
+pub fn is_blank(b: u8) -> bool
     ensures { λ r. ⌜ r ≡ blank b ⌝ }
 {
     (b == 32) | (b == 9) | (b == 10) | (b == 13)
 }
 
-fn is_allowed(b: u8) -> bool
+pub fn is_allowed(b: u8) -> bool
     ensures { λ r. ⌜ r ≡ allowed b ⌝ }
 {
     is_blank(b) | (32 <= b) & (b <= 126)

@@ -1,0 +1,4 @@
+pub mod Squeezed
+pub mod Intake
+pub mod Calls
+pub mod Answers
