@@ -21,9 +21,11 @@ pub mod signals;
 pub mod statements;
 pub mod timing;
 pub mod tokens;
+pub mod waveforms;
 
 pub use document::Document;
 pub use listing::listing;
 pub use refusal::Refusal;
 pub use services::{check, name, waveform, window, Declared, Summary, Window};
 pub use tokens::{token, Located};
+pub use waveforms::{waveforms, Waveforms};
