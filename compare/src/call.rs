@@ -9,6 +9,11 @@ use std::fmt::Debug;
 pub trait Call: Debug {
     fn rooms(&self) -> Rooms;
     fn make(&self, reader: &dyn Reader, lent: Slices) -> u64;
+
+    /// Whether all that was lent must be as it was, by this answer.
+    fn keeps(&self, answer: u64) -> bool {
+        answer != 0
+    }
 }
 
 /// What a call leaves: its answer, and all that was lent.
@@ -45,8 +50,8 @@ pub fn number_around(count: u64, random: &mut Random) -> u64 {
 /// The room for `due` numbers: mostly exact, else too short or longer.
 pub fn room_around(due: usize, random: &mut Random) -> usize {
     match random.below(10) {
-        0 => random.below(due),
-        1 => due - 1,
+        0 => random.below(due.max(1)),
+        1 => due.saturating_sub(1),
         2 => due + random.between(1, 9),
         _ => due,
     }

@@ -2,11 +2,12 @@
 
 use crate::check::Check;
 use crate::name::Name;
-use crate::proved::Proved;
+use crate::proved::{self, Proved};
 use crate::reader::{Reader, Second};
 use crate::tally::Tally;
 use crate::token::{Places, Token};
 use crate::waveform::Waveform;
+use crate::waveforms::Waveforms;
 use crate::{call::outcome, tally::say, window::Window};
 use second::generate::random::Random;
 
@@ -15,6 +16,7 @@ use second::generate::random::Random;
 pub struct Often {
     pub names: usize,
     pub waveforms: usize,
+    pub lists: usize,
     pub windows: usize,
     /// Up to this many cycles, windows are asked for at each of them.
     pub every: u64,
@@ -25,10 +27,18 @@ pub struct Often {
     pub bytes: usize,
 }
 
+impl Often {
+    /// Without the calls that the linked library has no function for.
+    fn linked(self) -> Often {
+        Often { lists: if proved::WAVEFORMS { self.lists } else { 0 }, ..self }
+    }
+}
+
 pub struct Comparison {
     pub check: Tally,
     name: Tally,
     waveform: Tally,
+    waveforms: Tally,
     window: Tally,
     pub token: Tally,
 }
@@ -39,13 +49,14 @@ impl Comparison {
             check: Tally::new("Check"),
             name: Tally::new("Name"),
             waveform: Tally::new("Waveform"),
+            waveforms: Tally::new("Waveforms"),
             window: Tally::new("Window"),
             token: Tally::new("Token"),
         }
     }
 
     pub fn text(&mut self, named: &str, text: &[u8], often: Often, random: &mut Random) {
-        self.readers(named, &Proved(text), &Second::new(text), often, random);
+        self.readers(named, &Proved(text), &Second::new(text), often.linked(), random);
     }
 
     pub fn readers(&mut self, named: &str, proved: &dyn Reader, second: &Second, often: Often, random: &mut Random) {
@@ -60,6 +71,9 @@ impl Comparison {
         }
         for _ in 0..times(often.waveforms) {
             self.waveform.compare(named, &Waveform::draw(document, random), proved, second);
+        }
+        for _ in 0..times(often.lists) {
+            self.waveforms.compare(named, &Waveforms::draw(document, random), proved, second);
         }
         for _ in 0..times(often.windows) {
             self.window.compare(named, &Window::draw(document, random), proved, second);
@@ -87,6 +101,10 @@ impl Comparison {
         let (proved, second) = (Proved(text), Second::new(text));
         let calls = second.document().map_or(Vec::new(), Waveform::every);
         calls.iter().for_each(|call| self.waveform.compare(named, call, &proved, &second));
+        if proved::WAVEFORMS {
+            let lists = second.document().map_or(Vec::new(), Waveforms::every);
+            lists.iter().for_each(|call| self.waveforms.compare(named, call, &proved, &second));
+        }
     }
 
     /// The next token at every place of one text.
@@ -109,15 +127,18 @@ impl Comparison {
     }
 
     fn tallies(&self) -> Vec<&Tally> {
-        vec![&self.check, &self.name, &self.waveform, &self.window, &self.token]
+        vec![&self.check, &self.name, &self.waveform, &self.waveforms, &self.window, &self.token]
     }
 
     pub fn differs(&self) -> bool {
         self.tallies().iter().any(|tally| tally.differs())
     }
 
-    /// A line for each service.
+    /// A line for each service, and one for what is not linked.
     pub fn lines(&self) -> String {
-        self.tallies().iter().map(|tally| tally.line() + "\n").collect()
+        let lines: String = self.tallies().iter().map(|tally| tally.line() + "\n").collect();
+        let unlinked =
+            if proved::WAVEFORMS { "" } else { "Waveforms is not compared: Cargo.toml says that it is not linked\n" };
+        lines + unlinked
     }
 }

@@ -12,6 +12,7 @@ pub struct Rooms {
     pub numbers: usize,
     pub times: usize,
     pub bytes: usize,
+    pub counts: usize,
 }
 
 #[derive(Clone, Hash, PartialEq, Eq)]
@@ -19,6 +20,7 @@ pub struct Lent {
     numbers: Vec<u64>,
     times: Vec<u64>,
     bytes: Vec<u8>,
+    counts: Vec<u64>,
 }
 
 /// The slices alone, without their margins.
@@ -26,6 +28,20 @@ pub struct Slices<'l> {
     pub numbers: &'l mut [u64],
     pub times: &'l mut [u64],
     pub bytes: &'l mut [u8],
+    pub counts: &'l mut [u64],
+}
+
+#[cfg(test)]
+impl Slices<'_> {
+    /// The same slices, lent for a shorter time.
+    pub fn again(&mut self) -> Slices<'_> {
+        Slices { numbers: self.numbers, times: self.times, bytes: self.bytes, counts: self.counts }
+    }
+
+    pub fn rooms(&self) -> Rooms {
+        let Slices { numbers, times, bytes, counts } = self;
+        Rooms { numbers: numbers.len(), times: times.len(), bytes: bytes.len(), counts: counts.len() }
+    }
 }
 
 impl Lent {
@@ -36,11 +52,17 @@ impl Lent {
             numbers: fill(rooms.numbers).collect(),
             times: fill(rooms.times).collect(),
             bytes: fill(rooms.bytes).map(|fill| fill as u8 | 128).collect(),
+            counts: fill(rooms.counts).collect(),
         }
     }
 
     pub fn slices(&mut self) -> Slices<'_> {
-        Slices { numbers: within(&mut self.numbers), times: within(&mut self.times), bytes: within(&mut self.bytes) }
+        Slices {
+            numbers: within(&mut self.numbers),
+            times: within(&mut self.times),
+            bytes: within(&mut self.bytes),
+            counts: within(&mut self.counts),
+        }
     }
 
     /// One number for all that it holds, so that what two processes were lent can be held against each other.
@@ -59,6 +81,7 @@ impl Lent {
         differ("number", &self.numbers, &other.numbers)
             .or_else(|| differ("time", &self.times, &other.times))
             .or_else(|| differ("byte", &self.bytes, &other.bytes))
+            .or_else(|| differ("count", &self.counts, &other.counts))
     }
 }
 

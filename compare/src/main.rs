@@ -19,6 +19,7 @@ mod tally;
 mod texts;
 mod token;
 mod waveform;
+mod waveforms;
 mod window;
 
 use std::process::ExitCode;
@@ -27,6 +28,7 @@ const USAGE: &str = "compare FIRST COUNT
 compare one check READER FILE
 compare one name READER FILE signal|table N
 compare one waveform READER FILE TABLE SIGNAL CHARACTER
+compare one waveforms READER FILE [TABLE SIGNAL CHARACTER]..
 compare one window READER FILE FIRST WANTED
 compare one token READER FILE AT";
 

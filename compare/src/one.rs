@@ -10,7 +10,9 @@ use crate::reader::{next_token, Reader, Second};
 use crate::tally::say;
 use crate::token::Token;
 use crate::waveform::Waveform;
+use crate::waveforms::Waveforms;
 use second::timing::Asked;
+use second::waveforms::ASKED;
 use std::process::ExitCode;
 
 /// The second reader, which reads its text here at each call, as the proved one does.
@@ -27,6 +29,10 @@ impl Reader for Anew<'_> {
 
     fn waveform(&self, asked: Asked, times: &mut [u64], letters: &mut [u8], count: &mut [u64]) -> u64 {
         Second::new(self.0).waveform(asked, times, letters, count)
+    }
+
+    fn waveforms(&self, list: &[u64], lent: Slices) -> u64 {
+        Second::new(self.0).waveforms(list, lent)
     }
 
     fn window(&self, first: u64, wanted: u64, rows: &mut [u8], numbers: &mut [u64]) -> u64 {
@@ -75,15 +81,26 @@ fn call_of(service: &str, text: &[u8], numbers: &[&str]) -> Result<Box<dyn Call>
             };
             Ok(Box::new(Name { table, number: number(which)?, room: Name::DUE }))
         }
-        ("waveform", [table, signal, character]) => {
-            let character = *character.as_bytes().first().unwrap_or(&0);
-            let asked = Asked { table: number(table)?, signal: number(signal)?, character };
-            Ok(Box::new(Waveform::with_room(asked)))
-        }
+        ("waveform", [table, signal, character]) => Ok(Box::new(Waveform::with_room(asked(table, signal, character)?))),
+        ("waveforms", list) if list.len() % ASKED == 0 => waveforms(list),
         ("window", [first, wanted]) => window(text, number(first)?, number(wanted)?),
         ("token", [at]) => Ok(Box::new(Token::with_room(number(at)?))),
         _ => Err(format!("no such service, or not its numbers: {service} {}", numbers.join(" "))),
     }
+}
+
+fn asked(table: &str, signal: &str, character: &str) -> Result<Asked, String> {
+    let character = *character.as_bytes().first().unwrap_or(&0);
+    Ok(Asked { table: number(table)?, signal: number(signal)?, character })
+}
+
+fn waveforms(words: &[&str]) -> Result<Box<dyn Call>, String> {
+    let mut list = Vec::new();
+    for words in words.chunks(ASKED) {
+        let Asked { table, signal, character } = asked(words[0], words[1], words[2])?;
+        list.extend([table, signal, character.into()]);
+    }
+    Ok(Box::new(Waveforms::with_room(list)))
 }
 
 fn window(text: &[u8], first: u64, wanted: u64) -> Result<Box<dyn Call>, String> {

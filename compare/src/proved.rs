@@ -1,8 +1,30 @@
 //! The proved reader, behind its C interface.
 
+use crate::lent::Slices;
 use crate::raw::{lutemeteor_check, lutemeteor_name, lutemeteor_token, lutemeteor_waveform, lutemeteor_window};
 use crate::reader::Reader;
 use second::timing::Asked;
+
+#[cfg(feature = "waveforms")]
+extern "C" {
+    fn lutemeteor_waveforms(
+        text: *const u8,
+        length: usize,
+        asked: *const u64,
+        asked_length: usize,
+        times: *mut u64,
+        times_room: usize,
+        letters: *mut u8,
+        letters_room: usize,
+        counts: *mut u64,
+        counts_room: usize,
+        numbers: *mut u64,
+        numbers_room: usize,
+    ) -> u64;
+}
+
+/// Whether the linked library has waveforms by the list, as Cargo.toml says; else they are not compared.
+pub const WAVEFORMS: bool = cfg!(feature = "waveforms");
 
 /// The proved reader with one text, which it reads at each call.
 pub struct Proved<'t>(pub &'t [u8]);
@@ -35,6 +57,31 @@ impl Reader for Proved<'_> {
                 count.len(),
             )
         }
+    }
+
+    #[cfg(feature = "waveforms")]
+    fn waveforms(&self, list: &[u64], lent: Slices) -> u64 {
+        unsafe {
+            lutemeteor_waveforms(
+                self.0.as_ptr(),
+                self.0.len(),
+                list.as_ptr(),
+                list.len(),
+                lent.times.as_mut_ptr(),
+                lent.times.len(),
+                lent.bytes.as_mut_ptr(),
+                lent.bytes.len(),
+                lent.counts.as_mut_ptr(),
+                lent.counts.len(),
+                lent.numbers.as_mut_ptr(),
+                lent.numbers.len(),
+            )
+        }
+    }
+
+    #[cfg(not(feature = "waveforms"))]
+    fn waveforms(&self, _: &[u64], _: Slices) -> u64 {
+        panic!("Cargo.toml says that the linked library has no waveforms by the list")
     }
 
     fn window(&self, first: u64, wanted: u64, rows: &mut [u8], numbers: &mut [u64]) -> u64 {

@@ -1,11 +1,14 @@
 //! What a reader answers of one text, in the form of the C interface; and the second reader in that form.
 
+use crate::lent::Slices;
 use second::refusal::{Answer, BUFFER_TOO_SHORT, NO_SUCH_ITEM};
 use second::services::Summary;
 use second::timing::Asked;
-use second::{token, Declared, Document, Located, Refusal};
+use second::waveforms::accept_list;
+use second::{token, Declared, Document, Located, Refusal, Waveforms};
 
-/// Each service gives 0 for an answer, else 32 times the place plus the number of the refusal; then every lent slice is as it was.
+/// Each service gives 0 for an answer, else 32 times the place plus the number of the refusal; then every lent slice is as it was,
+/// but for what a list of waveforms had served before.
 pub trait Reader {
     /// Five numbers: signals, tables, listed patterns, cycles, size.
     fn check(&self, numbers: &mut [u64]) -> u64;
@@ -13,6 +16,8 @@ pub trait Reader {
     fn name(&self, table: u8, number: u64, numbers: &mut [u64]) -> u64;
     /// One number: the count of events.
     fn waveform(&self, asked: Asked, times: &mut [u64], letters: &mut [u8], count: &mut [u64]) -> u64;
+    /// One number: all events, or how many waveforms were served before the first that is refused.
+    fn waveforms(&self, list: &[u64], lent: Slices) -> u64;
     /// Two numbers: rows and visits.
     fn window(&self, first: u64, wanted: u64, rows: &mut [u8], numbers: &mut [u64]) -> u64;
     /// Three numbers: 1, place and length; or three times 0 where there is no further token.
@@ -80,6 +85,19 @@ impl Reader for Second<'_> {
             Some(count) => document.waveform(asked, times, letters).map(|events| *count = events),
             // Every waveform has an event, so without any room the answer is 18 or 19 as well.
             None => document.waveform(asked, &mut [], &mut []).map(|_| ()),
+        }))
+    }
+
+    fn waveforms(&self, list: &[u64], lent: Slices) -> u64 {
+        told(self.document().and_then(|document| {
+            accept_list(list, lent.counts)?;
+            let number = lent.numbers.first_mut().ok_or_else(too_short)?;
+            let (told, answer) = match document.waveforms(list, lent.times, lent.bytes, lent.counts)? {
+                Waveforms::All { events } => (events, Ok(())),
+                Waveforms::Stopped { served, refusal } => (served, Err(refusal)),
+            };
+            *number = told;
+            answer
         }))
     }
 

@@ -1,6 +1,9 @@
 //! That a difference is found: readers that answer as the second one does, but for one slip.
 
+mod lists;
+
 use crate::comparison::{Comparison, Often};
+use crate::lent::Slices;
 use crate::reader::{told, write_next, Reader, Second};
 use crate::special::SAMPLE;
 use crate::texts::short;
@@ -38,6 +41,37 @@ slips! {
     WaveformRest,
     WaveformShortTimes,
     WaveformLastLetter,
+    ListTableCut,
+    ListCharacterCut,
+    ListOneMore,
+    ListOneLess,
+    ListLeftOverUncounted,
+    ListLeftOverDropped,
+    ListLeftOverFilled,
+    ListLeftOverFirst,
+    ListBeforeText,
+    ListCountsFirst,
+    ListCountsLater,
+    ListNumbersFirst,
+    ListNumbersUnasked,
+    ListRoomForAll,
+    ListWritesNothing,
+    ListWritesThoughRefused,
+    ListServed,
+    ListEventsAtRefusal,
+    ListServedAtAnswer,
+    ListNumbersKept,
+    ListNumbersRest,
+    ListPartOfGroup,
+    ListCountOfRefused,
+    ListCountsRest,
+    ListCountsShifted,
+    ListCountsAdded,
+    ListAtFront,
+    ListLaterTimes,
+    ListNoRefusal,
+    ListPlace,
+    ListGoesOn,
     WindowVisits,
     WindowVisitsOfLaterTurns,
     WindowOneRowOnly,
@@ -125,6 +159,10 @@ impl Reader for Slipping<'_> {
             letters[events - 1] = letters[0];
         }
         answer
+    }
+
+    fn waveforms(&self, list: &[u64], lent: Slices) -> u64 {
+        self.list(list, lent)
     }
 
     fn window(&self, mut first: u64, mut wanted: u64, rows: &mut [u8], numbers: &mut [u64]) -> u64 {
@@ -232,7 +270,8 @@ fn opens_comment(text: &[u8], at: u64) -> bool {
     rest.starts_with(b"/*") && !rest[2..].windows(2).any(|two| two == b"*/")
 }
 
-const OFTEN: Often = Often { names: 5, waveforms: 5, windows: 5, every: 20, tokens: 100, places: 20, bytes: 100 };
+const OFTEN: Often =
+    Often { names: 5, waveforms: 5, lists: 5, windows: 5, every: 20, tokens: 100, places: 20, bytes: 100 };
 
 fn found(slip: Slip) -> bool {
     let mut comparison = Comparison::new();

@@ -44,22 +44,42 @@ impl Waveform {
     }
 }
 
+/// How many tables and signals there are, or would be.
+fn counts(document: Option<&Document>) -> (u64, u64) {
+    document.map_or((1, 1), |document| (document.summary().tables, document.summary().signals))
+}
+
 fn draw_asked(document: Option<&Document>, random: &mut Random) -> Asked {
-    let (signals, tables) = document.map_or((1, 1), |document| (document.summary().signals, document.summary().tables));
+    let asked = draw_there(document, random);
+    if random.percent(60) {
+        return asked;
+    }
+    draw_near(document, asked, random)
+}
+
+/// Any table and signal, with a character that has a waveform there, if there is one.
+pub fn draw_there(document: Option<&Document>, random: &mut Random) -> Asked {
+    let (tables, signals) = counts(document);
     let mut asked = Asked { table: random.draw() % tables, signal: random.draw() % signals, character: b'0' };
     let having = document.map_or(Vec::new(), |document| characters(document, asked));
     if !having.is_empty() {
         asked.character = having[random.below(having.len())];
     }
-    match random.below(10) {
-        0 => asked.table = number_around(tables, random),
-        1 => asked.signal = number_around(signals, random),
-        2 => asked.character = draw_character(asked.character, random),
-        3 => {
-            let character = draw_character(asked.character, random);
-            asked = Asked { table: number_around(tables, random), signal: number_around(signals, random), character };
-        }
-        _ => {}
+    asked
+}
+
+/// Another table, signal or character, or all of them; most often one that is not there.
+pub fn draw_near(document: Option<&Document>, mut asked: Asked, random: &mut Random) -> Asked {
+    let (tables, signals) = counts(document);
+    let which = random.below(4);
+    if which == 0 || which == 3 {
+        asked.table = number_around(tables, random);
+    }
+    if which == 1 || which == 3 {
+        asked.signal = number_around(signals, random);
+    }
+    if which > 1 {
+        asked.character = draw_character(asked.character, random);
     }
     asked
 }
@@ -97,7 +117,7 @@ fn draw_rooms(due: usize, random: &mut Random) -> (usize, usize) {
 
 impl Call for Waveform {
     fn rooms(&self) -> Rooms {
-        Rooms { numbers: self.count, times: self.times, bytes: self.letters }
+        Rooms { numbers: self.count, times: self.times, bytes: self.letters, ..Rooms::default() }
     }
 
     fn make(&self, reader: &dyn Reader, lent: Slices) -> u64 {

@@ -84,7 +84,7 @@ fn draw_room(due: u64, random: &mut Random) -> usize {
 
 impl Call for Window {
     fn rooms(&self) -> Rooms {
-        Rooms { numbers: self.room, times: 0, bytes: self.rows }
+        Rooms { numbers: self.room, bytes: self.rows, ..Rooms::default() }
     }
 
     fn make(&self, reader: &dyn Reader, lent: Slices) -> u64 {

@@ -1,4 +1,4 @@
-//! The bounds of document 01, each in one place.
+//! The bounds of document 01 and of the requests made after it, each in one place.
 
 pub const MAX_TEXT: usize = 65_536;
 pub const MAX_NAME: usize = 32;
@@ -20,3 +20,5 @@ pub const MAX_TIME: u64 = 1_000_000_000;
 pub const MAX_SIZE: u64 = 65_536;
 pub const MAX_CYCLES: u64 = 1_099_511_627_776;
 pub const MAX_LISTING: u64 = 1_000_000;
+pub const MAX_WAVEFORMS: usize = 64;
+pub const MAX_RAW: usize = 1_048_576;

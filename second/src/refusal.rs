@@ -1,4 +1,4 @@
-//! The one way a text or a call is turned down: a number of document 01's table and a place.
+//! The one way a text or a call is turned down: a number of document 01's table, or of a request after it, and a place.
 
 #[derive(Clone, Copy, Debug, PartialEq, Eq)]
 pub struct Refusal {
@@ -27,6 +27,7 @@ pub const RUN_TOO_LARGE: u8 = 16;
 pub const CYCLE_WITHOUT_WAVEFORM: u8 = 17;
 pub const NO_SUCH_ITEM: u8 = 18;
 pub const BUFFER_TOO_SHORT: u8 = 19;
+pub const STORE_TOO_SHORT: u8 = 20;
 
 impl Refusal {
     pub fn new(number: u8, place: usize) -> Refusal {

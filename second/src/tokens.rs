@@ -58,6 +58,14 @@ const fn classes() -> [u8; 256] {
     table
 }
 
+pub fn is_allowed(byte: u8) -> bool {
+    CLASS[byte as usize] != NOT_ALLOWED
+}
+
+pub fn is_blank(byte: u8) -> bool {
+    CLASS[byte as usize] == BLANK
+}
+
 /// The next token as if reading began at `place`.
 pub fn token(text: &[u8], place: u64) -> Answer<Option<Located>> {
     if text.len() > MAX_TEXT {
