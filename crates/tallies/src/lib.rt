@@ -612,7 +612,7 @@ fn fits_pin(
 
 // So each byte of a word of an argument that was not seen yet; the pin is the last one, without any `before`.
 fn fits_word(
-    w: &[u8],
+    word: &[u8],
     seen: &mut [u8],
     sums: &[u8],
     r: usize,
@@ -622,12 +622,12 @@ fn fits_word(
     table: usize,
 ) -> On
     requires { ⌜ (length (now seen) ≡ bytes) × (r * rowSize + rowSize ≤ length (now sums)) × (length (now waves) ≡ tablesMost * tableSize) × (s < signalsMost) ⌝ }
-    ensures { λ o. ⌜ (o .fits ≡ true → (o .pin ≡ lastOf (now (w .entry)) before) × SeenWord (now (w .entry)) (now (seen .entry)) (now (seen .exit)) (FitsFed (now (waves .entry)) r s (tableOf table) (now (sums .entry)))) ⌝ }
+    ensures { λ o. ⌜ (o .fits ≡ true → (o .pin ≡ lastOf (now (word .entry)) before) × SeenWord (now (word .entry)) (now (seen .entry)) (now (seen .exit)) (FitsFed (now (waves .entry)) r s (tableOf table) (now (sums .entry)))) ⌝ }
 {
     let mut last = before;
     let mut i = 0;
-    while i < w.len() {
-        last = w[i];
+    while i < word.len() {
+        last = word[i];
         if seen[last as usize] == 0 {
             if !fits_where(sums, r, GIVEN + s * SLOTS, waves, s, last, table) {
                 return On {

@@ -69,7 +69,7 @@ loop-again : tie.Need-loop-again Inv-loop μ-loop
 loop-again c =
     let turn = c .before .before .before .before in
     let y = turn .loop .inv in
-    let w = turn .before .before .before .before .before .args .w .now in
+    let w = turn .before .before .before .before .before .args .word .now in
     let below : getD w (turn .loop .i) 0 < length (turn .loop .seen) = omega (arith, c .before .before .shared-slice-known4 .given (turn .loop .i), y .2 .long, turn .before .before .before .before .before .pre .0) in
     ⊎-elim
     (λ x. (
@@ -86,7 +86,7 @@ same-length-2 c = c .before .loop .inv .2 .long
 returns-2 : tie.Need-returns-2 Inv-loop μ-loop
 returns-2 c =
     let y = c .before .loop .inv in
-    let whole = take-all (c .before .loop .i) (c .before .before .before .before .before .before .args .w .now) (omega arith) in
+    let whole = take-all (c .before .loop .i) (c .before .before .before .before .before .before .args .word .now) (omega arith) in
     λ h. (y .1 ∙ ap (λ l. lastOf l (c .before .before .before .before .before .before .args .before)) whole, rw whole at (y .2))
 
 pub fits-word-spec : {M : Type 1} → statement M
