@@ -2,3 +2,4 @@ pub mod Pieces
 mod Spans
 mod Ahead
 mod Passing
+pub mod Worded

@@ -135,8 +135,8 @@ fn repeat(text: &[u8], c: Cursor) -> Feed
     }
 }
 
-// The next word of the DATA at a place; where the DATA ends, none.
-fn next_word(text: &[u8], place: usize) -> Feed
+// The next word of the DATA at a place; where the DATA ends, none. The DATA goes on at its end.
+pub fn next_word(text: &[u8], place: usize) -> Feed
     ensures { λ r. ⌜ NextWord (now (text .entry)) place r ⌝ }
 {
     let c = words::cursor_at(text, place);

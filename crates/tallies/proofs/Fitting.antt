@@ -63,12 +63,6 @@ module _ (sums : List ℕ) (r : ℕ) {bad : ℕ} (e : bad ≡ byteAt sums r badP
         tabled = λ o. (k, table-some k h, fine-read {sums = sums} (only-none {r = r + 1}) r k (λ q. omega arith) h f (flag-is n));
       }
 
--- ---- an argument's characters
-
--- the character c can be shown wherever the row shows the argument
-abbrev pub FitsFed : List ℕ → ℕ → ℕ → Option ℕ → List ℕ → ℕ → Type 0
-FitsFed waves r i table sums c = (tabs : Tables) → Marked waves tabs → FitsWhere tabs r (givenFrom + i * slots) i c table sums
-
 -- ---- all signals: the first s of them
 
 pub record Asking (text waves given args pins : List ℕ) (r table s : ℕ) (sums left : List ℕ) : Type 0 where

@@ -1,4 +1,4 @@
--- A signal's argument, one character after the other: each that was read has a property, and one that has it already needs no second look.
+-- A signal's argument, one word after the other: each character that was read has a property, and one that has it already needs no second look.
 use Prim.Native.Nat.{ℕ, _+_, _≤_, _<_}
 use native.Mathlib.Omega.{arith}
 use native.Mathlib.Numerals.{add-one}
@@ -6,93 +6,117 @@ use mathlib.Core.Path.{_≡_, refl, sym, ap, _∙_, subst}
 use mathlib.Core.Bool.{Bool, true, false, _||_}
 use mathlib.Core.List.{List, [], _∷_, _++_}
 use lib.Dec.{ltb, eqb}
-use lib.ListN.{length, getD, take, drop, set, replicate, drop-of-length-le, length-set, length-replicate, getD-replicate}
-use lib.Seq.{take-suc, take-all, drop-cons, getD-set-other}
-use borrow.Author.Tests.{ltb-true, ltb-false, eqb-true, eqb-false}
+use lib.ListN.{length, getD, take, set, replicate, length-set, length-replicate, getD-replicate, List·getD-eq-default}
+use lib.Seq.{take-suc, getD-set-same, getD-set-other}
+use borrow.Author.Tests.{ltb-true, ltb-false, eqb-true, eqb-false, eq-eqb}
 use Rattle.meaning.specs.Bounds.{signalsMost}
 use Rattle.meaning.specs.Lists.{has}
 use Rattle.meaning.specs.Body.{Args, argOf}
-use Rattle.meaning.specs.Run.{next, behind}
+use Rattle.words.specs.Cursor.{span}
 use Rattle.feeds.specs.declared.Feed.{Feed}
-use Rattle.feeds.specs.declared.Fed.{Fed}
-use Rattle.feeds.specs.Feeds.{Feeds, Takes}
+use Rattle.feeds.specs.Feeds.{NextWord}
+use Rattle.feeds.proofs.Worded.{Worded, worded}
 use Rattle.arguments.specs.Supplied.{DataAt, Supplied}
 use Rattle.arguments.proofs.Lists.{has-append, differ}
 use Rattle.arguments.proofs.Fits.{arg-none}
 use Rattle.arguments.proofs.Counted.{argument-none}
 use Rattle.sums.specs.Parts.{lastOf}
+use Rattle.tallies.specs.Rows.{bytes, SeenWord}
 
 -- ---- lists
 
-last-one : (xs : List ℕ) (c d : ℕ) → lastOf (xs ++ (c ∷ [])) d ≡ c
+last-append : (xs ys : List ℕ) (d : ℕ) → lastOf (xs ++ ys) d ≡ lastOf ys (lastOf xs d)
 unfolding lastOf
-last-one [] c d = refl
-last-one (x ∷ xs) c d = last-one xs c x
+last-append [] ys d = refl
+last-append (x ∷ xs) ys d = last-append xs ys x
 
-next-drop : (cs : List ℕ) (i : ℕ) → i < length cs → next (drop i cs) ≡ getD cs i 0
-unfolding next
-next-drop cs i h = rw (drop-cons cs i 0 h)
-
-behind-drop : (cs : List ℕ) (i : ℕ) → behind (drop i cs) ≡ drop (i + 1) cs
-unfolding behind
-behind-drop cs i = by (ltb i (length cs)) refl
-  where
-    by : (z : Bool) → ltb i (length cs) ≡ z → behind (drop i cs) ≡ drop (i + 1) cs
-    by true e = rw (drop-cons cs i 0 (ltb-true i (length cs) e), add-one)
-    by false e =
-        let l = ltb-false i (length cs) e in
-        let m : length cs ≤ i + 1 = omega arith in
-        rw (drop-of-length-le cs l, drop-of-length-le cs m)
+-- where all in front of a word are its own
+last-word : (front w : List ℕ) (d : ℕ) → ((c : ℕ) → has c front ≡ true → has c w ≡ true) → lastOf w (lastOf front d) ≡ lastOf w d
+unfolding lastOf has
+last-word [] [] d a = refl
+last-word (x ∷ front) [] d a = absurd (differ (sym (a x (rw (eq-eqb x x refl)))))
+last-word front (x ∷ w) d a = refl
 
 or-left : (a b : Bool) → b ≡ false → (a || b) ≡ true → a ≡ true
 or-left true b h e = refl
 or-left false b h e = absurd (differ (sym e ∙ h))
 
-other : (c x : ℕ) → eqb x c ≡ false → has c (x ∷ []) ≡ false
-unfolding has
-other c x e = rw e
+or-word : (a b z : Bool) → (a ≡ true → b ≡ true) → z ≡ false → (a || (b || z)) ≡ true → b ≡ true
+or-word true b z f n h = f refl
+or-word false b z f n h = or-left b z n h
 
--- ---- the first n characters: each has the property P
+-- one more of a list
+module _ (w : List ℕ) (i : ℕ) (h : i < length w) where
+  take-more : take (i + 1) w ≡ take i w ++ (getD w i 0 ∷ [])
+  take-more = rw (add-one, take-suc w i 0 h)
 
-pub record Reading (text : List ℕ) (place n : ℕ) (f : Feed) (last : ℕ) (P : ℕ → Type 0) : Type 0 where
-  pub left : (cs : List ℕ) → DataAt text place cs → Feeds text f (drop n cs)
-  pub last-is : (cs : List ℕ) → DataAt text place cs → n ≤ length cs → last ≡ lastOf (take n cs) 0
-  pub each : (cs : List ℕ) → DataAt text place cs → n ≤ length cs → (c : ℕ) → has c (take n cs) ≡ true → P c
+  pub last-more : (d : ℕ) → getD w i 0 ≡ lastOf (take (i + 1) w) d
+  unfolding lastOf
+  last-more d = sym (ap (λ (l : List ℕ). lastOf l d) take-more ∙ last-append (take i w) (getD w i 0 ∷ []) d)
+
+  has-more : {G : Type 0} (c : ℕ) → (has c (take i w) ≡ true → G) → (getD w i 0 ≡ c → G) → has c (take (i + 1) w) ≡ true → G
+  unfolding has
+  has-more {G} c f g e = by (eqb (getD w i 0) c) refl (sym (ap (has c) take-more ∙ has-append c (take i w) (getD w i 0 ∷ [])) ∙ e)
+    where
+      by : (z : Bool) → eqb (getD w i 0) c ≡ z → (has c (take i w) || has c (getD w i 0 ∷ [])) ≡ true → G
+      by true q k = g (eqb-true (getD w i 0) c q)
+      by false q k = f (or-left (has c (take i w)) _ (rw q) k)
+
+-- ---- the words up to a place: each of their characters has the property P
+
+-- of the characters cs, those from the place on are unread
+pub record Unread (text cs : List ℕ) (at last : ℕ) (P : ℕ → Type 0) : Type 0 where
+  pub rest : List ℕ
+  pub read : DataAt text at rest
+  pub last-is : lastOf cs 0 ≡ lastOf rest last
+  pub each : (c : ℕ) → has c cs ≡ true → has c rest ≡ false → P c
+
+pub record Reading (text : List ℕ) (place at last : ℕ) (P : ℕ → Type 0) : Type 0 where
+  pub left : (cs : List ℕ) → DataAt text place cs → Unread text cs at last P
 
 module _ {text : List ℕ} {place : ℕ} where
-  pub reading-none : {f : Feed} {P : ℕ → Type 0} → ((cs : List ℕ) → DataAt text place cs → Feeds text f cs) → Reading text place 0 f 0 P
-  unfolding lastOf has
-  reading-none g = record { left = g; last-is = λ cs d l. refl; each = λ cs d l c h. absurd (differ (sym h)) }
+  pub reading-none : {P : ℕ → Type 0} → Reading text place place 0 P
+  reading-none = record { left = λ cs d. record { rest = cs; read = d; last-is = refl; each = λ c h n. absurd (differ (sym h ∙ n)) } }
 
-  -- one more, behind which the property may be another
-  pub reading-next : {n last : ℕ} {f : Feed} {P Q : ℕ → Type 0} {x : Fed} → Reading text place n f last P → Takes text f x → ((c : ℕ) → P c → Q c) → Q (x .char)
-      → Reading text place (n + 1) (x .feed) (x .char) Q
-  reading-next {n} {last} {f} {P} {Q} {x} y t k q =
-      record {
-        left = λ cs p. subst (Feeds text (x .feed)) (behind-drop cs n) (t .left (drop n cs) (y .left cs p));
-        last-is = λ cs p l. char-is cs p l ∙ sym (ap (λ (z : List ℕ). lastOf z 0) (cut cs l) ∙ last-one (take n cs) (getD cs n 0) 0);
-        each = λ cs p l c e.
-            by cs p l c (eqb (getD cs n 0) c) refl (sym (ap (has c) (cut cs l) ∙ has-append c (take n cs) (getD cs n 0 ∷ [])) ∙ e);
-      }
-    where
-      char-is : (cs : List ℕ) → DataAt text place cs → n + 1 ≤ length cs → x .char ≡ getD cs n 0
-      char-is cs p l = t .char (drop n cs) (y .left cs p) ∙ next-drop cs n (omega arith)
+  module _ {at last : ℕ} {f : Feed} {P : ℕ → Type 0} (y : Reading text place at last P) (n : NextWord text at f) where
+    -- one more, behind which the property may be another
+    pub reading-word : {w : List ℕ} {last′ : ℕ} {Q : ℕ → Type 0} → w ≡ span text (f .at) (f .end) → last′ ≡ lastOf w last → ((c : ℕ) → P c → Q c) → ((c : ℕ) → has c w ≡ true → Q c)
+        → Reading text place (f .end) last′ Q
+    reading-word {w} {last′} {Q} e l k q = record { left = λ cs d. step cs (y .left cs d) }
+      where
+        step : (cs : List ℕ) → Unread text cs at last P → Unread text cs (f .end) last′ Q
+        step cs u = by (worded (n .feeds (u .rest) (u .read .0) (u .read .1) (u .read .2)))
+          where
+            by : Worded text f (u .rest) → Unread text cs (f .end) last′ Q
+            by x =
+                record {
+                  rest = x .rest;
+                  read = (x .last, x .others, x .read);
+                  last-is =
+                      u .last-is ∙ ap (λ (z : List ℕ). lastOf z last) is ∙ last-append (x .front) (w ++ x .rest) last
+                      ∙ last-append w (x .rest) (lastOf (x .front) last) ∙ ap (lastOf (x .rest)) (last-word (x .front) w last among ∙ sym l);
+                  each = λ c h o. either c (has c (u .rest)) refl h o;
+                }
+              where
+                is : u .rest ≡ x .front ++ (w ++ x .rest)
+                is = x .is ∙ ap (λ (z : List ℕ). x .front ++ (z ++ x .rest)) (sym e)
 
-      cut : (cs : List ℕ) → n + 1 ≤ length cs → take (n + 1) cs ≡ take n cs ++ (getD cs n 0 ∷ [])
-      cut cs l = let m : n < length cs = omega arith in rw (add-one, take-suc cs n 0 m)
+                among : (c : ℕ) → has c (x .front) ≡ true → has c w ≡ true
+                among c h = ap (has c) e ∙ x .among c h
 
-      by : (cs : List ℕ) → DataAt text place cs → n + 1 ≤ length cs → (c : ℕ) (z : Bool) → eqb (getD cs n 0) c ≡ z
-          → (has c (take n cs) || has c (getD cs n 0 ∷ [])) ≡ true → Q c
-      by cs p l c true e h = subst Q (char-is cs p l ∙ eqb-true (getD cs n 0) c e) q
-      by cs p l c false e h = k c (y .each cs p (omega arith) c (or-left (has c (take n cs)) _ (other c (getD cs n 0) e) h))
+                either : (c : ℕ) (z : Bool) → has c (u .rest) ≡ z → has c cs ≡ true → has c (x .rest) ≡ false → Q c
+                either c true r h o =
+                    q c (or-word (has c (x .front)) (has c w) (has c (x .rest)) (among c) o
+                    (sym (ap (has c) is ∙ has-append c (x .front) (w ++ x .rest) ∙ ap (λ (z : Bool). has c (x .front) || z) (has-append c w (x .rest))) ∙ r))
+                either c false r h o = k c (u .each c h r)
 
-  pub reading-all : {n last : ℕ} {f : Feed} {P : ℕ → Type 0} → Reading text place n f last P → (cs : List ℕ) → DataAt text place cs → length cs ≡ n
-      → (last ≡ lastOf cs 0) × ((c : ℕ) → has c cs ≡ true → P c)
-  reading-all {n} y cs d e =
-      let whole = take-all n cs (omega arith) in (
-        y .last-is cs d (omega arith) ∙ ap (λ (l : List ℕ). lastOf l 0) whole,
-        λ c h. y .each cs d (omega arith) c (ap (has c) whole ∙ h),
-      )
+    -- there are no more
+    pub reading-all : f .end ≤ f .at → (cs : List ℕ) → DataAt text place cs → (last ≡ lastOf cs 0) × ((c : ℕ) → has c cs ≡ true → P c)
+    unfolding lastOf has
+    reading-all h cs d =
+        let u = y .left cs d in
+        let e : u .rest ≡ [] = n .ends (u .rest) (u .read .0) (u .read .1) (u .read .2) h in
+        (sym (u .last-is ∙ ap (λ (l : List ℕ). lastOf l last) e), λ c k. u .each c k (ap (has c) e))
 
 -- a signal that has no argument
 pub reading-unsupplied : {text : List ℕ} {xs : Args} {given args : List ℕ} → Supplied text xs given args → (i : ℕ) → i < signalsMost → getD given i 0 ≡ 0
@@ -100,25 +124,69 @@ pub reading-unsupplied : {text : List ℕ} {xs : Args} {given args : List ℕ} �
 unfolding lastOf has
 reading-unsupplied {text} {xs} u i h z = let e = arg-none i xs (argument-none u i h z) in (rw e, λ c k. differ (sym (rw e at k)))
 
--- ---- characters that were seen: each has the property P
+-- ---- the bytes of a word, one after the other: the first i of them
 
-abbrev pub bytes : ℕ
-bytes = 256
+pub word-none : {seen : List ℕ} {P : ℕ → Type 0} → SeenWord [] seen seen P
+unfolding has
+word-none = record { long = refl; word = λ c h. absurd (differ (sym h)); new = λ c e n. absurd (n e) }
+
+module _ (w : List ℕ) (i : ℕ) {seen seen′ : List ℕ} {P : ℕ → Type 0} (y : SeenWord (take i w) seen seen′ P) (h : i < length w) where
+  -- one that was seen
+  pub word-again : (getD seen′ (getD w i 0) 0 ≡ 0 → ⊥) → SeenWord (take (i + 1) w) seen seen′ P
+  word-again s =
+      record {
+        long = y .long;
+        word = λ c. has-more w i h c (y .word c) (λ e. subst (λ (b : ℕ). getD seen′ b 0 ≡ 0 → ⊥) e s);
+        new = y .new;
+      }
+
+  -- one that is now, behind which the property may be another
+  pub word-more : {Q : ℕ → Type 0} → ((c : ℕ) → P c → Q c) → Q (getD w i 0) → getD w i 0 < length seen′
+      → SeenWord (take (i + 1) w) seen (set seen′ (getD w i 0) 1) Q
+  word-more {Q} k q l =
+      record {
+        long = length-set seen′ (getD w i 0) 1 ∙ y .long;
+        word = λ c. has-more w i h c (λ e z. y .word c e (unset c z)) (λ e. subst (λ (b : ℕ). getD (set seen′ (getD w i 0) 1) b 0 ≡ 0 → ⊥) e here);
+        new = λ c e n. by c (eqb c (getD w i 0)) refl e n;
+      }
+    where
+      here : getD (set seen′ (getD w i 0) 1) (getD w i 0) 0 ≡ 0 → ⊥
+      here z = omega (arith, getD-set-same seen′ (getD w i 0) 1 0 l, z)
+
+      unset : (c : ℕ) → getD (set seen′ (getD w i 0) 1) c 0 ≡ 0 → getD seen′ c 0 ≡ 0
+      unset c z = by (eqb c (getD w i 0)) refl
+        where
+          by : (b : Bool) → eqb c (getD w i 0) ≡ b → getD seen′ c 0 ≡ 0
+          by true e = absurd (here (subst (λ (b : ℕ). getD (set seen′ (getD w i 0) 1) b 0 ≡ 0) (eqb-true c (getD w i 0) e) z))
+          by false e = sym (getD-set-other seen′ (getD w i 0) c 1 0 (eqb-false c (getD w i 0) e)) ∙ z
+
+      by : (c : ℕ) (b : Bool) → eqb c (getD w i 0) ≡ b → getD seen c 0 ≡ 0 → (getD (set seen′ (getD w i 0) 1) c 0 ≡ 0 → ⊥) → Q c
+      by c true e z n = subst Q (sym (eqb-true c (getD w i 0) e)) q
+      by c false e z n = k c (y .new c z (λ o. n (getD-set-other seen′ (getD w i 0) c 1 0 (eqb-false c (getD w i 0) e) ∙ o)))
+
+-- ---- characters that were seen: each has the property P
 
 pub record Seen (seen : List ℕ) (P : ℕ → Type 0) : Type 0 where
   pub long : length seen ≡ bytes
-  pub each : (c : ℕ) → c < bytes → (getD seen c 0 ≡ 0 → ⊥) → P c
+  pub each : (c : ℕ) → (getD seen c 0 ≡ 0 → ⊥) → P c
 
 pub seen-none : {P : ℕ → Type 0} → Seen (replicate bytes 0) P
-seen-none = record { long = length-replicate {A = ℕ} bytes 0; each = λ c h n. absurd (n (getD-replicate {A = ℕ} bytes c 0 0 h)) }
+seen-none = record { long = length-replicate {A = ℕ} bytes 0; each = λ c n. absurd (n (by c (ltb c bytes) refl)) }
+  where
+    by : (c : ℕ) (b : Bool) → ltb c bytes ≡ b → _≡_ {A = ℕ} (getD (replicate bytes 0) c 0) 0
+    by c true e = getD-replicate {A = ℕ} bytes c 0 0 (ltb-true c bytes e)
+    by c false e = List·getD-eq-default (replicate bytes 0) 0 {n = c} (omega (arith, length-replicate {A = ℕ} bytes 0, ltb-false c bytes e))
 
-module _ {seen : List ℕ} {P Q : ℕ → Type 0} (y : Seen seen P) (k : (c : ℕ) → P c → Q c) where
-  pub seen-kept : Seen seen Q
-  seen-kept = record { long = y .long; each = λ c h n. k c (y .each c h n) }
+-- those of a word too
+pub seen-word : {w seen seen′ : List ℕ} {P N Q : ℕ → Type 0} → Seen seen P → SeenWord w seen seen′ N → ((c : ℕ) → P c → Q c) → ((c : ℕ) → N c → Q c) → Seen seen′ Q
+seen-word {w} {seen} {seen′} {P} {N} {Q} y x k m = record { long = x .long ∙ y .long; each = λ c n. by c (eqb (getD seen c 0) 0) refl n }
+  where
+    by : (c : ℕ) (b : Bool) → eqb (getD seen c 0) 0 ≡ b → (getD seen′ c 0 ≡ 0 → ⊥) → Q c
+    by c true e n = m c (x .new c (eqb-true (getD seen c 0) 0 e) n)
+    by c false e n = k c (y .each c (eqb-false (getD seen c 0) 0 e))
 
-  pub seen-more : (x v : ℕ) → Q x → Seen (set seen x v) Q
-  seen-more x v q = record { long = length-set seen x v ∙ y .long; each = λ c h n. by c (eqb c x) refl h n }
-    where
-      by : (c : ℕ) (z : Bool) → eqb c x ≡ z → c < bytes → (getD (set seen x v) c 0 ≡ 0 → ⊥) → Q c
-      by c true e h n = subst Q (sym (eqb-true c x e)) q
-      by c false e h n = k c (y .each c h (λ o. n (getD-set-other seen x c v 0 (eqb-false c x e) ∙ o)))
+-- a word more, of which the property is the same
+pub reading-seen : {text w seen seen′ : List ℕ} {place at last last′ : ℕ} {f : Feed} {P : ℕ → Type 0} → Reading text place at last P → Seen seen P → NextWord text at f
+    → w ≡ span text (f .at) (f .end) → last′ ≡ lastOf w last → SeenWord w seen seen′ P → Reading text place (f .end) last′ P × Seen seen′ P
+reading-seen y z n e l x =
+    let known = seen-word z x (λ b h. h) (λ b h. h) in (reading-word y n e l (λ b h. h) (λ b h. known .each b (x .word b h)), known)

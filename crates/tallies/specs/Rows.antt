@@ -133,6 +133,23 @@ pub record ShownWhere (tabs : Tables) (r from place i : ℕ) (x : Shown) (sums s
 pub record FedWhere (tabs : Tables) (r from i : ℕ) (cs : List ℕ) (sums sums′ : List ℕ) : Type 0 where
   pub each : (c : ℕ) → has c cs ≡ true → ShownWhere tabs r from (givenFrom + i * slots) i (shownOf c) sums sums′
 
+-- so was the character c
+abbrev pub ShownFed : List ℕ → ℕ → ℕ → ℕ → List ℕ → List ℕ → ℕ → Type 0
+ShownFed waves r from i sums sums′ c = (tabs : Tables) → Marked waves tabs → ShownWhere tabs r from (givenFrom + i * slots) i (shownOf c) sums sums′
+
+-- ---- characters that are looked at once: a byte for each, 0 until it was seen
+
+abbrev pub bytes : ℕ
+bytes = 256
+
+-- every byte of the word w was seen, and P holds of those that were not before
+pub record SeenWord (w seen seen′ : List ℕ) (P : ℕ → Type 0) : Type 0 where
+  pub long : length seen′ ≡ length seen
+  pub word : (c : ℕ) → has c w ≡ true → getD seen′ c 0 ≡ 0 → ⊥
+  pub new : (c : ℕ) → getD seen c 0 ≡ 0 → (getD seen′ c 0 ≡ 0 → ⊥) → P c
+
+-- ---- what a body leaves
+
 -- of what the row leaves, only signal i is another
 pub record Passed (r i : ℕ) (sums sums′ : List ℕ) : Type 0 where
   pub only : Only r sums sums′
@@ -173,6 +190,10 @@ pub record FitsWhere (tabs : Tables) (r place i c : ℕ) (table : Option ℕ) (s
 -- so can each of these characters, where the row shows the argument
 pub record FedFits (tabs : Tables) (r i : ℕ) (cs : List ℕ) (table : Option ℕ) (sums : List ℕ) : Type 0 where
   pub each : (c : ℕ) → has c cs ≡ true → FitsWhere tabs r (givenFrom + i * slots) i c table sums
+
+-- so can the character c
+abbrev pub FitsFed : List ℕ → ℕ → ℕ → Option ℕ → List ℕ → ℕ → Type 0
+FitsFed waves r i table sums c = (tabs : Tables) → Marked waves tabs → FitsWhere tabs r (givenFrom + i * slots) i c table sums
 
 -- signal i has c before and cs as its argument: both can be shown, and `pin` is what the row leaves
 pub record OnPin (waves : List ℕ) (r i c : ℕ) (cs : List ℕ) (table : Option ℕ) (sums : List ℕ) (pin : ℕ) : Type 0 where

@@ -18,7 +18,7 @@ ghost use Rattle.arguments.specs.Supplied.{Supplied, DataAt};
 ghost use Rattle.sums.specs.Parts.{Nothing, Assigned, Chosen, Shows, Cycled, InPlace, Called, Alone, lastOf, behind};
 ghost use Rattle.pins.specs.Shown.{tableOf};
 ghost use Rattle.sums.specs.Sums.{okAt, orTable};
-ghost use Rattle.tallies.specs.Rows.{slots, rowSize, byteAt, flagAt, shownOf, sumAt, Only, Stored, More, Marked, Inherits, Needed, Tabled, Asked, ShownWhere, FedWhere, Passed, OnSignal, Retabled, isSummed, isShifted, Grants, Holds, FitsWhere, FedFits, OnPin, Suits};
+ghost use Rattle.tallies.specs.Rows.{slots, rowSize, byteAt, flagAt, shownOf, sumAt, Only, Stored, More, Marked, Inherits, Needed, Tabled, Asked, ShownWhere, FedWhere, Passed, OnSignal, Retabled, isSummed, isShifted, Grants, Holds, FitsWhere, FedFits, OnPin, Suits, bytes, SeenWord, ShownFed, FitsFed};
 
 const MARK: u8 = 35;
 
@@ -334,7 +334,34 @@ fn show_pin(sums: &mut [u8], to: usize, from: usize, place: usize, waves: &[u8],
     }
 }
 
-// A signal's argument, of so many characters: each is shown, once, wherever the body shows the argument. The answer is the last one, 0 for none.
+// The bytes of a word of a signal's argument: each that was not seen yet is shown wherever the body shows the argument. The answer is the last one; without any, `before`.
+fn feed_word(
+    w: &[u8],
+    seen: &mut [u8],
+    sums: &mut [u8],
+    to: usize,
+    from: usize,
+    waves: &[u8],
+    s: usize,
+    before: u8,
+) -> u8
+    requires { ⌜ (length (now seen) ≡ bytes) × (to * rowSize + rowSize ≤ length (now sums)) × (from * rowSize + rowSize ≤ length (now sums)) × (from ≡ to → ⊥) × (length (now waves) ≡ tablesMost * tableSize) × (s < signalsMost) ⌝ }
+    ensures { λ r. ⌜ (r ≡ lastOf (now (w .entry)) before) × More to (now (sums .entry)) (now (sums .exit)) × SeenWord (now (w .entry)) (now (seen .entry)) (now (seen .exit)) (ShownFed (now (waves .entry)) to from s (now (sums .entry)) (now (sums .exit))) ⌝ }
+{
+    let mut last = before;
+    let mut i = 0;
+    while i < w.len() {
+        last = w[i];
+        if seen[last as usize] == 0 {
+            show_where(sums, to, from, GIVEN + s * SLOTS, waves, s, last);
+            seen[last as usize] = 1;
+        }
+        i += 1;
+    }
+    last
+}
+
+// A signal's argument, word by word: each character is shown, once, wherever the body shows the argument. The answer is the last one, 0 for none.
 fn feed(
     text: &[u8],
     sums: &mut [u8],
@@ -343,26 +370,22 @@ fn feed(
     waves: &[u8],
     s: usize,
     place: usize,
-    count: usize,
 ) -> u8
     requires { ⌜ (to * rowSize + rowSize ≤ length (now sums)) × (from * rowSize + rowSize ≤ length (now sums)) × (from ≡ to → ⊥) × (length (now waves) ≡ tablesMost * tableSize) × (s < signalsMost) ⌝ }
-    ensures { λ r. ⌜ More to (now (sums .entry)) (now (sums .exit)) × ((cs : List ℕ) → DataAt (now (text .entry)) place cs → length cs ≡ count → (r ≡ lastOf cs 0) × ((tabs : Tables) → Marked (now (waves .entry)) tabs → FedWhere tabs to from s cs (now (sums .entry)) (now (sums .exit)))) ⌝ }
+    ensures { λ r. ⌜ More to (now (sums .entry)) (now (sums .exit)) × ((cs : List ℕ) → DataAt (now (text .entry)) place cs → (r ≡ lastOf cs 0) × ((tabs : Tables) → Marked (now (waves .entry)) tabs → FedWhere tabs to from s cs (now (sums .entry)) (now (sums .exit)))) ⌝ }
 {
     let mut seen = [0u8; BYTES];
-    let mut f = feeds::start(place);
+    let mut at = place;
     let mut last = 0;
-    let mut i = 0;
-    while i < count {
-        let x = feeds::next(text, f);
-        last = x.char;
-        f = x.feed;
-        if seen[last as usize] == 0 {
-            show_where(sums, to, from, GIVEN + s * SLOTS, waves, s, last);
-            seen[last as usize] = 1;
+    loop {
+        let word = feeds::next_word(text, at);
+        if word.end <= word.at {
+            return last;
         }
-        i += 1;
+        let w = words::bytes_of(text, word.at, word.end);
+        last = feed_word(w, &mut seen, sums, to, from, waves, s, last);
+        at = word.end;
     }
-    last
 }
 
 // The same, where the signal has one.
@@ -382,16 +405,7 @@ fn feed_signal(
     if given[s] == 0 {
         return 0;
     }
-    feed(
-        text,
-        sums,
-        to,
-        from,
-        waves,
-        s,
-        args[sets::MOST + s],
-        args[s],
-    )
+    feed(text, sums, to, from, waves, s, args[sets::MOST + s])
 }
 
 // ---- a body entered in place: a macro, or a Loop's
@@ -596,28 +610,24 @@ fn fits_pin(
     fits_slot(sums, r, place + timing::TABLES, waves, table, s, x)
 }
 
-// So each character of an argument, which has so many; the pin is the last of them, 0 for none. Each is looked at once.
-fn fed_fits(
-    text: &[u8],
+// So each byte of a word of an argument that was not seen yet; the pin is the last one, without any `before`.
+fn fits_word(
+    word: &[u8],
+    seen: &mut [u8],
     sums: &[u8],
     r: usize,
     waves: &[u8],
     s: usize,
-    place: usize,
-    count: usize,
+    before: u8,
     table: usize,
 ) -> On
-    requires { ⌜ (r * rowSize + rowSize ≤ length (now sums)) × (length (now waves) ≡ tablesMost * tableSize) × (s < signalsMost) ⌝ }
-    ensures { λ o. ⌜ ((cs : List ℕ) → DataAt (now (text .entry)) place cs → length cs ≡ count → o .fits ≡ true → (o .pin ≡ lastOf cs 0) × ((tabs : Tables) → Marked (now (waves .entry)) tabs → FedFits tabs r s cs (tableOf table) (now (sums .entry)))) ⌝ }
+    requires { ⌜ (length (now seen) ≡ bytes) × (r * rowSize + rowSize ≤ length (now sums)) × (length (now waves) ≡ tablesMost * tableSize) × (s < signalsMost) ⌝ }
+    ensures { λ o. ⌜ (o .fits ≡ true → (o .pin ≡ lastOf (now (word .entry)) before) × SeenWord (now (word .entry)) (now (seen .entry)) (now (seen .exit)) (FitsFed (now (waves .entry)) r s (tableOf table) (now (sums .entry)))) ⌝ }
 {
-    let mut seen = [0u8; BYTES];
-    let mut f = feeds::start(place);
-    let mut last = 0;
+    let mut last = before;
     let mut i = 0;
-    while i < count {
-        let x = feeds::next(text, f);
-        last = x.char;
-        f = x.feed;
+    while i < word.len() {
+        last = word[i];
         if seen[last as usize] == 0 {
             if !fits_where(sums, r, GIVEN + s * SLOTS, waves, s, last, table) {
                 return On {
@@ -632,6 +642,40 @@ fn fed_fits(
     On {
         fits: true,
         pin: last,
+    }
+}
+
+// So each character of an argument, word by word; the pin is the last of them, 0 for none. Each is looked at once.
+fn fed_fits(
+    text: &[u8],
+    sums: &[u8],
+    r: usize,
+    waves: &[u8],
+    s: usize,
+    place: usize,
+    table: usize,
+) -> On
+    requires { ⌜ (r * rowSize + rowSize ≤ length (now sums)) × (length (now waves) ≡ tablesMost * tableSize) × (s < signalsMost) ⌝ }
+    ensures { λ o. ⌜ ((cs : List ℕ) → DataAt (now (text .entry)) place cs → o .fits ≡ true → (o .pin ≡ lastOf cs 0) × ((tabs : Tables) → Marked (now (waves .entry)) tabs → FedFits tabs r s cs (tableOf table) (now (sums .entry)))) ⌝ }
+{
+    let mut seen = [0u8; BYTES];
+    let mut at = place;
+    let mut last = 0;
+    loop {
+        let word = feeds::next_word(text, at);
+        if word.end <= word.at {
+            return On {
+                fits: true,
+                pin: last,
+            };
+        }
+        let w = words::bytes_of(text, word.at, word.end);
+        let o = fits_word(w, &mut seen, sums, r, waves, s, last, table);
+        if !o.fits {
+            return o;
+        }
+        last = o.pin;
+        at = word.end;
     }
 }
 
@@ -652,16 +696,7 @@ fn signal_fits(
     if given[s] == 0 {
         return On { fits: true, pin: 0 };
     }
-    fed_fits(
-        text,
-        sums,
-        r,
-        waves,
-        s,
-        args[sets::MOST + s],
-        args[s],
-        table,
-    )
+    fed_fits(text, sums, r, waves, s, args[sets::MOST + s], table)
 }
 
 // A signal with the character x before: its argument too, and what the row leaves on it.

@@ -1,73 +1,52 @@
--- Each turn takes the next character; one that was seen fits already.
-use Prim.Native.Nat.{_-_, _≤_}
+-- Each turn takes the next word, in which those that were seen fit already.
 use native.Mathlib.Omega.{arith}
-use mathlib.Core.Path.{sym}
-use mathlib.Core.Logic.{⊎-elim}
-use borrow.Author.Tests.{not-false}
+use mathlib.Core.Path.{sym, _∙_}
+use borrow.Author.Tests.{not-true, not-false}
 use Rattle.arguments.proofs.Lists.{differ}
+use Rattle.tokens.specs.Tokens.{toks, left}
 use Rattle.pins.specs.Shown.{tableOf}
-use Rattle.tallies.proofs.Reading.{Reading, reading-none, reading-next, reading-all, Seen, seen-none, seen-more}
-use Rattle.tallies.proofs.Fitting.{FitsFed}
+use Rattle.tallies.specs.Rows.{FitsFed}
+use Rattle.tallies.proofs.Reading.{Reading, reading-none, reading-all, Seen, seen-none, reading-seen}
 use borrow.Author.Needs.{needs}
 use Rattle.tallies.proofs.fed_fits.Statement.{statement}
 use Rattle.tallies.proofs.fed_fits.Tie as tie
 
 abbrev Inv-loop : tie.InvT-loop
-Inv-loop text sums r waves s place count table seen₀ f₀ last₀ i₀ seen f last i = (i ≤ count) × Reading text place i f last (FitsFed waves r s (tableOf table) sums) × Seen seen (FitsFed waves r s (tableOf table) sums)
+Inv-loop text sums r waves s place table seen₀ at₀ last₀ seen at last = Reading text place at last (FitsFed waves r s (tableOf table) sums) × Seen seen (FitsFed waves r s (tableOf table) sums)
 
 abbrev μ-loop : tie.MeasureT-loop
-μ-loop text sums r waves s place count table seen₀ f₀ last₀ i₀ seen f last i = count - i
-
-start-requires : tie.Need-start-requires Inv-loop μ-loop
-start-requires c κs = search needs
+μ-loop text sums r waves s place table seen₀ at₀ last₀ seen at last = left (toks text at)
 
 loop-holds : tie.Need-loop-holds Inv-loop μ-loop
-loop-holds c = (omega arith, reading-none (λ cs d. c .start .ensures _ cs (d .0) (d .1) (d .2)), seen-none)
+loop-holds c = (reading-none, seen-none)
 
-next-requires : tie.Need-next-requires Inv-loop μ-loop
-next-requires c κs = search needs
-
-cast-if1 : tie.Need-cast-if1 Inv-loop μ-loop
-cast-if1 c = search needs
-
-array-read-if1 : tie.Need-array-read-if1 Inv-loop μ-loop
-array-read-if1 c = search needs
-
-mul-fits-where : tie.Need-mul-fits-where Inv-loop μ-loop
-mul-fits-where c = search needs
-
-add-fits-where : tie.Need-add-fits-where Inv-loop μ-loop
-add-fits-where c = search needs
-
-fits-where-requires : tie.Need-fits-where-requires Inv-loop μ-loop
-fits-where-requires c κs = search needs
+next-word-requires : tie.Need-next-word-requires Inv-loop μ-loop
+next-word-requires c κs = search needs
 
 returns : tie.Need-returns Inv-loop μ-loop
-returns c = λ cs d e h. absurd (differ (sym h))
+returns c =
+    λ cs d h. let w = reading-all (c .before .before .before .loop .inv .0) (c .before .before .next-word .ensures) (c .if1 .taken) cs d in (w .0, λ tabs m. record { each = λ b k. w .1 b k tabs m })
 
-cast-seen : tie.Need-cast-seen Inv-loop μ-loop
-cast-seen c = search needs
+bytes-of-requires : tie.Need-bytes-of-requires Inv-loop μ-loop
+bytes-of-requires c κs = search needs
 
-array-write-seen : tie.Need-array-write-seen Inv-loop μ-loop
-array-write-seen c = search needs
+slice-aggregate-fits-word : tie.Need-slice-aggregate-fits-word Inv-loop μ-loop
+slice-aggregate-fits-word c = sym (c .before .before .before .before .before .loop .inv .1 .long)
 
-add-i : tie.Need-add-i Inv-loop μ-loop
-add-i c = search needs
+fits-word-requires : tie.Need-fits-word-requires Inv-loop μ-loop
+fits-word-requires c κs = let p = c .before .before .before .before .before .before .before .before .before .pre in (c .before .before .before .before .before .loop .inv .1 .long, p .0, p .1, p .2)
+
+returns-2 : tie.Need-returns-2 Inv-loop μ-loop
+returns-2 c = λ cs d h. absurd (differ (sym h ∙ not-true _ (c .if2 .taken)))
 
 loop-less : tie.Need-loop-less Inv-loop μ-loop
-loop-less c = search needs
+loop-less c = c .before .before .before .before .before .before .before .before .next-word .ensures .fewer (c .before .before .before .before .before .before .if1 .left)
 
 loop-again : tie.Need-loop-again Inv-loop μ-loop
 loop-again c =
-    let y = c .before .before .before .before .loop .inv in
-    ⊎-elim (λ w. let fit = w .1 .ensures (not-false _ (w .2 .left)) in
-    (omega arith, reading-next (y .1) (c .before .before .next .ensures) (λ b h. h) fit, rw (w .3) (seen-more (y .2) (λ b h. h) _ _ fit)))
-    (λ w. let fit = y .2 .each _ (omega arith) (w .0 .left) in
-    (omega arith, reading-next (y .1) (c .before .before .next .ensures) (λ b h. h) fit, rw (w .1) (y .2)))
-    (c .if1 .came)
-
-returns-2 : tie.Need-returns-2 Inv-loop μ-loop
-returns-2 c = λ cs d e h. let w = reading-all (c .before .loop .inv .1) cs d (omega arith) in (w .0, λ tabs m. record { each = λ b k. w .1 b k tabs m })
+    let y = c .before .before .before .before .before .before .before .before .before .loop .inv in
+    let fit = c .before .before .before .fits-word .ensures (not-false _ (c .if2 .left)) in
+    reading-seen (y .0) (y .1) (c .before .before .before .before .before .before .before .before .next-word .ensures) (c .before .before .before .before .before .bytes-of .ensures) (fit .0) (fit .1)
 
 pub fed-fits-spec : {M : Type 1} → statement M
 fed-fits-spec =
@@ -75,18 +54,12 @@ fed-fits-spec =
     (tie.spec
     Inv-loop
     μ-loop
-    start-requires
     loop-holds
-    next-requires
-    cast-if1
-    array-read-if1
-    mul-fits-where
-    add-fits-where
-    fits-where-requires
+    next-word-requires
     returns
-    cast-seen
-    array-write-seen
-    add-i
+    bytes-of-requires
+    slice-aggregate-fits-word
+    fits-word-requires
+    returns-2
     loop-less
-    loop-again
-    returns-2)
+    loop-again)

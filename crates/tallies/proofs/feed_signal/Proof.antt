@@ -1,6 +1,5 @@
 -- The signal has no argument, or one.
 use native.Mathlib.Omega.{arith}
-use mathlib.Core.Path.{sym}
 use Rattle.arguments.proofs.Counted.{argument-some}
 use Rattle.tallies.proofs.Grown.{more-none}
 use Rattle.tallies.proofs.Feeding.{fed-none}
@@ -23,12 +22,6 @@ mul-feed c = search needs
 shared-slice-read-feed : tie.Need-shared-slice-read-feed
 shared-slice-read-feed c = search needs
 
-mul-feed-2 : tie.Need-mul-feed-2
-mul-feed-2 c = search needs
-
-shared-slice-read-feed-2 : tie.Need-shared-slice-read-feed-2
-shared-slice-read-feed-2 c = search needs
-
 feed-requires : tie.Need-feed-requires
 feed-requires c κs = search needs
 
@@ -36,7 +29,7 @@ same-length : tie.Need-same-length
 same-length c = c .before .before .feed .ensures .0 .only .long
 
 returns-2 : tie.Need-returns-2
-returns-2 c = (c .before .before .feed .ensures .0, λ xs u. let a = u .each _ (argument-some u (c .before .before .before .before .before .before .before .before .before .before .before .before .before .args .s) (omega arith) (c .before .before .before .before .before .before .if1 .left)) in c .before .before .feed .ensures .1 _ (a .at) (sym (a .counted)))
+returns-2 c = (c .before .before .feed .ensures .0, λ xs u. let a = u .each _ (argument-some u (c .before .before .before .before .before .before .before .before .before .before .before .before .args .s) (omega arith) (c .before .before .before .before .before .if1 .left)) in c .before .before .feed .ensures .1 _ (a .at))
 
 pub feed-signal-spec : {M : Type 1} → statement M
 feed-signal-spec =
@@ -47,8 +40,6 @@ feed-signal-spec =
     add-feed
     mul-feed
     shared-slice-read-feed
-    mul-feed-2
-    shared-slice-read-feed-2
     feed-requires
     same-length
     returns-2)

@@ -1,6 +1,5 @@
 -- The signal has no argument, or one.
 use native.Mathlib.Omega.{arith}
-use mathlib.Core.Path.{sym}
 use Rattle.arguments.proofs.Counted.{argument-some}
 use Rattle.tallies.proofs.Reading.{reading-unsupplied}
 use borrow.Author.Needs.{needs}
@@ -22,17 +21,11 @@ mul-fed-fits c = search needs
 shared-slice-read-fed-fits : tie.Need-shared-slice-read-fed-fits
 shared-slice-read-fed-fits c = search needs
 
-mul-fed-fits-2 : tie.Need-mul-fed-fits-2
-mul-fed-fits-2 c = search needs
-
-shared-slice-read-fed-fits-2 : tie.Need-shared-slice-read-fed-fits-2
-shared-slice-read-fed-fits-2 c = search needs
-
 fed-fits-requires : tie.Need-fed-fits-requires
 fed-fits-requires c κs = search needs
 
 returns-2 : tie.Need-returns-2
-returns-2 c = λ xs u e. let a = u .each _ (argument-some u (c .before .before .before .before .before .before .before .before .before .before .args .s) (omega arith) (c .before .before .before .if1 .left)) in c .fed-fits .ensures _ (a .at) (sym (a .counted)) e
+returns-2 c = λ xs u e. let a = u .each _ (argument-some u (c .before .before .before .before .before .before .before .before .before .args .s) (omega arith) (c .before .before .if1 .left)) in c .fed-fits .ensures _ (a .at) e
 
 pub signal-fits-spec : {M : Type 1} → statement M
 signal-fits-spec =
@@ -43,7 +36,5 @@ signal-fits-spec =
     add-fed-fits
     mul-fed-fits
     shared-slice-read-fed-fits
-    mul-fed-fits-2
-    shared-slice-read-fed-fits-2
     fed-fits-requires
     returns-2)
