@@ -12,6 +12,9 @@
  *   any other   The call is refused, and all buffers are as they were. answer % 32 is the refusal's number, 1 to 19;
  *               answer / 32 is its place, a byte of the text counted from 0, or the text's length for its end.
  *
+ * The intake, at the end of this file, is for a text that arrives in blocks: its state stands between the calls in
+ * numbers of the caller's, also where it is refused. It has a refusal of its own, 20.
+ *
  * Where several refusals fit, the first of these is given: 1, 2, 3; then, of 4 to 14, the one that stands first in
  * the text; then 15, 16, 17, 18, 19. A text that lutemeteor_check accepts is refused by lutemeteor_name,
  * lutemeteor_window and lutemeteor_waveform for 18 or 19 only.
@@ -38,7 +41,9 @@ extern "C" {
 
 /* Bounds of every accepted text: buffers of these sizes are always enough. */
 enum {
-    LUTEMETEOR_TEXT_MOST = 65536, /* bytes of a text */
+    LUTEMETEOR_TEXT_MOST = 65536,  /* bytes of a text */
+    LUTEMETEOR_RAW_MOST = 1048576, /* bytes of a raw text, for the intake */
+    LUTEMETEOR_STATE = 6,          /* numbers of an intake's state */
     LUTEMETEOR_SIGNALS_MOST = 64,
     LUTEMETEOR_TABLES_MOST = 8,
     LUTEMETEOR_NAME_MOST = 32,   /* bytes of a name */
@@ -71,7 +76,9 @@ enum {
     LUTEMETEOR_RUN_TOO_LARGE = 16,   /* the run's size is above 65,536, or its cycles above 2 to the 40th; 0 */
     LUTEMETEOR_NOT_PLAYABLE = 17,    /* a cycle has no table, or a character that has no waveform in it; its V */
     LUTEMETEOR_NO_SUCH = 18,         /* the text has no such signal, table or waveform; 0 */
-    LUTEMETEOR_NO_ROOM = 19          /* a buffer is too short for what is due; 0 */
+    LUTEMETEOR_NO_ROOM = 19,         /* a buffer is too short for what is due; 0 */
+    LUTEMETEOR_NO_STORE = 20         /* of the intake: the store lacks room; the raw byte that adds to it, or the raw
+                                        length */
 };
 
 /* Of an answer that is not 0: the refusal's number, and its place. */
@@ -154,6 +161,41 @@ uint64_t lutemeteor_waveform(const uint8_t *text, size_t length, uint64_t table,
  * is less than 3.
  */
 uint64_t lutemeteor_token(const uint8_t *text, size_t length, uint64_t at, uint64_t *numbers, size_t room);
+
+/*
+ * Intake: the next bytes of a raw text of up to 1,048,576, in chunks of any length, also none. Blanks and comments are
+ * squeezed: each longest run of them is stored as one LF if it holds an LF, else as one space; all other bytes are
+ * stored as they are. The store then reads as the same tokens, and once closed is a text for the functions above.
+ *
+ *   state        six numbers, all 0 before the first chunk; numbers behind them are left as they are. Each call wants
+ *                them, and the store, as the last one left them. state[0] tells what it answered:
+ *                  0  open: state[1] bytes were taken, state[2] are stored; state[3] is the mark of a run that waits,
+ *                     state[4] where the intake stands, state[5] the place of a `/`, which are its own
+ *                  1  refused: state[1] is the refusal's number, state[2] its place, a byte of the raw text. Every
+ *                     later call answers the same and writes nothing to the store
+ *                  2  closed: state[1] is how many bytes are stored. Later calls answer 0 and write nothing
+ *                All other of the six are 0. The six may hold any numbers: a first one above 2 counts as refused, and
+ *                of a mark, a standing and a refusal's number above 255 the last eight bits are taken.
+ *   store        what is stored stands at its front, what was there before stands behind; 65,536 bytes are always
+ *                enough, and of a longer store only so many are filled. A run's mark, or a `/` that might open a
+ *                comment, waits for the byte that shows it over, or for the close
+ *
+ * The answer is 0 where the intake is open or closed. Refused by the first byte of which one of these holds: 1 past
+ * 1,048,576 bytes, 2, 20 where the store has no room for what the byte adds. A refused chunk writes nothing to the
+ * store. The place is in the answer up to 65,536, and is 0 there beyond; in state[2] it is whole. 19 where `state_room`
+ * is less than 6: then nothing is written at all, and the intake stands as before.
+ */
+uint64_t lutemeteor_intake(uint64_t *state, size_t state_room, const uint8_t *chunk, size_t length, uint8_t *store,
+                           size_t store_room);
+
+/*
+ * Close: the raw text ends here, and what still waits is stored. state and store as above; state[0] is 2 then, and the
+ * first state[1] bytes of the store, at most 65,536, are the text.
+ *
+ * Refused 3 where a comment is open, at its first byte; 20 where the store has no room for what waits, at the raw
+ * length; or as the intake was refused before; 19 where `state_room` is less than 6.
+ */
+uint64_t lutemeteor_intake_close(uint64_t *state, size_t state_room, uint8_t *store, size_t store_room);
 
 #ifdef __cplusplus
 }

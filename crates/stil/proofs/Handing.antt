@@ -44,12 +44,21 @@ module _ (l : List ℕ) (a b : ℕ) where
   pub three-stored : (c : ℕ) → 3 ≤ length l → set (set (set l 0 a) 1 b) 2 c ≡ fronted (a ∷ b ∷ c ∷ []) l
   three-stored c h = over-three c ∙ over-all (a ∷ b ∷ c ∷ []) l h
 
-  pub five-stored : (c d e : ℕ) → 5 ≤ length l → set (set (set (set (set l 0 a) 1 b) 2 c) 3 d) 4 e ≡ fronted (a ∷ b ∷ c ∷ d ∷ e ∷ []) l
-  five-stored c d e h =
+  over-five : (c d e : ℕ) → set (set (set (set (set l 0 a) 1 b) 2 c) 3 d) 4 e ≡ over (a ∷ b ∷ c ∷ d ∷ e ∷ []) l
+  over-five c d e =
       ap (λ (m : List ℕ). set (set m 3 d) 4 e) (over-three c)
       ∙ ap (λ (m : List ℕ). set m 4 e) (over-set (a ∷ b ∷ c ∷ []) l d)
       ∙ over-set (a ∷ b ∷ c ∷ d ∷ []) l e
-      ∙ over-all (a ∷ b ∷ c ∷ d ∷ e ∷ []) l h
+
+  pub five-stored : (c d e : ℕ) → 5 ≤ length l → set (set (set (set (set l 0 a) 1 b) 2 c) 3 d) 4 e ≡ fronted (a ∷ b ∷ c ∷ d ∷ e ∷ []) l
+  five-stored c d e h = over-five c d e ∙ over-all (a ∷ b ∷ c ∷ d ∷ e ∷ []) l h
+
+  pub six-stored : (c d e f : ℕ) → 6 ≤ length l
+      → set (set (set (set (set (set l 0 a) 1 b) 2 c) 3 d) 4 e) 5 f ≡ fronted (a ∷ b ∷ c ∷ d ∷ e ∷ f ∷ []) l
+  six-stored c d e f h =
+      ap (λ (m : List ℕ). set m 5 f) (over-five c d e)
+      ∙ over-set (a ∷ b ∷ c ∷ d ∷ e ∷ []) l f
+      ∙ over-all (a ∷ b ∷ c ∷ d ∷ e ∷ f ∷ []) l h
 
 pub one-stored : (l : List ℕ) (a : ℕ) → 1 ≤ length l → set l 0 a ≡ fronted (a ∷ []) l
 unfolding over

@@ -8,4 +8,6 @@ mod Fronts
 mod Shaping
 mod Handing
 mod Opening
+mod Carrying
+pub mod Chained
 pub mod Theorems

@@ -5,3 +5,4 @@ pub mod Views
 pub mod Calls
 pub mod Waveforms
 pub mod Interface
+pub mod Intakes

@@ -1,4 +1,4 @@
-// The services: Check, Name, Window and Waveform, for any text, any numbers and any buffers; and these and the next token for callers in C.
+// The services: Check, Name, Window and Waveform, for any text, any numbers and any buffers; and these, the next token and the intake for callers in C.
 ghost use mathlib.Core.Path.{_≡_};
 ghost use mathlib.Core.List.{_∷_, [], _++_};
 ghost use mathlib.Core.Bool.{false, not};
@@ -6,6 +6,7 @@ ghost use Prim.Native.Nat.{_-_, _≤_, min};
 ghost use lib.ListN.{length, take, drop};
 ghost use lib.Dec.{eqb};
 ghost use Rattle.tokens.specs.Tokens.{nextToken};
+ghost use Rattle.intake.specs.Intake.{chunked, closed as closedOf};
 ghost use Rattle.meaning.specs.Bounds.{signalsMost, tablesMost, entryMost};
 ghost use Rattle.meaning.specs.Meaning.{given, firsts};
 ghost use Rattle.meaning.specs.Services.{check as checkOf, nameAt, nameOf, window as windowOf, waveform as waveformOf};
@@ -17,7 +18,10 @@ ghost use Rattle.stil.specs.Judged.{namedOf, numbered, Judges, Copies};
 ghost use Rattle.stil.specs.Found.{noWaveform, SomeFound, Plays};
 ghost use Rattle.stil.specs.Views.{spared, Views};
 ghost use Rattle.stil.specs.Waveforms.{Outlines, Shapes};
-ghost use Rattle.stil.specs.Interface.{Hands, fiveOf, twoOf, threeOf, tokenOf, Opens, Draws};
+ghost use Rattle.stil.specs.Interface.{Hands, fronted, fiveOf, twoOf, threeOf, tokenOf, Opens, Draws};
+ghost use Rattle.stil.specs.Intakes.{stateLeast, byteOf, progressIs, Tells, Carries};
+use intake::Intake;
+use intake::Progress;
 use plays::Failing;
 use texts::Verdict;
 use timing::Watch;
@@ -704,4 +708,117 @@ pub extern "C" fn lutemeteor_token(text: &[u8], at: usize, numbers: &mut [u64]) 
         tokens::Step::Nothing => hand_three(0, 0, 0, numbers),
         tokens::Step::Token(p, l) => hand_three(1, p, l, numbers),
     }
+}
+
+// ---- the intake for callers in C: what it answered last is a state of lent numbers, six times 0 at first
+
+// The numbers that tell it; what stands behind them stays.
+const STATE: usize = 6;
+
+// The first of them; any other counts as refused.
+const IS_OPEN: u64 = 0;
+
+const IS_REFUSED: u64 = 1;
+
+const IS_CLOSED: u64 = 2;
+
+// Of a number that fits no byte, what 256 leaves.
+fn byte_of(n: u64) -> u8
+    ensures { λ r. ⌜ r ≡ byteOf n ⌝ }
+{
+    (n % 256) as u8
+}
+
+// What six numbers tell.
+fn progress_of(kind: u64, a: u64, b: u64, c: u64, d: u64, e: u64) -> Progress
+    ensures { λ r. ⌜ r ≡ progressIs kind a b c d e ⌝ }
+{
+    if kind == IS_OPEN {
+        let run = byte_of(c);
+        let mode = byte_of(d);
+        return Progress::Open(Intake {
+            taken: a as usize,
+            stored: b as usize,
+            run,
+            mode,
+            opening: e as usize,
+        });
+    }
+    if kind == IS_CLOSED {
+        return Progress::Closed(a as usize);
+    }
+    let number = byte_of(a);
+    Progress::Refused(number, b as usize)
+}
+
+// Six numbers to the front of a state.
+fn put_six(state: &mut [u64], a: u64, b: u64, c: u64, d: u64, e: u64, f: u64)
+    requires { ⌜ stateLeast ≤ length (now state) ⌝ }
+    ensures { λ _. ⌜ now (state .exit) ≡ fronted (a ∷ b ∷ c ∷ d ∷ e ∷ f ∷ []) (now (state .entry)) ⌝ }
+{
+    state[0] = a;
+    state[1] = b;
+    state[2] = c;
+    state[3] = d;
+    state[4] = e;
+    state[5] = f;
+}
+
+// An answer of the intake, as one number and as a state.
+fn put_progress(p: Progress, state: &mut [u64]) -> u64
+    requires { ⌜ stateLeast ≤ length (now state) ⌝ }
+    ensures { λ r. ⌜ Tells p (now (state .entry)) r (now (state .exit)) ⌝ }
+{
+    match p {
+        Progress::Open(it) => {
+            let run = it.run as u64;
+            let mode = it.mode as u64;
+            put_six(
+                state,
+                IS_OPEN,
+                it.taken as u64,
+                it.stored as u64,
+                run,
+                mode,
+                it.opening as u64,
+            );
+            0
+        }
+        Progress::Refused(n, q) => {
+            let number = n as u64;
+            let place = q as u64;
+            put_six(state, IS_REFUSED, number, place, 0, 0, 0);
+            pack(n, q)
+        }
+        Progress::Closed(n) => {
+            put_six(state, IS_CLOSED, n as u64, 0, 0, 0, 0);
+            0
+        }
+    }
+}
+
+// The next chunk of a raw text. A state of less than six numbers is 19.
+#[no_mangle]
+pub extern "C" fn lutemeteor_intake(state: &mut [u64], chunk: &[u8], store: &mut [u8]) -> u64
+    ensures { λ r. ⌜ Carries (λ p s. chunked p (now (chunk .entry)) s) (now (state .entry)) (now (store .entry)) r (now (state .exit)) (now (store .exit)) ⌝ }
+{
+    if state.len() < STATE {
+        return pack(NO_ROOM, 0);
+    }
+    let p = progress_of(state[0], state[1], state[2], state[3], state[4], state[5]);
+    let answer = intake::take(p, chunk, store);
+    put_progress(answer, state)
+}
+
+// The end of a raw text. A state of less than six numbers is 19.
+#[no_mangle]
+pub extern "C" fn lutemeteor_intake_close(state: &mut [u64], store: &mut [u8]) -> u64
+    ensures { λ r. ⌜ Carries closedOf (now (state .entry)) (now (store .entry)) r (now (state .exit)) (now (store .exit)) ⌝ }
+{
+    if state.len() < STATE {
+        return pack(NO_ROOM, 0);
+    }
+    let p = progress_of(state[0], state[1], state[2], state[3], state[4], state[5]);
+    let answer = intake::close(p, store);
+    put_progress(answer, state)
 }
