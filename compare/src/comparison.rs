@@ -1,6 +1,7 @@
 //! Both readers with one text after another, and what was seen of each service.
 
 use crate::check::Check;
+use crate::intake::{Plan, ProvedIntake};
 use crate::name::Name;
 use crate::proved::{self, Proved};
 use crate::reader::{Reader, Second};
@@ -41,6 +42,7 @@ pub struct Comparison {
     waveforms: Tally,
     window: Tally,
     pub token: Tally,
+    pub intake: Tally,
 }
 
 impl Comparison {
@@ -52,6 +54,7 @@ impl Comparison {
             waveforms: Tally::new("Waveforms"),
             window: Tally::new("Window"),
             token: Tally::new("Token"),
+            intake: Tally::new("Intake"),
         }
     }
 
@@ -126,8 +129,13 @@ impl Comparison {
         }
     }
 
+    /// One raw text in chunks.
+    pub fn raw(&mut self, named: &str, plan: &Plan) {
+        plan.follow(named, &mut ProvedIntake, &mut self.intake);
+    }
+
     fn tallies(&self) -> Vec<&Tally> {
-        vec![&self.check, &self.name, &self.waveform, &self.waveforms, &self.window, &self.token]
+        vec![&self.check, &self.name, &self.waveform, &self.waveforms, &self.window, &self.token, &self.intake]
     }
 
     pub fn differs(&self) -> bool {

@@ -5,6 +5,7 @@
 mod call;
 mod check;
 mod comparison;
+mod intake;
 mod lent;
 mod name;
 mod one;

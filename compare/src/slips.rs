@@ -1,5 +1,6 @@
 //! That a difference is found: readers that answer as the second one does, but for one slip.
 
+mod intake;
 mod lists;
 
 use crate::comparison::{Comparison, Often};

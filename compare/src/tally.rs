@@ -3,9 +3,9 @@
 use crate::call::{outcome, Call};
 use crate::lent::Lent;
 use crate::reader::Reader;
-use second::refusal::BUFFER_TOO_SHORT;
+use second::refusal::STORE_TOO_SHORT;
 
-const NUMBERS: usize = BUFFER_TOO_SHORT as usize + 1;
+const NUMBERS: usize = STORE_TOO_SHORT as usize + 1;
 
 pub struct Tally {
     service: &'static str,
@@ -23,11 +23,15 @@ impl Tally {
     /// Makes one call of both readers; all that is left by it must be the same.
     pub fn compare(&mut self, named: &str, call: &dyn Call, proved: &dyn Reader, second: &dyn Reader) {
         let (ours, theirs) = (outcome(call, proved), outcome(call, second));
-        self.calls += 1;
-        self.by_number[(theirs.0 % 32) as usize] += 1;
+        self.count(theirs.0);
         if let Some(what) = difference(call, &ours, &theirs) {
             self.report(&format!("{named}: {call:?}: {what}"));
         }
+    }
+
+    pub fn count(&mut self, answer: u64) {
+        self.calls += 1;
+        self.by_number[(answer % 32) as usize] += 1;
     }
 
     pub fn report(&mut self, line: &str) {

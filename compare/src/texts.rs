@@ -1,6 +1,7 @@
 //! The texts both readers are given: seeded ones, and in each run the special, the hurt, the short and the large ones.
 
 use crate::comparison::{Comparison, Often};
+use crate::intake;
 use crate::special;
 use second::bounds::MAX_TEXT;
 use second::generate::random::Random;
@@ -37,6 +38,7 @@ pub fn seeded(seed: u64, comparison: &mut Comparison) {
     if seed % NESTED == 0 {
         comparison.text(&format!("nested {seed}"), &nested(seed), often, &mut random);
     }
+    intake::seeded(seed).iter().for_each(|plan| comparison.raw(&format!("raw {seed}"), plan));
 }
 
 /// All texts without a seed.
@@ -50,6 +52,7 @@ pub fn fixed(comparison: &mut Comparison) {
             comparison.text(&format!("big {kind}"), &text, LARGE, &mut random);
         }
     }
+    intake::fixed().iter().for_each(|plan| comparison.raw("long raw text", plan));
 }
 
 /// Document 01's text, cut at each byte, without it, and with another in its place; and texts of one byte or a single kind.

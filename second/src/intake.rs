@@ -15,7 +15,7 @@ pub enum Progress {
 
 /// What the next byte of the raw text stands in or behind.
 #[derive(Clone, Copy, Debug, PartialEq, Eq)]
-enum Within {
+pub enum Within {
     /// No comment.
     Tokens,
     /// Behind a `/` that might open a comment.
@@ -30,11 +30,11 @@ enum Within {
 pub struct Intake {
     progress: Progress,
     /// Raw bytes so far, and how many are stored.
-    taken: usize,
-    stored: usize,
-    within: Within,
+    pub taken: usize,
+    pub stored: usize,
+    pub within: Within,
     /// Of the run that is not yet shown to be over.
-    mark: Option<u8>,
+    pub mark: Option<u8>,
 }
 
 impl Default for Intake {

@@ -34,4 +34,16 @@ extern "C" {
         count_room: usize,
     ) -> u64;
     pub fn lutemeteor_token(text: *const u8, length: usize, at: u64, numbers: *mut u64, room: usize) -> u64;
+    // The example hands over whole texts; the comparison calls these two.
+    #[allow(dead_code)]
+    pub fn lutemeteor_intake(
+        state: *mut u64,
+        state_room: usize,
+        chunk: *const u8,
+        length: usize,
+        store: *mut u8,
+        store_room: usize,
+    ) -> u64;
+    #[allow(dead_code)]
+    pub fn lutemeteor_intake_close(state: *mut u64, state_room: usize, store: *mut u8, store_room: usize) -> u64;
 }
