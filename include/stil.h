@@ -176,9 +176,9 @@ uint64_t lutemeteor_token(const uint8_t *text, size_t length, uint64_t at, uint6
  *                  2  closed: state[1] is how many bytes are stored. Later calls answer 0 and write nothing
  *                All other of the six are 0. The six may hold any numbers: a first one above 2 counts as refused, and
  *                of a mark, a standing and a refusal's number above 255 the last eight bits are taken.
- *   store        what is stored stands at its front, what was there before stands behind; 65,536 bytes are always
- *                enough, and of a longer store only so many are filled. A run's mark, or a `/` that might open a
- *                comment, waits for the byte that shows it over, or for the close
+ *   store        what is stored stands at its front, what was there before stands behind. Of a store longer than
+ *                65,536 bytes only so many are filled. A run's mark, or a `/` that might open a comment, waits for the
+ *                byte that shows the run over, or that no comment opens, or for the close
  *
  * The answer is 0 where the intake is open or closed. Refused by the first byte of which one of these holds: 1 past
  * 1,048,576 bytes, 2, 20 where the store has no room for what the byte adds. A refused chunk writes nothing to the
