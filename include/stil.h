@@ -182,8 +182,8 @@ uint64_t lutemeteor_token(const uint8_t *text, size_t length, uint64_t at, uint6
  *
  * The answer is 0 where the intake is open or closed. Refused by the first byte of which one of these holds: 1 past
  * 1,048,576 bytes, 2, 20 where the store has no room for what the byte adds. A refused chunk writes nothing to the
- * store. The place is in the answer up to 65,536, and is 0 there beyond; in state[2] it is whole. 19 where `state_room`
- * is less than 6: then nothing is written at all, and the intake stands as before.
+ * store; the state tells the refusal, so that later calls can repeat it. The place, in the answer and in state[2], is one of
+ * the raw text. 19 where `state_room` is less than 6: then nothing is written at all, and the intake stands as before.
  */
 uint64_t lutemeteor_intake(uint64_t *state, size_t state_room, const uint8_t *chunk, size_t length, uint8_t *store,
                            size_t store_room);

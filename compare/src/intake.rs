@@ -71,13 +71,9 @@ impl SecondIntake {
     }
 }
 
-/// A place past every text is in the state alone.
 fn told(progress: Progress) -> u64 {
     match progress {
-        Progress::Refused(refusal) if refusal.place <= MAX_TEXT as u64 => {
-            32 * refusal.place + u64::from(refusal.number)
-        }
-        Progress::Refused(refusal) => refusal.number.into(),
+        Progress::Refused(refusal) => 32 * refusal.place + u64::from(refusal.number),
         Progress::Open | Progress::Closed(_) => 0,
     }
 }

@@ -10,7 +10,7 @@ ghost use Rattle.intake.specs.Intake.{rawMost, roomOf, markWith, outside
 ghost use Rattle.intake.specs.Answers.{onlyIf, addsOf, stepBy, holdsOf, lastOf, movedBy, answered, added, passes, Puts};
 
 // The most bytes of a raw text, and of a store.
-const RAW: usize = 1_048_576;
+pub const RAW: usize = 1_048_576;
 
 const STORE: usize = 65_536;
 

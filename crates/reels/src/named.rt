@@ -6,24 +6,17 @@ use crate::asked;
 use crate::files;
 use stil::Located;
 
-// The bytes at a place of a text, as far as it has them.
-fn part(text: &[u8], at: usize, long: usize) -> &[u8]
-    ensures { λ r. ⌜ length (now r) ≤ length (now (text .entry)) ⌝ }
-{
-    if long <= text.len() {
-        if at <= text.len() - long {
-            return &text[at..at + long];
-        }
-    }
-    &text[0..0]
-}
-
 fn line(text: &[u8], at: usize, long: usize)
     requires { ⌜ length (now text) ≤ 65537 ⌝ }
 {
+    if text.len() < long {
+        return streams::broken(b"a name longer than the text\n");
+    }
+    if text.len() - long < at {
+        return streams::broken(b"a name past the text\n");
+    }
     let mut page = asked::page();
-    let name = part(text, at, long);
-    let end = lines::name(&mut page, 0, name, at);
+    let end = lines::name(&mut page, 0, &text[at..at + long], at);
     streams::write(&page, end);
 }
 

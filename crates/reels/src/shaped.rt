@@ -23,9 +23,8 @@ fn put_events(page: &mut [u8], times: &[u64], letters: &[u8], k: usize) -> usize
 fn events(times: &[u64], letters: &[u8], k: usize)
     requires { ⌜ (length (now times) ≡ 16) × (length (now letters) ≡ 16) ⌝ }
 {
-    // no waveform has more
     if waves::EVENTS < k {
-        return;
+        return streams::broken(b"more events than a waveform has\n");
     }
     let mut page = asked::page();
     let end = put_events(&mut page, times, letters, k);

@@ -20,13 +20,6 @@ fn least(a: usize, b: usize) -> usize
     if a < b { a } else { b }
 }
 
-// A row's bytes; no text has more than 64 signals.
-fn width_of(signals: usize) -> usize
-    ensures { λ r. ⌜ (2 ≤ r) × (r ≤ 66) ⌝ }
-{
-    least(signals, 64) + 2
-}
-
 // min(wanted, cycles left).
 fn due(cycles: usize, first: usize, wanted: usize) -> usize
     ensures { λ r. ⌜ first + r ≤ 18446744073709551615 ⌝ }
@@ -45,21 +38,32 @@ fn fitting(left: usize, width: usize) -> usize
     least(left, ROWS / width)
 }
 
+// Nothing more is written.
+fn over() -> Piece {
+    Piece {
+        going: false,
+        visits: 0,
+    }
+}
+
 // The rows of n cycles from the cycle `first` on.
 fn some_rows(text: &[u8], first: usize, n: usize, width: usize, page: &mut [u8]) -> Piece
     requires { ⌜ n * width ≤ length (now page) ⌝ }
 {
     match stil::window(text, first, n, page) {
-        Shown::Rows(_, visits) => Piece {
-            going: streams::write(page, n * width),
-            visits,
-        },
+        Shown::Rows(count, visits) => {
+            if count != n {
+                streams::broken(b"fewer rows than are due\n");
+                return over();
+            }
+            Piece {
+                going: streams::write(page, n * width),
+                visits,
+            }
+        }
         Shown::Refused(no, place) => {
             answers::refused(no, place);
-            Piece {
-                going: false,
-                visits: 0,
-            }
+            over()
         }
     }
 }
@@ -89,7 +93,10 @@ fn rows(text: &[u8], first: usize, due: usize, width: usize)
 fn answer(text: &[u8], first: usize, wanted: usize) {
     match stil::check(text) {
         Checked::Counted(signals, _, _, cycles, _) => {
-            rows(text, first, due(cycles, first, wanted), width_of(signals));
+            if sets::MOST < signals {
+                return streams::broken(b"more signals than a text has\n");
+            }
+            rows(text, first, due(cycles, first, wanted), signals + 2);
         }
         Checked::Refused(no, place) => {
             answers::refused(no, place);

@@ -1,10 +1,11 @@
 -- A call of the intake as a caller in C has it: too short a state, or the answer told and the state encoded.
-use Prim.Native.Nat.{ℕ, _≤_, _<_}
+use Prim.Native.Nat.{ℕ, _+_, _*_, _≤_, _<_}
 use mathlib.Core.Path.{_≡_, ap, _∙_}
 use mathlib.Core.List.{List, [], _∷_}
 use lib.ListN.{length}
 use borrow.Author.Tests.{le-leb, lt-leb, eq-eqb, ne-eqb}
 use Rattle.tokens.specs.Written.{cases}
+use Rattle.intake.specs.Intake.{rawMost}
 use Rattle.intake.specs.declared.Intake.{Intake}
 use Rattle.intake.specs.declared.Progress.{Progress}
 use Rattle.intake.specs.declared.Progress.the-variants.{Open, Refused, Closed}
@@ -13,7 +14,7 @@ use Rattle.meaning.specs.Meaning.{given, refused}
 use Rattle.texts.specs.Told.{packedRefusal}
 use Rattle.stil.specs.Answers.{afterwards}
 use Rattle.stil.specs.Interface.{fronted}
-use Rattle.stil.specs.Intakes.{stateLeast, isOpen, isRefused, isClosed, byteOf, progressIs, progressOf, numbersOf, encoded, calledIn, toldBy, toldIn, Tells, Carries}
+use Rattle.stil.specs.Intakes.{stateLeast, isOpen, isRefused, isClosed, byteOf, progressIs, progressOf, numbersOf, encoded, calledIn, rawRefusal, toldBy, toldIn, Tells, Carries}
 
 -- ---- what six numbers tell
 
@@ -31,6 +32,14 @@ module _ (kind a b c d e : ℕ) where
   unfolding progressIs cases
   is-refused g h f = rw (f, ne-eqb kind isOpen g, ne-eqb kind isClosed h, progressIs)
 
+-- ---- a refusal as one number
+
+pub raw-near : (n p : ℕ) → p ≤ rawMost → p * 32 + n ≡ rawRefusal n p
+raw-near n p h = rw (le-leb p rawMost h, rawRefusal)
+
+pub raw-far : (n p : ℕ) → rawMost < p → n ≡ rawRefusal n p
+raw-far n p h = rw (lt-leb p rawMost h, rawRefusal)
+
 -- ---- an answer told
 
 module _ {p : Progress} {state state′ : List ℕ} where
@@ -39,7 +48,7 @@ module _ {p : Progress} {state state′ : List ℕ} where
   unfolding toldBy numbersOf
   tells-open e s = record { number = rw e; state-is = s ∙ rw e }
 
-  pub tells-refused : {n q r : ℕ} → p ≡ Refused n q → state′ ≡ fronted (isRefused ∷ n ∷ q ∷ 0 ∷ 0 ∷ 0 ∷ []) state → r ≡ packedRefusal n q
+  pub tells-refused : {n q r : ℕ} → p ≡ Refused n q → state′ ≡ fronted (isRefused ∷ n ∷ q ∷ 0 ∷ 0 ∷ 0 ∷ []) state → r ≡ rawRefusal n q
       → Tells p state r state′
   unfolding toldBy numbersOf
   tells-refused e s h = record { number = h ∙ rw e; state-is = s ∙ rw e }

@@ -1,5 +1,5 @@
 -- The intake (request 3) for callers in C: what it answered last is a state of lent numbers. A call decodes them, does what the intake does, and encodes the answer.
-use Prim.Native.Nat.{ℕ, _%_, _<_}
+use Prim.Native.Nat.{ℕ, _+_, _*_, _%_, _<_}
 use mathlib.Core.Path.{_≡_}
 use mathlib.Core.Bool.{true, false}
 use mathlib.Core.List.{List, [], _∷_}
@@ -8,7 +8,7 @@ use lib.Dec.{eqb, leb}
 use Rattle.tokens.specs.Written.{cases}
 use Rattle.intake.specs.declared.Progress.{Progress}
 use Rattle.intake.specs.declared.Progress.the-variants.{Open, Refused, Closed}
-use Rattle.intake.specs.Intake.{chunked, closed}
+use Rattle.intake.specs.Intake.{rawMost, chunked, closed}
 use Rattle.meaning.specs.Refusals.{noRoom}
 use Rattle.meaning.specs.Meaning.{Answer, given, refused}
 use Rattle.texts.specs.Told.{packedRefusal}
@@ -68,10 +68,14 @@ Fits (Closed n) = Unit {0}
 unfoldable pub calledIn : (Progress → List ℕ → Progress × List ℕ) → (state store : List ℕ) → Answer (Progress × List ℕ)
 calledIn call state store = elim (leb stateLeast (length state)) [ true ↦ given (call (progressOf state) store) | false ↦ refused noRoom 0 ]
 
+-- a refusal as one number: 32 times its place in the raw text and its number. Only a state that no call gave has a place past the longest raw text; it is not told
+abbrev pub rawRefusal : ℕ → ℕ → ℕ
+rawRefusal n p = elim (leb p rawMost) [ true ↦ p * 32 + n | false ↦ n ]
+
 -- the returned number: 0 where the intake is open or closed, else the refusal
 unfoldable pub toldBy : Progress → ℕ
 toldBy (Open x) = 0
-toldBy (Refused n p) = packedRefusal n p
+toldBy (Refused n p) = rawRefusal n p
 toldBy (Closed n) = 0
 
 unfoldable pub toldIn : Answer (Progress × List ℕ) → ℕ

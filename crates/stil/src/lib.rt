@@ -19,7 +19,7 @@ ghost use Rattle.stil.specs.Found.{noWaveform, SomeFound, Plays};
 ghost use Rattle.stil.specs.Views.{spared, Views};
 ghost use Rattle.stil.specs.Waveforms.{Outlines, Shapes};
 ghost use Rattle.stil.specs.Interface.{Hands, fronted, fiveOf, twoOf, threeOf, tokenOf, Opens, Draws};
-ghost use Rattle.stil.specs.Intakes.{stateLeast, byteOf, progressIs, Tells, Carries};
+ghost use Rattle.stil.specs.Intakes.{stateLeast, byteOf, progressIs, Tells, Carries, rawRefusal};
 use intake::Intake;
 use intake::Progress;
 use plays::Failing;
@@ -764,6 +764,16 @@ fn put_six(state: &mut [u64], a: u64, b: u64, c: u64, d: u64, e: u64, f: u64)
     state[5] = f;
 }
 
+// A refusal of the intake as one number: 32 times its place in the raw text and its number.
+fn pack_raw(no: u8, place: usize) -> u64
+    ensures { λ r. ⌜ r ≡ rawRefusal no place ⌝ }
+{
+    if place <= intake::RAW {
+        return place as u64 * 32 + no as u64;
+    }
+    no as u64
+}
+
 // An answer of the intake, as one number and as a state.
 fn put_progress(p: Progress, state: &mut [u64]) -> u64
     requires { ⌜ stateLeast ≤ length (now state) ⌝ }
@@ -788,7 +798,7 @@ fn put_progress(p: Progress, state: &mut [u64]) -> u64
             let number = n as u64;
             let place = q as u64;
             put_six(state, IS_REFUSED, number, place, 0, 0, 0);
-            pack(n, q)
+            pack_raw(n, q)
         }
         Progress::Closed(n) => {
             put_six(state, IS_CLOSED, n as u64, 0, 0, 0, 0);

@@ -65,10 +65,15 @@ pub fn read(fd: i32, text: &mut [u8]) -> Text
 
 // ---- pages to standard output and standard error
 
+// What the promises of the library rule out is told all the same: nothing goes on silently.
+pub fn broken(what: &[u8]) {
+    io::write_all(libc::STDERR_FILENO, what);
+}
+
 // The first bytes of a page. A page that is shorter is never cut silently.
 fn write_front(fd: i32, page: &[u8], length: usize) -> bool {
     if page.len() < length {
-        io::write_all(libc::STDERR_FILENO, b"a page is too short for its line\n");
+        broken(b"a page is too short for its line\n");
         return false;
     }
     io::write_all(fd, &page[..length])
@@ -114,8 +119,7 @@ pub fn list(text: &[u8]) {
         let next = listing::go_on(text, p, page);
         going = write(page, next.length);
         if p.left <= next.left {
-            io::write_all(libc::STDERR_FILENO, b"the listing stands still\n");
-            return;
+            return broken(b"the listing stands still\n");
         }
         p = next;
         if watched {

@@ -25,8 +25,8 @@ cast-number c = search needs
 put-six-requires-2 : tie.Need-put-six-requires-2
 put-six-requires-2 c κs = search needs
 
-pack-requires : tie.Need-pack-requires
-pack-requires c κs = search needs
+pack-raw-requires : tie.Need-pack-raw-requires
+pack-raw-requires c κs = search needs
 
 enum-known-p-3 : tie.Need-enum-known-p-3
 enum-known-p-3 c = search needs
@@ -44,7 +44,7 @@ same-length-2 : tie.Need-same-length-2
 same-length-2 c = search needs
 
 returns-2 : tie.Need-returns-2
-returns-2 c = tells-refused (c .before .before .before .before .before .before .p2 .given .1) (c .before .before .before .put-six2 .ensures) (c .pack .ensures)
+returns-2 c = tells-refused (c .before .before .before .before .before .before .p2 .given .1) (c .before .before .before .put-six2 .ensures) (c .pack-raw .ensures)
 
 same-length-3 : tie.Need-same-length-3
 same-length-3 c = search needs
@@ -63,7 +63,7 @@ put-progress-spec =
     enum-known-p-2
     cast-number
     put-six-requires-2
-    pack-requires
+    pack-raw-requires
     enum-known-p-3
     put-six-requires-3
     same-length

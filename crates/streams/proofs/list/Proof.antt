@@ -34,11 +34,11 @@ go-on-requires c κs = search needs
 write-requires-2 : tie.Need-write-requires-2 Inv-loop μ-loop
 write-requires-2 c κs = search needs
 
-slice-aggregate-write-all : tie.Need-slice-aggregate-write-all Inv-loop μ-loop
-slice-aggregate-write-all c = search needs
+slice-aggregate-broken : tie.Need-slice-aggregate-broken Inv-loop μ-loop
+slice-aggregate-broken c = search needs
 
-write-all-requires : tie.Need-write-all-requires Inv-loop μ-loop
-write-all-requires c κs = search needs
+broken-requires : tie.Need-broken-requires Inv-loop μ-loop
+broken-requires c κs = search needs
 
 returns : tie.Need-returns Inv-loop μ-loop
 returns c = search needs
@@ -78,8 +78,8 @@ list-spec =
     loop-holds
     go-on-requires
     write-requires-2
-    slice-aggregate-write-all
-    write-all-requires
+    slice-aggregate-broken
+    broken-requires
     returns
     sub-progress
     progress-requires

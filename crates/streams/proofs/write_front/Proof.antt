@@ -5,20 +5,20 @@ use borrow.Author.Needs.{needs}
 use Rattle.streams.proofs.write_front.Statement.{statement}
 use Rattle.streams.proofs.write_front.Tie as tie
 
-slice-aggregate-write-all : tie.Need-slice-aggregate-write-all
-slice-aggregate-write-all c = search needs
+slice-aggregate-broken : tie.Need-slice-aggregate-broken
+slice-aggregate-broken c = search needs
 
-write-all-requires : tie.Need-write-all-requires
-write-all-requires c κs = search needs
+broken-requires : tie.Need-broken-requires
+broken-requires c κs = search needs
 
 returns : tie.Need-returns
 returns c = search needs
 
-slice-aggregate-write-all-2 : tie.Need-slice-aggregate-write-all-2
-slice-aggregate-write-all-2 c = simp length-take (omega arith)
+slice-aggregate-write-all : tie.Need-slice-aggregate-write-all
+slice-aggregate-write-all c = simp length-take (omega arith)
 
-write-all-requires-2 : tie.Need-write-all-requires-2
-write-all-requires-2 c κs = search needs
+write-all-requires : tie.Need-write-all-requires
+write-all-requires c κs = search needs
 
 returns-2 : tie.Need-returns-2
 returns-2 c = search needs
@@ -27,9 +27,9 @@ pub write-front-spec : {M : Type 1} → statement M
 write-front-spec =
     tie.close
     (tie.spec
+    slice-aggregate-broken
+    broken-requires
+    returns
     slice-aggregate-write-all
     write-all-requires
-    returns
-    slice-aggregate-write-all-2
-    write-all-requires-2
     returns-2)
