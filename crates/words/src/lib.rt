@@ -389,18 +389,23 @@ fn equal_by_eights(w: &[u8], v: &[u8]) -> bool
     eight(w, last) == eight(v, last)
 }
 
-// Is the name whose place stands at j the word w, which ends with the byte `last`? Most names are told by their own last byte.
+// Is the name whose place stands at j the word w, which ends with the byte `last`? Most names are told by their length, which needs no look at the text, or by
+// their own last byte.
 fn is_named<'a>(text: &'a [u8], w: &'a [u8], last: u8, places: &'a [usize], j: usize) -> bool
     requires { ⌜ (j + 1 < length (now places)) × EndsWith (now w) last ⌝ }
     ensures { λ r. ⌜ r ≡ same (span (now (text .entry)) (getD (now (places .entry)) j 0) (getD (now (places .entry)) (j + 1) 0)) (now (w .entry)) ⌝ }
 {
+    let at = places[j];
     let end = places[j + 1];
-    if (0 < end) & (end <= text.len()) {
+    if (at < end) & (end <= text.len()) {
+        if end - at != w.len() {
+            return false;
+        }
         if text[end - 1] != last {
             return false;
         }
     }
-    equal_by_eights(bytes_of(text, places[j], end), w)
+    equal_by_eights(bytes_of(text, at, end), w)
 }
 
 // The number of the first of `count` names that is w; `count` where none is. The slow way, for words without a byte and tables cut short.
