@@ -3,3 +3,4 @@ mod Spans
 mod Ahead
 mod Passing
 pub mod Worded
+mod Within

@@ -45,7 +45,7 @@ module _ {text cs : List ℕ} {f : Feed} (x : Feeds text f cs) where
         sym (ap next (feeds-cut ∙ ap (λ (n : ℕ). replicate n (getD text (f .at) 0) ++ (span text (f .at + 1) (f .end) ++ x .rest)) e))
 
     -- behind n of the first
-    feeds-repeat : (n k : ℕ) → f .left ≡ n + k → 0 < k → Feeds text (record { at = f .at; end = f .end; left = k }) (drop n cs)
+    pub feeds-repeat : (n k : ℕ) → f .left ≡ n + k → 0 < k → Feeds text (record { at = f .at; end = f .end; left = k }) (drop n cs)
     unfolding stretched
     feeds-repeat n k e some =
         let l = feeds-within in

@@ -1,9 +1,10 @@
 -- What is left of an argument's characters, read from the text as they are needed: repeats are spelled out one by one.
-use Prim.Native.Nat.{ℕ, _≤_, _<_}
+use Prim.Native.Nat.{ℕ, _-_, _≤_, _<_, min}
 use mathlib.Core.Path.{_≡_}
-use mathlib.Core.Bool.{true, false}
+use mathlib.Core.Bool.{true, false, _&&_}
 use mathlib.Core.List.{List, [], _++_}
-use lib.ListN.{drop}
+use lib.Dec.{ltb, eqb}
+use lib.ListN.{length, getD, drop}
 use Rattle.tokens.specs.Tokens.{Tok, Toks, toks, left}
 use Rattle.meaning.specs.Reader.{ok}
 use Rattle.meaning.specs.Data.{stretched, repeatOf, times, repeated, dataRead}
@@ -30,6 +31,19 @@ pub record Takes (text : List ℕ) (f : Feed) (r : Fed) : Type 0 where
 -- n characters were passed
 pub record Skips (text : List ℕ) (f : Feed) (n : ℕ) (r : Feed) : Type 0 where
   pub left : (cs : List ℕ) → Feeds text f cs → Feeds text r (drop n cs)
+
+-- how often the repeat in which the feed f stands says c before its last time
+unfoldable pub repeating : List ℕ → Feed → ℕ → ℕ
+repeating text f c =
+    elim (ltb (f .at) (f .end) && ltb (f .at) (length text)) [
+      | true ↦ elim (eqb (getD text (f .at) 0) c) [ true ↦ f .left - 1 | false ↦ 0 ]
+      | false ↦ 0
+    ]
+
+-- at most so many of these: the next n characters are c
+pub record Alike (text : List ℕ) (f : Feed) (c most n : ℕ) : Type 0 where
+  pub is : n ≡ min most (repeating text f c)
+  pub each : (cs : List ℕ) → Feeds text f cs → (i : ℕ) → i < n → next (drop i cs) ≡ c
 
 -- ---- within a word
 

@@ -6,7 +6,7 @@ ghost use Rattle.tokens.specs.Tokens.{Toks, toks};
 ghost use Rattle.meaning.specs.Reader.{ok};
 ghost use Rattle.meaning.specs.Data.{dataRead};
 ghost use mathlib.Core.Bool.{false};
-ghost use Rattle.feeds.specs.Feeds.{Feeds, Takes, Skips, BehindOne, Passes, Times, Repeats, NextWord, AtWord};
+ghost use Rattle.feeds.specs.Feeds.{Feeds, Takes, Skips, Alike, BehindOne, Passes, Times, Repeats, NextWord, AtWord};
 use words::Cursor;
 
 // Where the next character stands: in the word from `at` to `end`, whose first one stands for `left` of the same. With no word there, the DATA goes on at `end`.
@@ -186,6 +186,27 @@ pub fn next(text: &[u8], feed: Feed) -> Fed
         feed: here,
         char: 0,
     }
+}
+
+// How many of the next characters are c for certain, at most so many: those of a repeat, but for its last.
+pub fn alike(text: &[u8], feed: Feed, c: u8, most: usize) -> usize
+    ensures { λ r. ⌜ Alike (now (text .entry)) feed c most r ⌝ }
+{
+    let at = feed.at;
+    let left = feed.left;
+    if left <= 1 {
+        return 0;
+    }
+    if (at < feed.end) & (at < text.len()) {
+        if text[at] != c {
+            return 0;
+        }
+        if most < left {
+            return most;
+        }
+        return left - 1;
+    }
+    0
 }
 
 // The feed behind n characters, one word after the other.

@@ -205,3 +205,14 @@ char-marked j (x ∷ xs) e = by (eqb (x .0) j) refl e (char-marked j xs) (eqb (x
     by true o e ih true f = rw o
     by true o e ih false f = absurd (differ (sym e ∙ f))
     by false o e ih m f = later m (ih e)
+
+-- and assigned
+pub char-assigned : (j : ℕ) (a : Assigns) → eqb (charOf j a) mark ≡ true → has j (assigned a) ≡ true
+unfolding charOf assigned has
+char-assigned j [] e = absurd (differ (sym e))
+char-assigned j (x ∷ xs) e = by (eqb (x .0) j) e (char-assigned j xs)
+  where
+    by : (b : Bool) → eqb (elim b [ true ↦ x .1 | false ↦ charOf j xs ]) mark ≡ true → (eqb (charOf j xs) mark ≡ true → has j (assigned xs) ≡ true)
+        → (b || has j (assigned xs)) ≡ true
+    by true e ih = refl
+    by false e ih = ih e

@@ -4,17 +4,17 @@ use mathlib.Core.Path.{_≡_}
 use mathlib.Core.Bool.{Bool, true, false}
 use mathlib.Core.Option.{Option, none, some}
 use mathlib.Core.List.{List, [], _∷_}
-use lib.ListN.{length, getD, take}
+use lib.ListN.{length, getD, take, drop}
 use lib.Dec.{ltb}
 use Rattle.meaning.specs.Bounds.{signalsMost, tablesMost, depthMost}
 use Rattle.meaning.specs.Lists.{has, inside}
-use Rattle.meaning.specs.Body.{Assigns, Args, argOf, supplied, marked}
+use Rattle.meaning.specs.Body.{Assigns, Args, mark, argOf, supplied, marked}
 use Rattle.meaning.specs.Data.{assigned}
 use Rattle.meaning.specs.Timing.{Tables}
-use Rattle.meaning.specs.Run.{State, Played, unassigned, puts, cycleAt}
+use Rattle.meaning.specs.Run.{State, Played, unassigned, next, puts, cycleAt}
 use Rattle.meaning.specs.Meaning.{firstFailing}
 use Rattle.feeds.specs.declared.Feed.{Feed}
-use Rattle.feeds.specs.Feeds.{Feeds}
+use Rattle.feeds.specs.Feeds.{Feeds, Skips}
 
 -- a table's number; any other stands for none
 unfoldable pub tableOf : ℕ → Option ℕ
@@ -83,6 +83,19 @@ pub record Told (tabs : Tables) (text : List ℕ) (signals : ℕ) (values : List
   pub fails : failed ≡ true → firstFailing tabs (y .1) ≡ some place
   pub sound : failed ≡ false → firstFailing tabs (y .1) ≡ none
   pub shows : failed ≡ false → Shows text signals values table feeds level (y .0)
+
+-- the next k turns of a V, at most so many, show what the pins show: every `#` has k characters like its signal's pin ahead
+pub record Repeats (text given values feeds : List ℕ) (level signals most k : ℕ) : Type 0 where
+  pub few : k ≤ most
+  pub each : (s : ℕ) → s < signals → getD given s 0 ≡ mark → (cs : List ℕ) → Feeds text (feedAt feeds level s) cs
+      → (i : ℕ) → i < k → next (drop i cs) ≡ getD values s 0
+
+-- k turns of a V take k characters of every `#`, and nothing else
+pub record PassesOver (text given feeds : List ℕ) (level signals k : ℕ) (feeds′ : List ℕ) : Type 0 where
+  pub long : length feeds′ ≡ length feeds
+  pub each : (s : ℕ) → s < signals → getD given s 0 ≡ mark → Skips text (feedAt feeds level s) k (feedAt feeds′ level s)
+  pub kept : (s : ℕ) → s < signalsMost → (s < signals → getD given s 0 ≡ mark → ⊥) → feedAt feeds′ level s ≡ feedAt feeds level s
+  pub others : (l s : ℕ) → s < signalsMost → (l ≡ level → ⊥) → feedAt feeds′ l s ≡ feedAt feeds l s
 
 -- ---- a procedure's caller
 

@@ -2,7 +2,7 @@
 ghost use mathlib.Core.Path.{_≡_};
 ghost use mathlib.Core.Bool.{not, _||_};
 ghost use mathlib.Core.List.{List};
-ghost use Prim.Native.Nat.{ℕ, _+_, _*_, _<_};
+ghost use Prim.Native.Nat.{ℕ, _+_, _*_, _≤_, _<_};
 ghost use lib.ListN.{length, getD};
 ghost use lib.Dec.{eqb};
 ghost use Rattle.meaning.specs.Bounds.{signalsMost, tablesMost};
@@ -14,7 +14,7 @@ ghost use Rattle.timing.specs.Marks.{tableSize};
 ghost use Rattle.timing.specs.Held.{Held};
 ghost use Rattle.measures.specs.Uses.{Given};
 ghost use Rattle.arguments.specs.Supplied.{Supplied};
-ghost use Rattle.pins.specs.Shown.{Shows, Roomy, Playable, Others, Feeding, Fills, Told, Leaves, Returns, vector, feedAt, valuesLength, feedsLength, levels};
+ghost use Rattle.pins.specs.Shown.{Shows, Roomy, Playable, Others, Feeding, Fills, Told, Repeats, PassesOver, Leaves, Returns, vector, feedAt, valuesLength, feedsLength, levels};
 use feeds::Feed;
 
 const MARK: u8 = 35;
@@ -116,6 +116,56 @@ fn lacks(values: &[u8], waves: &[u8], table: usize, s: usize) -> bool
     waves[(table * sets::MOST + s) * CHARS + b] != 1
 }
 
+// How many of the turns to come, at most so many, repeat the one just played: every `#` takes its last character again.
+fn repeats(
+    text: &[u8],
+    given: &[u8],
+    values: &[u8],
+    feeds: &[usize],
+    level: usize,
+    signals: usize,
+    most: usize,
+) -> usize
+    requires { ⌜ Roomy signals (now values) (now feeds) level × (length (now given) ≡ signalsMost) ⌝ }
+    ensures { λ r. ⌜ Repeats (now (text .entry)) (now (given .entry)) (now (values .entry)) (now (feeds .entry)) level signals most r ⌝ }
+{
+    let mut k = most;
+    let mut s = signals;
+    while 0 < s {
+        // At once for a V that is played once.
+        if k == 0 {
+            return 0;
+        }
+        s -= 1;
+        if given[s] == MARK {
+            k = feeds::alike(text, feed_at(feeds, level, s), values[s], k);
+        }
+    }
+    k
+}
+
+// k turns that repeat are not played: every `#` has k characters less.
+fn pass_over(text: &[u8], given: &[u8], feeds: &mut [usize], level: usize, signals: usize, k: usize)
+    requires { ⌜ (signals ≤ signalsMost) × (length (now feeds) ≡ feedsLength) × (level < levels) × (length (now given) ≡ signalsMost) ⌝ }
+    ensures { λ _. ⌜ PassesOver (now (text .entry)) (now (given .entry)) (now (feeds .entry)) level signals k (now (feeds .exit)) ⌝ }
+{
+    if k == 0 {
+        return;
+    }
+    let mut s = 0;
+    while s < signals {
+        if given[s] == MARK {
+            put_feed(
+                feeds,
+                level,
+                s,
+                feeds::skip(text, feed_at(feeds, level, s), k),
+            );
+        }
+        s += 1;
+    }
+}
+
 // A V, t times: is there a cycle without a table, or with an assigned character that has no waveform in it?
 pub fn vectors(
     text: &[u8],
@@ -147,7 +197,9 @@ pub fn vectors(
             }
             s += 1;
         }
-        i += 1;
+        let k = repeats(text, given, values, feeds, level, signals, t - i - 1);
+        pass_over(text, given, feeds, level, signals, k);
+        i += 1 + k;
     }
     failed
 }
