@@ -6,6 +6,7 @@ pub mod Keeping
 pub mod Stepping
 pub mod Shifting
 pub mod Turning
+mod Steady
 pub mod Going
 pub mod Entering
 pub mod Single

@@ -1,13 +1,13 @@
 -- The pins that a body leaves, one signal at a time.
 use Prim.Native.Nat.{ℕ, _+_, _<_}
 use native.Mathlib.Omega.{arith}
-use mathlib.Core.Path.{_≡_, refl, _∙_}
-use mathlib.Core.Bool.{Bool, true, false}
+use mathlib.Core.Path.{_≡_, refl, sym, _∙_}
+use mathlib.Core.Bool.{Bool, true, false, not}
 use mathlib.Core.List.{List}
 use lib.Dec.{eqb}
 use lib.ListN.{length, getD, set, length-set}
 use lib.Seq.{getD-set-same, getD-set-other}
-use borrow.Author.Tests.{eqb-true, eqb-false}
+use borrow.Author.Tests.{eqb-true, eqb-false, not-true}
 use Rattle.plays.specs.Plays.{Settles}
 
 pub settles-none : {left values : List ℕ} → Settles 0 left values values
@@ -26,3 +26,6 @@ settles-next {s} {left} {before} {values} x within = record {
 
 pub settles-all : {s n : ℕ} {left before values : List ℕ} → s ≡ n → Settles s left before values → Settles n left before values
 settles-all e x = record { long = x .long; here = λ k h. x .here k (omega arith); else = λ i h. x .else i (omega arith) }
+
+pub unasked : (a : Bool) → not a ≡ true → a ≡ true → ⊥
+unasked a p q = let z : true ≡ false = sym q ∙ not-true a p in let w : _≡_ {A = ℕ} 0 1 = cc in omega arith

@@ -14,6 +14,7 @@ use Rattle.meaning.specs.Data.{assigned}
 use Rattle.meaning.specs.Run.{shiftOf, State, Played as Play, puts, changed, follow, again, entering}
 use Rattle.meaning.specs.Meaning.{firstFailing}
 use Rattle.meaning.specs.Statements.{Env, ends, vecs, sets, loops, shifts, uses}
+use Rattle.meaning.proofs.Turns.{Plain, Good}
 use Rattle.held.specs.Held.{freeHead, Holds}
 use Rattle.turns.specs.Few.{loopFew, playingFew, playFew}
 use Rattle.words.specs.Cursor.{alive, stream}
@@ -268,6 +269,11 @@ module _ {g : Ground} {c r : Cursor} {more level table : ℕ} {x : Arrays} {E : 
         supplied = w .told .6;
         exact = met-exact w (kindOf i) z t a e;
       }
+
+-- a Loop's body has no `#` of its own
+pub loop-plain : {g : Ground} {c r : Cursor} {more level n : ℕ} {E : Env} {b : Body} {us : Toks} {s : State} (i : Inside g c r more level E b us s (looped n)) → Plain (i .body)
+unfolding Good
+loop-plain i = i .fits .good .0
 
 -- a Shift holds one V
 pub one-vector : {g : Ground} {c r : Cursor} {more level : ℕ} {E : Env} {b : Body} {us : Toks} {s : State} (i : Inside g c r more level E b us s shifted)

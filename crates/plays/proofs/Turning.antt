@@ -65,6 +65,10 @@ module _ {g : Ground} {tabs : Tables} {level : ℕ} {y : Arrays} {us : Toks} {r 
 pub second-open : (n k : ℕ) (f : Bool) → ((f || ltb n 2) || eqb k 0) ≡ false → 0 < k
 second-open n k f h = positive k (eqb-false k 0 (neither (f || ltb n 2) (eqb k 0) h .1))
 
+-- there is one
+pub second-due : (n k : ℕ) (f : Bool) → ((f || ltb n 2) || eqb k 0) ≡ false → 2 ≤ n
+second-due n k f h = ltb-false n 2 (neither f (ltb n 2) (neither (f || ltb n 2) (eqb k 0) h .0) .1)
+
 -- the first did not fail
 pub first-sound : (n k : ℕ) (f : Bool) → ((f || ltb n 2) || eqb k 0) ≡ false → f ≡ false
 first-sound n k f h = neither f (ltb n 2) (neither (f || ltb n 2) (eqb k 0) h .0) .0

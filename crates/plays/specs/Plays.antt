@@ -1,7 +1,7 @@
 -- What is promised of playing bodies where the text holds them.
 use Prim.Native.Nat.{ℕ, _+_, _*_, _-_, _<_, _≤_}
 use mathlib.Core.Path.{_≡_}
-use mathlib.Core.Bool.{true, false}
+use mathlib.Core.Bool.{Bool, true, false}
 use mathlib.Core.Option.{some}
 use mathlib.Core.List.{List}
 use lib.ListN.{length, getD}
@@ -173,6 +173,22 @@ pub record Promised (g : Ground) (marks sums : List ℕ) (ts : Toks) (more level
   pub kept : Kept level x y
   pub ended : (E : Env) (b : Body) (us : Toks) (s : State) → Standing g ts more level table x E b us s → r .failed ≡ false → Ended g level y us (s .args) (r .cursor)
   pub plays : (E : Env) (b : Body) (us : Toks) (s : State) → Standing g ts more level table x E b us s → Summed g marks sums E → Plays g (E .tables) level y us r (f b s)
+
+-- the same, of each body that is fine
+pub record PromisedWhere (fine : Body → Type 0) (g : Ground) (marks sums : List ℕ) (ts : Toks) (more level table : ℕ) (x y : Arrays) (f : Body → State → Play) (r : Played) : Type 0 where
+  pub kept : Kept level x y
+  pub ended : (E : Env) (b : Body) (us : Toks) (s : State) → Standing g ts more level table x E b us s → r .failed ≡ false → Ended g level y us (s .args) (r .cursor)
+  pub plays : (E : Env) (b : Body) (us : Toks) (s : State) → Standing g ts more level table x E b us s → Summed g marks sums E → fine b → Plays g (E .tables) level y us r (f b s)
+
+-- ---- a second turn that begins as the first began
+
+-- the first n values are those that were kept
+pub record SameTo (n : ℕ) (values kept : List ℕ) : Type 0 where
+  pub each : (s : ℕ) → s < n → getD values s 0 ≡ getD kept s 0
+
+pub record SamePins (n : ℕ) (values kept : List ℕ) (r : Bool) : Type 0 where
+  pub same : r ≡ true → SameTo n values kept
+  pub other : r ≡ false → SameTo n values kept → ⊥
 
 -- ---- one statement
 

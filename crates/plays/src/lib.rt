@@ -1,6 +1,6 @@
 // Playing bodies where the text holds them, to find the first cycle that fails: one without a table, or with an assigned character that has no waveform
-// in it. Every Loop plays its first turn, and its second where fewer than two second turns are open. A used body whose sum is known (`marks`, `sums`) and granted is
-// passed; only one that may fail is entered.
+// in it. Every Loop plays its first turn, and its second where fewer than two second turns are open and it isn't the first again. A used body whose sum is known
+// (`marks`, `sums`) and granted is passed; only one that may fail is entered.
 ghost use mathlib.Core.Path.{_≡_};
 ghost use mathlib.Core.Bool.{true};
 ghost use mathlib.Core.List.{List};
@@ -12,13 +12,14 @@ ghost use Rattle.turns.specs.Few.{loopFew, playFew};
 ghost use Rattle.meaning.specs.Bounds.{signalsMost, tablesMost};
 ghost use Rattle.meaning.specs.Body.{Body};
 ghost use Rattle.meaning.specs.Document.{Read};
+ghost use Rattle.meaning.proofs.Turns.{Plain};
 ghost use Rattle.timing.specs.Marks.{tableSize};
 ghost use Rattle.measures.specs.Book.{bodies};
 ghost use Rattle.pins.specs.Shown.{valuesLength};
 ghost use Rattle.heads.specs.declared.Known.{Known};
 ghost use Rattle.texts.specs.declared.Parts.{Parts};
 ghost use Rattle.plays.specs.Run.{SomeListed, PlaysListed, SomeRun, Runs, Decides};
-ghost use Rattle.plays.specs.Plays.{ground, arrays, Stood, Used, Promised, Stepped, Shifted, Entered, Summed, Settles, Passing};
+ghost use Rattle.plays.specs.Plays.{ground, arrays, Stood, Used, Promised, PromisedWhere, SamePins, Stepped, Shifted, Entered, Summed, Settles, Passing};
 use heads::Known;
 use words::Cursor;
 
@@ -116,8 +117,39 @@ pub fn shift<'a>(
     }
 }
 
-// Loop N { .. }: its first turn, and its second where there is one and a second turn may be open.
-pub fn turns<'a>(
+// The pins before a turn, where they are asked for behind it.
+fn keep(values: &[u8], kept: &mut [u8], signals: usize, asked: bool)
+    requires { ⌜ (signals ≤ length (now values)) × (signals ≤ length (now kept)) ⌝ }
+    ensures { λ _. ⌜ (length (now (kept .exit)) ≡ length (now (kept .entry))) × (asked ≡ true → Settles signals (now (values .entry)) (now (kept .entry)) (now (kept .exit))) ⌝ }
+{
+    if !asked {
+        return;
+    }
+    let mut s = 0;
+    while s < signals {
+        kept[s] = values[s];
+        s += 1;
+    }
+}
+
+// Are the pins those that were kept?
+fn same_pins(values: &[u8], kept: &[u8], signals: usize) -> bool
+    requires { ⌜ (signals ≤ length (now values)) × (signals ≤ length (now kept)) ⌝ }
+    ensures { λ r. ⌜ SamePins signals (now (values .entry)) (now (kept .entry)) r ⌝ }
+{
+    let mut s = 0;
+    while s < signals {
+        if values[s] != kept[s] {
+            return false;
+        }
+        s += 1;
+    }
+    true
+}
+
+// Loop N { .. }: those of its two turns that are needed. Where `plain` says that its body has no `#`, a second turn that begins as the first began is the first
+// again: no cycle of it fails, and it leaves the same.
+fn needed_turns<'a>(
     text: &'a [u8],
     c: Cursor,
     places: &'a [usize],
@@ -132,13 +164,14 @@ pub fn turns<'a>(
     signals: usize,
     frame: Frame,
     n: usize,
+    plain: bool,
     table: usize,
     values: &mut [u8],
     feeds: &mut [usize],
     args: &mut [usize],
 ) -> Played
     requires { ⌜ (alive c ≡ true) × (0 < n) × (0 < frame .depth) × Stood (ground (now text) (now places) (now lists) (now tplaces) (now book) (now rows) (now waves) known signals) (stream (now text) c) (frame .depth - 1) (frame .level) table (arrays (now values) (now feeds) (now args)) ⌝ }
-    ensures { λ r. ⌜ Promised (ground (now (text .entry)) (now (places .entry)) (now (lists .entry)) (now (tplaces .entry)) (now (book .entry)) (now (rows .entry)) (now (waves .entry)) known signals) (now (marks .entry)) (now (sums .entry)) (stream (now (text .entry)) c) (frame .depth - 1) (frame .level) table (arrays (now (values .entry)) (now (feeds .entry)) (now (args .entry))) (arrays (now (values .exit)) (now (feeds .exit)) (now (args .exit))) (λ b. loopFew n (frame .seconds) (λ j. playFew j (frame .turns) b)) r ⌝ }
+    ensures { λ r. ⌜ PromisedWhere (λ b. plain ≡ true → Plain b) (ground (now (text .entry)) (now (places .entry)) (now (lists .entry)) (now (tplaces .entry)) (now (book .entry)) (now (rows .entry)) (now (waves .entry)) known signals) (now (marks .entry)) (now (sums .entry)) (stream (now (text .entry)) c) (frame .depth - 1) (frame .level) table (arrays (now (values .entry)) (now (feeds .entry)) (now (args .entry))) (arrays (now (values .exit)) (now (feeds .exit)) (now (args .exit))) (λ b. loopFew n (frame .seconds) (λ j. playFew j (frame .turns) b)) r ⌝ }
 {
     let first = Frame {
         seconds: frame.seconds,
@@ -146,6 +179,13 @@ pub fn turns<'a>(
         depth: frame.depth - 1,
         level: frame.level,
     };
+    let mut kept = [0u8; sets::MOST];
+    keep(
+        values,
+        &mut kept,
+        signals,
+        plain & (1 < n) & (0 < frame.seconds),
+    );
     let a = statements(
         text,
         c,
@@ -166,6 +206,10 @@ pub fn turns<'a>(
         args,
     );
     if a.failed | (n < 2) | (frame.seconds == 0) {
+        return a;
+    }
+    let same = same_pins(values, &kept, signals);
+    if plain & (a.table == table) & same {
         return a;
     }
     let second = Frame {
@@ -189,6 +233,53 @@ pub fn turns<'a>(
         signals,
         second,
         a.table,
+        values,
+        feeds,
+        args,
+    )
+}
+
+// Loop N { .. }, whatever its body: its first turn, and its second where there is one and a second turn may be open.
+pub fn turns<'a>(
+    text: &'a [u8],
+    c: Cursor,
+    places: &'a [usize],
+    lists: &'a [u16],
+    tplaces: &'a [usize],
+    book: &'a [usize],
+    rows: &'a [u16],
+    waves: &'a [u8],
+    marks: &'a [u8],
+    sums: &'a [u8],
+    known: Known,
+    signals: usize,
+    frame: Frame,
+    n: usize,
+    table: usize,
+    values: &mut [u8],
+    feeds: &mut [usize],
+    args: &mut [usize],
+) -> Played
+    requires { ⌜ (alive c ≡ true) × (0 < n) × (0 < frame .depth) × Stood (ground (now text) (now places) (now lists) (now tplaces) (now book) (now rows) (now waves) known signals) (stream (now text) c) (frame .depth - 1) (frame .level) table (arrays (now values) (now feeds) (now args)) ⌝ }
+    ensures { λ r. ⌜ Promised (ground (now (text .entry)) (now (places .entry)) (now (lists .entry)) (now (tplaces .entry)) (now (book .entry)) (now (rows .entry)) (now (waves .entry)) known signals) (now (marks .entry)) (now (sums .entry)) (stream (now (text .entry)) c) (frame .depth - 1) (frame .level) table (arrays (now (values .entry)) (now (feeds .entry)) (now (args .entry))) (arrays (now (values .exit)) (now (feeds .exit)) (now (args .exit))) (λ b. loopFew n (frame .seconds) (λ j. playFew j (frame .turns) b)) r ⌝ }
+{
+    needed_turns(
+        text,
+        c,
+        places,
+        lists,
+        tplaces,
+        book,
+        rows,
+        waves,
+        marks,
+        sums,
+        known,
+        signals,
+        frame,
+        n,
+        false,
+        table,
         values,
         feeds,
         args,
@@ -441,7 +532,7 @@ fn statement<'a>(
             ends: false,
         },
         heads::What::Loops(n) => {
-            let r = turns(
+            let r = needed_turns(
                 text,
                 cursor,
                 places,
@@ -456,6 +547,7 @@ fn statement<'a>(
                 signals,
                 frame,
                 n,
+                true,
                 table,
                 values,
                 feeds,

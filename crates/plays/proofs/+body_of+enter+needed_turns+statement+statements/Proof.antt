@@ -5,18 +5,19 @@ use native.Mathlib.Omega.{arith}
 use mathlib.Core.Path.{refl, sym, _∙_}
 use mathlib.Core.Bool.{false}
 use borrow.Author.Needs.{needs}
-use borrow.Author.Tests.{eq-eqb}
+use borrow.Author.Tests.{eq-eqb, eqb-true}
 use Rattle.tokens.specs.Tokens.{left}
 use Rattle.meaning.specs.Run.{bare}
 use Rattle.turns.specs.Few.{playFew}
 use Rattle.words.specs.Cursor.{stream}
 use Rattle.assigns.proofs.Table.{gave-zeros}
 use Rattle.plays.specs.Plays.{ground, arrays}
-use Rattle.plays.proofs.Fitting.{fits-some}
+use Rattle.plays.proofs.Fitting.{both, fits-some}
 use Rattle.plays.proofs.Heading.{begins-within}
 use Rattle.plays.proofs.Keeping.{kept-none, kept-then, kept-others, kept-args, kept-passed, kept-used, sized-kept, sized-at, shows-untouched, shows-supplied}
-use Rattle.plays.proofs.Stepping.{steps-moves, ends-step, vector-step, assigns-step, chooses-step, in-loop, in-shift, called, loop-standing, loop-step, shift-standing, shift-step, inside-moves, called-moves, called-calling, called-using, called-step}
+use Rattle.plays.proofs.Stepping.{steps-moves, ends-step, vector-step, assigns-step, chooses-step, in-loop, in-shift, called, loop-standing, loop-plain, loop-step, shift-standing, shift-step, inside-moves, called-moves, called-calling, called-using, called-step}
 use Rattle.plays.proofs.Turning.{turned-once, turned-twice, turned-standing, second-open, first-sound}
+use Rattle.plays.proofs.Steady.{asked, pins-again, turned-same}
 use Rattle.plays.proofs.Going.{going, going-on, gone, ended-then, resumed, resumed-standing, resumed-on, resumed-less, resumed-end, again-standing, Going}
 use Rattle.plays.proofs.Entering.{kind-macro, kind-procedure, kept-below, kept-returned, sized-left, macro-standing, procedure-standing, macro-told, procedure-told, entered-fed, part-within, part-begins}
 use Prim.Native.Nat.{ℕ, _<_}
@@ -24,19 +25,19 @@ use borrow.Fn.Kinds.{In}
 use borrow.Fn.PlainCycle.{Measures, is, falls, and}
 use Rattle.plays.proofs.body_of.Reads as body-of
 use Rattle.plays.proofs.body_of.Kinds as body-of-kinds
-use Rattle.plays.proofs.+body_of+enter+statement+statements+turns.Lts-body_of as body-of-lts
+use Rattle.plays.proofs.+body_of+enter+needed_turns+statement+statements.Lts-body_of as body-of-lts
 use Rattle.plays.proofs.enter.Reads as enter
 use Rattle.plays.proofs.enter.Kinds as enter-kinds
-use Rattle.plays.proofs.+body_of+enter+statement+statements+turns.Lts-enter as enter-lts
+use Rattle.plays.proofs.+body_of+enter+needed_turns+statement+statements.Lts-enter as enter-lts
+use Rattle.plays.proofs.needed_turns.Reads as needed-turns
+use Rattle.plays.proofs.needed_turns.Kinds as needed-turns-kinds
+use Rattle.plays.proofs.+body_of+enter+needed_turns+statement+statements.Lts-needed_turns as needed-turns-lts
 use Rattle.plays.proofs.statement.Reads as statement′
 use Rattle.plays.proofs.statement.Kinds as statement-kinds
-use Rattle.plays.proofs.+body_of+enter+statement+statements+turns.Lts-statement as statement-lts
+use Rattle.plays.proofs.+body_of+enter+needed_turns+statement+statements.Lts-statement as statement-lts
 use Rattle.plays.proofs.statements.Reads as statements
 use Rattle.plays.proofs.statements.Kinds as statements-kinds
-use Rattle.plays.proofs.+body_of+enter+statement+statements+turns.Lts-statements as statements-lts
-use Rattle.plays.proofs.turns.Reads as turns
-use Rattle.plays.proofs.turns.Kinds as turns-kinds
-use Rattle.plays.proofs.+body_of+enter+statement+statements+turns.Lts-turns as turns-lts
+use Rattle.plays.proofs.+body_of+enter+needed_turns+statement+statements.Lts-statements as statements-lts
 use Rattle.heads.proofs.head.Reads as head-reads
 use Rattle.measures.proofs.start_at.Reads as start-at-reads
 use Rattle.pins.proofs.come_back.Reads as come-back-reads
@@ -44,11 +45,13 @@ use Rattle.pins.proofs.leave.Reads as leave-reads
 use Rattle.pins.proofs.put.Reads as put-reads
 use Rattle.pins.proofs.supply.Reads as supply-reads
 use Rattle.pins.proofs.vectors.Reads as vectors-reads
+use Rattle.plays.proofs.keep.Reads as keep-reads
 use Rattle.plays.proofs.pass.Reads as pass-reads
+use Rattle.plays.proofs.same_pins.Reads as same-pins-reads
 use Rattle.plays.proofs.shift.Reads as shift-reads
 use Rattle.words.proofs.cursor_at.Reads as cursor-at-reads
-use Rattle.plays.proofs.+body_of+enter+statement+statements+turns.{statement}
-use Rattle.plays.proofs.+body_of+enter+statement+statements+turns.Tie.{close}
+use Rattle.plays.proofs.+body_of+enter+needed_turns+statement+statements.{statement}
+use Rattle.plays.proofs.+body_of+enter+needed_turns+statement+statements.Tie.{close}
 
 abbrev μ-body-of : Measures 4 body-of-kinds.ps ℕ
 μ-body-of κs a = 5 * a .1 .1 .1 .1 .1 .1 .1 .1 .1 .1 .1 .1 .0 .depth + 3
@@ -56,14 +59,14 @@ abbrev μ-body-of : Measures 4 body-of-kinds.ps ℕ
 abbrev μ-enter : Measures 4 enter-kinds.ps ℕ
 μ-enter κs a = 5 * a .1 .1 .1 .1 .1 .1 .1 .1 .1 .1 .1 .0 .depth
 
+abbrev μ-needed-turns : Measures 4 needed-turns-kinds.ps ℕ
+μ-needed-turns κs a = 5 * a .1 .1 .1 .1 .1 .1 .1 .1 .1 .1 .1 .1 .0 .depth
+
 abbrev μ-statement : Measures 4 statement-kinds.ps ℕ
 μ-statement κs a = 5 * a .1 .1 .1 .1 .1 .1 .1 .1 .1 .1 .1 .1 .0 .depth + 1
 
 abbrev μ-statements : Measures 4 statements-kinds.ps ℕ
 μ-statements κs a = 5 * a .1 .1 .1 .1 .1 .1 .1 .1 .1 .1 .1 .1 .0 .depth + 2
-
-abbrev μ-turns : Measures 4 turns-kinds.ps ℕ
-μ-turns κs a = 5 * a .1 .1 .1 .1 .1 .1 .1 .1 .1 .1 .1 .1 .0 .depth
 
 abbrev body-of-at : ℕ → In 4 body-of-kinds.ps
 body-of-at t = and 4 body-of-kinds.ps (is 4 body-of-kinds.ps μ-body-of t) body-of.Pre
@@ -76,6 +79,12 @@ enter-at t = and 4 enter-kinds.ps (is 4 enter-kinds.ps μ-enter t) enter.Pre
 
 abbrev enter-below : ℕ → In 4 enter-kinds.ps
 enter-below t = and 4 enter-kinds.ps (falls 4 enter-kinds.ps _<_ μ-enter t) enter.Pre
+
+abbrev needed-turns-at : ℕ → In 4 needed-turns-kinds.ps
+needed-turns-at t = and 4 needed-turns-kinds.ps (is 4 needed-turns-kinds.ps μ-needed-turns t) needed-turns.Pre
+
+abbrev needed-turns-below : ℕ → In 4 needed-turns-kinds.ps
+needed-turns-below t = and 4 needed-turns-kinds.ps (falls 4 needed-turns-kinds.ps _<_ μ-needed-turns t) needed-turns.Pre
 
 abbrev statement-at : ℕ → In 4 statement-kinds.ps
 statement-at t = and 4 statement-kinds.ps (is 4 statement-kinds.ps μ-statement t) statement′.Pre
@@ -92,23 +101,17 @@ abbrev statements-below : ℕ → In 4 statements-kinds.ps
 statements-below t =
     and 4 statements-kinds.ps (falls 4 statements-kinds.ps _<_ μ-statements t) statements.Pre
 
-abbrev turns-at : ℕ → In 4 turns-kinds.ps
-turns-at t = and 4 turns-kinds.ps (is 4 turns-kinds.ps μ-turns t) turns.Pre
-
-abbrev turns-below : ℕ → In 4 turns-kinds.ps
-turns-below t = and 4 turns-kinds.ps (falls 4 turns-kinds.ps _<_ μ-turns t) turns.Pre
-
 abbrev body-of-calls : ℕ → body-of-lts.Claims
 body-of-calls t = (cursor-at-reads.Asked, cursor-at-reads.Learnt, statements-below t, statements.Post)
 
 abbrev enter-calls : ℕ → enter-lts.Claims
 enter-calls t = (start-at-reads.Asked, start-at-reads.Learnt, body-of-below t, body-of.Post, leave-reads.Asked, leave-reads.Learnt, come-back-reads.Asked, come-back-reads.Learnt)
 
-abbrev statement-calls : ℕ → statement-lts.Claims
-statement-calls t = (head-reads.Asked, head-reads.Learnt, vectors-reads.Asked, vectors-reads.Learnt, put-reads.Asked, put-reads.Learnt, turns-below t, turns.Post, shift-reads.Asked, shift-reads.Learnt, pass-reads.Asked, pass-reads.Learnt, supply-reads.Asked, supply-reads.Learnt, enter-below t, enter.Post)
+abbrev needed-turns-calls : ℕ → needed-turns-lts.Claims
+needed-turns-calls t = (keep-reads.Asked, keep-reads.Learnt, statements-below t, statements.Post, same-pins-reads.Asked, same-pins-reads.Learnt)
 
-abbrev turns-calls : ℕ → turns-lts.Claims
-turns-calls t = (statements-below t, statements.Post)
+abbrev statement-calls : ℕ → statement-lts.Claims
+statement-calls t = (head-reads.Asked, head-reads.Learnt, vectors-reads.Asked, vectors-reads.Learnt, put-reads.Asked, put-reads.Learnt, needed-turns-below t, needed-turns.Post, shift-reads.Asked, shift-reads.Learnt, pass-reads.Asked, pass-reads.Learnt, supply-reads.Asked, supply-reads.Learnt, enter-below t, enter.Post)
 
 body-of-sub-cursor-at : (t : ℕ) → body-of-lts.Need-sub-cursor-at (body-of-calls t) (body-of-at t) body-of.Post
 body-of-sub-cursor-at t c =
@@ -283,6 +286,155 @@ enter-returns-2 t c =
           procedure-told v _ _ (kind-procedure _ (if1′ .left)) sized l (p .kept) (come-back′ .ensures) (p .plays E b us _ (procedure-standing v sized l) m);
     }
 
+needed-turns-sub-t25 : (t : ℕ) → needed-turns-lts.Need-sub-t25 (needed-turns-calls t) (needed-turns-at t) needed-turns.Post
+needed-turns-sub-t25 t c =
+    let pre′ = c .before .before .before .before .before .before .before .before .before .before .before .before .before .pre in
+    omega (arith, pre′ .1 .2)
+
+needed-turns-slice-aggregate-keep : (t : ℕ) → needed-turns-lts.Need-slice-aggregate-keep (needed-turns-calls t) (needed-turns-at t) needed-turns.Post
+needed-turns-slice-aggregate-keep t c = search needs
+
+needed-turns-keep-requires : (t : ℕ) → needed-turns-lts.Need-keep-requires (needed-turns-calls t) (needed-turns-at t) needed-turns.Post
+needed-turns-keep-requires t c κs =
+    let pre′ = c .before .before .before .before .before .before .before .before .before .before .before .before .before .before .before .before .pre in
+    let roomy = pre′ .1 .3 .sized .roomy in
+    (omega (arith, roomy .few, roomy .values-long), omega (arith, roomy .few))
+
+needed-turns-statements-requires : (t : ℕ) → needed-turns-lts.Need-statements-requires (needed-turns-calls t) (needed-turns-at t) needed-turns.Post
+needed-turns-statements-requires t c κs =
+    let pre′ = c .before .before .before .before .before .before .before .before .before .before .before .before .before .before .before .before .before .before .before .before .before .pre in
+    (omega (arith, pre′ .0, pre′ .1 .2), (pre′ .1 .0, pre′ .1 .3))
+
+needed-turns-same-length : (t : ℕ) → needed-turns-lts.Need-same-length (needed-turns-calls t) (needed-turns-at t) needed-turns.Post
+needed-turns-same-length t c = search needs
+
+needed-turns-same-length-2 : (t : ℕ) → needed-turns-lts.Need-same-length-2 (needed-turns-calls t) (needed-turns-at t) needed-turns.Post
+needed-turns-same-length-2 t c = search needs
+
+needed-turns-same-length-3 : (t : ℕ) → needed-turns-lts.Need-same-length-3 (needed-turns-calls t) (needed-turns-at t) needed-turns.Post
+needed-turns-same-length-3 t c = search needs
+
+needed-turns-returns : (t : ℕ) → needed-turns-lts.Need-returns (needed-turns-calls t) (needed-turns-at t) needed-turns.Post
+needed-turns-returns t c =
+    let statements′ = c .before .before .before .before .before .before .before .before .before .statements in
+    let pre′ = c .before .before .before .before .before .before .before .before .before .before .before .before .before .before .before .before .before .before .before .before .before .before .before .before .before .before .before .before .before .before .before .pre in
+    let a = statements′ .ensures in
+    record {
+      kept = a .kept;
+      ended = a .ended;
+      plays = λ E b us s st m f. turned-once _ _ (λ j. playFew j _ b) (pre′ .1 .1) (a .plays E b us s st m) (c .if1 .taken);
+    }
+
+needed-turns-slice-aggregate-same-pins : (t : ℕ) → needed-turns-lts.Need-slice-aggregate-same-pins (needed-turns-calls t) (needed-turns-at t) needed-turns.Post
+needed-turns-slice-aggregate-same-pins t c = search needs
+
+needed-turns-same-pins-requires : (t : ℕ) → needed-turns-lts.Need-same-pins-requires (needed-turns-calls t) (needed-turns-at t) needed-turns.Post
+needed-turns-same-pins-requires t c κs =
+    let pre′ = c .before .before .before .before .before .before .before .before .before .before .before .before .before .before .before .before .before .before .before .before .before .before .before .before .before .before .before .before .before .before .before .before .before .pre in
+    let statements′ = c .before .before .before .before .before .before .before .before .before .before .before .statements in
+    let keep′ = c .before .before .before .before .before .before .before .before .before .before .before .before .before .before .before .before .keep in
+    let roomy = pre′ .1 .3 .sized .roomy in
+    (omega (arith, roomy .few, roomy .values-long, statements′ .ensures .kept .values-long), omega (arith, roomy .few, keep′ .ensures .0))
+
+needed-turns-same-length-4 : (t : ℕ) → needed-turns-lts.Need-same-length-4 (needed-turns-calls t) (needed-turns-at t) needed-turns.Post
+needed-turns-same-length-4 t c = search needs
+
+needed-turns-same-length-5 : (t : ℕ) → needed-turns-lts.Need-same-length-5 (needed-turns-calls t) (needed-turns-at t) needed-turns.Post
+needed-turns-same-length-5 t c = search needs
+
+needed-turns-same-length-6 : (t : ℕ) → needed-turns-lts.Need-same-length-6 (needed-turns-calls t) (needed-turns-at t) needed-turns.Post
+needed-turns-same-length-6 t c = search needs
+
+needed-turns-returns-2 : (t : ℕ) → needed-turns-lts.Need-returns-2 (needed-turns-calls t) (needed-turns-at t) needed-turns.Post
+needed-turns-returns-2 t c =
+    let statements′ = c .before .before .before .before .before .before .before .before .before .before .before .before .before .before .statements in
+    let pre′ = c .before .before .before .before .before .before .before .before .before .before .before .before .before .before .before .before .before .before .before .before .before .before .before .before .before .before .before .before .before .before .before .before .before .before .before .before .pre in
+    let same-pins′ = c .before .before .same-pins in
+    let args′ = c .before .before .before .before .before .before .before .before .before .before .before .before .before .before .before .before .before .before .before .before .before .before .before .before .before .before .before .before .before .before .before .before .before .before .before .before .args in
+    let keep′ = c .before .before .before .before .before .before .before .before .before .before .before .before .before .before .before .before .before .before .before .keep in
+    let if1′ = c .before .before .before .before .before .if1 in
+    let a = statements′ .ensures in
+    let roomy = pre′ .1 .3 .sized .roomy in
+    let i = both _ (same-pins′ .result) (c .if2 .taken) in
+    let j = both (args′ .plain) _ (i .0) in
+    let watched = keep′ .ensures .1 (asked (args′ .n) (args′ .frame .seconds) (args′ .plain) (statements′ .result .failed) (j .0) (if1′ .left)) in
+    let pins = pins-again (same-pins′ .ensures .same (i .1)) watched (omega (arith, roomy .few, roomy .values-long)) (a .kept .values-long) in
+    record {
+      kept = a .kept;
+      ended = a .ended;
+      plays = λ E b us s st m f. turned-same _ st (f (j .0)) pins (eqb-true _ _ (j .1)) _ _ (a .plays E b us s st m) (if1′ .left);
+    }
+
+needed-turns-sub-t25-2 : (t : ℕ) → needed-turns-lts.Need-sub-t25-2 (needed-turns-calls t) (needed-turns-at t) needed-turns.Post
+needed-turns-sub-t25-2 t c =
+    let args′ = c .before .before .before .before .before .before .before .before .before .before .before .before .before .before .before .before .before .before .before .before .before .before .before .before .before .before .before .before .before .before .before .before .before .before .before .before .before .args in
+    let statements′ = c .before .before .before .before .before .before .before .before .before .before .before .before .before .before .before .statements in
+    let if1′ = c .before .before .before .before .before .before .if1 in
+    omega (arith, second-open (args′ .n) (args′ .frame .seconds) (statements′ .result .failed) (if1′ .left))
+
+needed-turns-sub-t45 : (t : ℕ) → needed-turns-lts.Need-sub-t45 (needed-turns-calls t) (needed-turns-at t) needed-turns.Post
+needed-turns-sub-t45 t c =
+    let pre′ = c .before .before .before .before .before .before .before .before .before .before .before .before .before .before .before .before .before .before .before .before .before .before .before .before .before .before .before .before .before .before .before .before .before .before .before .before .before .before .pre in
+    omega (arith, pre′ .1 .2)
+
+needed-turns-statements-requires-2 : (t : ℕ) → needed-turns-lts.Need-statements-requires-2 (needed-turns-calls t) (needed-turns-at t) needed-turns.Post
+needed-turns-statements-requires-2 t c κs =
+    let statements′ = c .before .before .before .before .before .before .before .before .before .before .before .before .before .before .before .before .before .before .before .statements in
+    let pre′ = c .before .before .before .before .before .before .before .before .before .before .before .before .before .before .before .before .before .before .before .before .before .before .before .before .before .before .before .before .before .before .before .before .before .before .before .before .before .before .before .before .before .pre in
+    let args′ = c .before .before .before .before .before .before .before .before .before .before .before .before .before .before .before .before .before .before .before .before .before .before .before .before .before .before .before .before .before .before .before .before .before .before .before .before .before .before .before .before .before .args in
+    let if1′ = c .before .before .before .before .before .before .before .before .before .before .if1 in
+    let a = statements′ .ensures in
+    let stood = pre′ .1 .3 in
+    let sound = first-sound (args′ .n) (args′ .frame .seconds) (statements′ .result .failed) (if1′ .left) in (
+      omega (arith, pre′ .0, pre′ .1 .2),
+      (
+        pre′ .1 .0,
+        record {
+          env = stood .env;
+          body = stood .body;
+          rest = stood .rest;
+          state = _;
+          standing = again-standing _ (stood .standing) (a .ended (stood .env) (stood .body) (stood .rest) (stood .state) (stood .standing) sound);
+          sized = sized-kept (stood .sized) (a .kept);
+        },
+      ),
+    )
+
+needed-turns-same-length-7 : (t : ℕ) → needed-turns-lts.Need-same-length-7 (needed-turns-calls t) (needed-turns-at t) needed-turns.Post
+needed-turns-same-length-7 t c =
+    let statements2′ = c .before .before .before .before .before .before .statements2 in
+    let statements′ = c .before .before .before .before .before .before .before .before .before .before .before .before .before .before .before .before .before .before .before .before .before .before .before .before .before .before .statements in
+    statements2′ .ensures .kept .values-long ∙ statements′ .ensures .kept .values-long
+
+needed-turns-same-length-8 : (t : ℕ) → needed-turns-lts.Need-same-length-8 (needed-turns-calls t) (needed-turns-at t) needed-turns.Post
+needed-turns-same-length-8 t c =
+    let statements2′ = c .before .before .before .before .before .before .statements2 in
+    let statements′ = c .before .before .before .before .before .before .before .before .before .before .before .before .before .before .before .before .before .before .before .before .before .before .before .before .before .before .statements in
+    statements2′ .ensures .kept .feeds-long ∙ statements′ .ensures .kept .feeds-long
+
+needed-turns-same-length-9 : (t : ℕ) → needed-turns-lts.Need-same-length-9 (needed-turns-calls t) (needed-turns-at t) needed-turns.Post
+needed-turns-same-length-9 t c =
+    let statements2′ = c .before .before .before .before .before .before .statements2 in
+    let statements′ = c .before .before .before .before .before .before .before .before .before .before .before .before .before .before .before .before .before .before .before .before .before .before .before .before .before .before .statements in
+    statements2′ .ensures .kept .args-long ∙ statements′ .ensures .kept .args-long
+
+needed-turns-returns-3 : (t : ℕ) → needed-turns-lts.Need-returns-3 (needed-turns-calls t) (needed-turns-at t) needed-turns.Post
+needed-turns-returns-3 t c =
+    let statements′ = c .before .before .before .before .before .before .before .before .before .before .before .before .before .before .before .before .before .before .before .before .before .before .before .before .before .before .statements in
+    let statements2′ = c .before .before .before .before .before .before .statements2 in
+    let args′ = c .before .before .before .before .before .before .before .before .before .before .before .before .before .before .before .before .before .before .before .before .before .before .before .before .before .before .before .before .before .before .before .before .before .before .before .before .before .before .before .before .before .before .before .before .before .before .before .before .args in
+    let if1′ = c .before .before .before .before .before .before .before .before .before .before .before .before .before .before .before .before .before .if1 in
+    let a = statements′ .ensures in
+    let z = statements2′ .ensures in
+    let sound = first-sound (args′ .n) (args′ .frame .seconds) (statements′ .result .failed) (if1′ .left) in
+    record {
+      kept = kept-then (a .kept) (z .kept);
+      ended = λ E b us s st e. (let n = a .ended E b us s st sound in ended-then (n .fed .same) (z .ended E b us _ (again-standing _ st n) e));
+      plays = λ E b us s st m f. (
+          let p = a .plays E b us s st m in
+          turned-twice _ _ (λ j. playFew j _ b) p (if1′ .left) (z .plays E b us _ (turned-standing _ _ st p sound) m));
+    }
+
 statement-slice-aggregate-head : (t : ℕ) → statement-lts.Need-slice-aggregate-head (statement-calls t) (statement-at t) statement′.Post
 statement-slice-aggregate-head t c = search needs
 
@@ -326,8 +478,8 @@ statement-enum-known-what-2 t c = c .match .keys4
 statement-enum-known-what-3 : (t : ℕ) → statement-lts.Need-enum-known-what-3 (statement-calls t) (statement-at t) statement′.Post
 statement-enum-known-what-3 t c = c .match .keys5
 
-statement-turns-requires : (t : ℕ) → statement-lts.Need-turns-requires (statement-calls t) (statement-at t) statement′.Post
-statement-turns-requires t c κs =
+statement-needed-turns-requires : (t : ℕ) → statement-lts.Need-needed-turns-requires (statement-calls t) (statement-at t) statement′.Post
+statement-needed-turns-requires t c κs =
     let pre′ = c .before .before .before .before .before .before .before .before .before .before .before .before .before .before .before .before .before .before .before .before .before .before .before .before .before .pre in
     let head′ = c .before .before .before .before .before .before .before .before .before .before .head in
     let what3′ = c .before .before .before .before .what3 in
@@ -548,7 +700,7 @@ statement-returns-6 t c =
     let pre′ = c .before .before .before .before .before .before .before .before .before .before .before .before .before .before .before .before .before .before .before .before .before .before .before .before .before .before .before .before .before .before .before .before .before .pre in
     let head′ = c .before .before .before .before .before .before .before .before .before .before .before .before .before .before .before .before .before .before .head in
     let what3′ = c .before .before .before .before .before .before .before .before .before .before .before .before .what3 in
-    let turns′ = c .before .before .before .before .before .before .before .turns in
+    let turns′ = c .before .before .before .before .before .before .before .needed-turns in
     let h = head′ .ensures in
     let v = turns′ .ensures in
     record {
@@ -558,7 +710,7 @@ statement-returns-6 t c =
           inside-moves (i .1) refl (v .ended E (i .1 .body) (i .1 .between) s (loop-standing st (i .1) (st .shows))));
       steps = λ E b us s st m. (
           let i = in-loop st (pre′ .1 .0) _ _ _ (h .2 E (st .holding .describes)) _ (what3′ .given .1) in
-          loop-step st (i .1) _ _ (v .plays E (i .1 .body) (i .1 .between) s (loop-standing st (i .1) (st .shows)) m));
+          loop-step st (i .1) _ _ (v .plays E (i .1 .body) (i .1 .between) s (loop-standing st (i .1) (st .shows)) m (λ e. loop-plain (i .1))));
     }
 
 statement-same-length-14 : (t : ℕ) → statement-lts.Need-same-length-14 (statement-calls t) (statement-at t) statement′.Post
@@ -734,128 +886,9 @@ statements-loop-again t c =
       onward = λ E b us s st m. (let o = inv .onward E b us s st m in going-on o (step .steps E (o .rest) us (o .state) (o .standing) m) (if1′ .left));
     }
 
-turns-sub-t22 :
-    (t : ℕ) → turns-lts.Need-sub-t22 (statements-below t, statements.Post) (turns-at t) turns.Post
-turns-sub-t22 t c =
-    let pre′ = c .before .before .before .before .before .before .before .before .before .before .before .before .before .pre in
-    omega (arith, pre′ .1 .2)
-
-turns-statements-requires : (t : ℕ) → turns-lts.Need-statements-requires (turns-calls t) (turns-at t) turns.Post
-turns-statements-requires t c κs =
-    let pre′ = c .before .before .before .before .before .before .before .before .before .before .before .before .before .before .before .before .pre in
-    (omega (arith, pre′ .0, pre′ .1 .2), (pre′ .1 .0, pre′ .1 .3))
-
-turns-same-length :
-    (t : ℕ) →
-    turns-lts.Need-same-length (statements-below t, statements.Post) (turns-at t) turns.Post
-turns-same-length t c = search needs
-
-turns-same-length-2 :
-    (t : ℕ) →
-    turns-lts.Need-same-length-2 (statements-below t, statements.Post) (turns-at t) turns.Post
-turns-same-length-2 t c = search needs
-
-turns-same-length-3 :
-    (t : ℕ) →
-    turns-lts.Need-same-length-3 (statements-below t, statements.Post) (turns-at t) turns.Post
-turns-same-length-3 t c = search needs
-
-turns-returns :
-    (t : ℕ) → turns-lts.Need-returns (statements-below t, statements.Post) (turns-at t) turns.Post
-turns-returns t c =
-    let pre′ = c .before .before .before .before .before .before .before .before .before .before .before .before .before .before .before .before .before .before .before .before .before .before .before .before .before .before .pre in
-    let statements′ = c .before .before .before .before .before .before .before .before .before .statements in
-    let a = statements′ .ensures in
-    record {
-      kept = a .kept;
-      ended = a .ended;
-      plays = λ E b us s st m. turned-once _ _ (λ j. playFew j _ b) (pre′ .1 .1) (a .plays E b us s st m) (c .if1 .taken);
-    }
-
-turns-sub-t22-2 :
-    (t : ℕ) →
-    turns-lts.Need-sub-t22-2 (statements-below t, statements.Post) (turns-at t) turns.Post
-turns-sub-t22-2 t c =
-    let args′ = c .before .before .before .before .before .before .before .before .before .before .before .before .before .before .before .before .before .before .before .before .before .before .before .before .before .before .before .args in
-    let statements′ = c .before .before .before .before .before .before .before .before .before .before .statements in
-    let if1′ = c .before .if1 in
-    omega (arith, second-open (args′ .n) (args′ .frame .seconds) (statements′ .result .failed) (if1′ .left))
-
-turns-sub-t33 :
-    (t : ℕ) → turns-lts.Need-sub-t33 (statements-below t, statements.Post) (turns-at t) turns.Post
-turns-sub-t33 t c =
-    let pre′ = c .before .before .before .before .before .before .before .before .before .before .before .before .before .before .before .before .before .before .before .before .before .before .before .before .before .before .before .before .pre in
-    omega (arith, pre′ .1 .2)
-
-turns-statements-requires-2 : (t : ℕ) → turns-lts.Need-statements-requires-2 (turns-calls t) (turns-at t) turns.Post
-turns-statements-requires-2 t c κs =
-    let pre′ = c .before .before .before .before .before .before .before .before .before .before .before .before .before .before .before .before .before .before .before .before .before .before .before .before .before .before .before .before .before .before .before .pre in
-    let args′ = c .before .before .before .before .before .before .before .before .before .before .before .before .before .before .before .before .before .before .before .before .before .before .before .before .before .before .before .before .before .before .before .args in
-    let statements′ = c .before .before .before .before .before .before .before .before .before .before .before .before .before .before .statements in
-    let if1′ = c .before .before .before .before .before .if1 in
-    let a = statements′ .ensures in
-    let stood = pre′ .1 .3 in
-    let sound = first-sound (args′ .n) (args′ .frame .seconds) (statements′ .result .failed) (if1′ .left) in (
-      omega (arith, pre′ .0, pre′ .1 .2),
-      (
-        pre′ .1 .0,
-        record {
-          env = stood .env;
-          body = stood .body;
-          rest = stood .rest;
-          state = _;
-          standing = again-standing _ (stood .standing) (a .ended (stood .env) (stood .body) (stood .rest) (stood .state) (stood .standing) sound);
-          sized = sized-kept (stood .sized) (a .kept);
-        },
-      ),
-    )
-
-turns-same-length-4 :
-    (t : ℕ) →
-    turns-lts.Need-same-length-4 (statements-below t, statements.Post) (turns-at t) turns.Post
-turns-same-length-4 t c =
-    let statements′ = c .before .before .before .before .before .before .before .before .before .before .before .before .before .before .before .before .before .before .before .before .before .statements in
-    let statements2′ = c .before .before .before .before .before .before .statements2 in
-    statements2′ .ensures .kept .values-long ∙ statements′ .ensures .kept .values-long
-
-turns-same-length-5 :
-    (t : ℕ) →
-    turns-lts.Need-same-length-5 (statements-below t, statements.Post) (turns-at t) turns.Post
-turns-same-length-5 t c =
-    let statements′ = c .before .before .before .before .before .before .before .before .before .before .before .before .before .before .before .before .before .before .before .before .before .statements in
-    let statements2′ = c .before .before .before .before .before .before .statements2 in
-    statements2′ .ensures .kept .feeds-long ∙ statements′ .ensures .kept .feeds-long
-
-turns-same-length-6 :
-    (t : ℕ) →
-    turns-lts.Need-same-length-6 (statements-below t, statements.Post) (turns-at t) turns.Post
-turns-same-length-6 t c =
-    let statements′ = c .before .before .before .before .before .before .before .before .before .before .before .before .before .before .before .before .before .before .before .before .before .statements in
-    let statements2′ = c .before .before .before .before .before .before .statements2 in
-    statements2′ .ensures .kept .args-long ∙ statements′ .ensures .kept .args-long
-
-turns-returns-2 :
-    (t : ℕ) →
-    turns-lts.Need-returns-2 (statements-below t, statements.Post) (turns-at t) turns.Post
-turns-returns-2 t c =
-    let args′ = c .before .before .before .before .before .before .before .before .before .before .before .before .before .before .before .before .before .before .before .before .before .before .before .before .before .before .before .before .before .before .before .before .before .before .before .before .before .before .args in
-    let statements′ = c .before .before .before .before .before .before .before .before .before .before .before .before .before .before .before .before .before .before .before .before .before .statements in
-    let if1′ = c .before .before .before .before .before .before .before .before .before .before .before .before .if1 in
-    let statements2′ = c .before .before .before .before .before .before .statements2 in
-    let a = statements′ .ensures in
-    let z = statements2′ .ensures in
-    let sound = first-sound (args′ .n) (args′ .frame .seconds) (statements′ .result .failed) (if1′ .left) in
-    record {
-      kept = kept-then (a .kept) (z .kept);
-      ended = λ E b us s st e. (let n = a .ended E b us s st sound in ended-then (n .fed .same) (z .ended E b us _ (again-standing _ st n) e));
-      plays = λ E b us s st m. (
-          let p = a .plays E b us s st m in
-          turned-twice _ _ (λ j. playFew j _ b) p (if1′ .left) (z .plays E b us _ (turned-standing _ _ st p sound) m));
-    }
-
-pub +body-of+enter+statement+statements+turns-spec : {M : Type 1} → statement M
-+body-of+enter+statement+statements+turns-spec =
-    close μ-body-of μ-enter μ-statement μ-statements μ-turns (λ t. body-of-lts.spec (body-of-calls t)
+pub +body-of+enter+needed-turns+statement+statements-spec : {M : Type 1} → statement M
++body-of+enter+needed-turns+statement+statements-spec =
+    close μ-body-of μ-enter μ-needed-turns μ-statement μ-statements (λ t. body-of-lts.spec (body-of-calls t)
     (body-of-at t)
     body-of.Post
     (body-of-sub-cursor-at t)
@@ -886,6 +919,30 @@ pub +body-of+enter+statement+statements+turns-spec : {M : Type 1} → statement 
     (enter-same-length-5 t)
     (enter-same-length-6 t)
     (enter-returns-2 t))
+    (λ t. needed-turns-lts.spec (needed-turns-calls t)
+    (needed-turns-at t)
+    needed-turns.Post
+    (needed-turns-sub-t25 t)
+    (needed-turns-slice-aggregate-keep t)
+    (needed-turns-keep-requires t)
+    (needed-turns-statements-requires t)
+    (needed-turns-same-length t)
+    (needed-turns-same-length-2 t)
+    (needed-turns-same-length-3 t)
+    (needed-turns-returns t)
+    (needed-turns-slice-aggregate-same-pins t)
+    (needed-turns-same-pins-requires t)
+    (needed-turns-same-length-4 t)
+    (needed-turns-same-length-5 t)
+    (needed-turns-same-length-6 t)
+    (needed-turns-returns-2 t)
+    (needed-turns-sub-t25-2 t)
+    (needed-turns-sub-t45 t)
+    (needed-turns-statements-requires-2 t)
+    (needed-turns-same-length-7 t)
+    (needed-turns-same-length-8 t)
+    (needed-turns-same-length-9 t)
+    (needed-turns-returns-3 t))
     (λ t. statement-lts.spec (statement-calls t)
     (statement-at t)
     statement′.Post
@@ -900,7 +957,7 @@ pub +body-of+enter+statement+statements+turns-spec : {M : Type 1} → statement 
     (statement-put-requires t)
     (statement-enum-known-what-2 t)
     (statement-enum-known-what-3 t)
-    (statement-turns-requires t)
+    (statement-needed-turns-requires t)
     (statement-enum-told-3 t)
     (statement-shift-requires t)
     (statement-enum-known-what-4 t)
@@ -937,7 +994,7 @@ pub +body-of+enter+statement+statements+turns-spec : {M : Type 1} → statement 
     (statement-same-length-18 t)
     (statement-same-length-19 t)
     (statement-returns-8 t))
-    (λ t. statements-lts.spec
+    λ t. statements-lts.spec
     (statement-below t, statement′.Post)
     (statements-at t)
     statements.Post
@@ -950,21 +1007,4 @@ pub +body-of+enter+statement+statements+turns-spec : {M : Type 1} → statement 
     (statements-same-length-3 t)
     (statements-returns t)
     (statements-loop-less t)
-    (statements-loop-again t))
-    λ t. turns-lts.spec
-    (statements-below t, statements.Post)
-    (turns-at t)
-    turns.Post
-    (turns-sub-t22 t)
-    (turns-statements-requires t)
-    (turns-same-length t)
-    (turns-same-length-2 t)
-    (turns-same-length-3 t)
-    (turns-returns t)
-    (turns-sub-t22-2 t)
-    (turns-sub-t33 t)
-    (turns-statements-requires-2 t)
-    (turns-same-length-4 t)
-    (turns-same-length-5 t)
-    (turns-same-length-6 t)
-    (turns-returns-2 t)
+    (statements-loop-again t)

@@ -1,0 +1,23 @@
+-- No turn is left out, whatever the body.
+use borrow.Author.Needs.{needs}
+use Rattle.plays.proofs.Steady.{promised-all}
+use Rattle.plays.proofs.turns.Statement.{statement}
+use Rattle.plays.proofs.turns.Tie as tie
+
+needed-turns-requires : tie.Need-needed-turns-requires
+needed-turns-requires c κs = search needs
+
+same-length : tie.Need-same-length
+same-length c = search needs
+
+same-length-2 : tie.Need-same-length-2
+same-length-2 c = search needs
+
+same-length-3 : tie.Need-same-length-3
+same-length-3 c = search needs
+
+returns : tie.Need-returns
+returns c = promised-all (c .before .before .before .before .before .before .needed-turns .ensures)
+
+pub turns-spec : {M : Type 1} → statement M
+turns-spec = tie.close (tie.spec needed-turns-requires same-length same-length-2 same-length-3 returns)
