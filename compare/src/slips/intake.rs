@@ -14,7 +14,7 @@ enum Slip {
     WritesThoughRefused,
     PlaceBehind,
     PlaceCut,
-    PlaceWhole,
+    PlaceDropped,
     RefusedOnce,
     ClosedOnce,
     CloseOpens,
@@ -39,7 +39,7 @@ const ALL: &[Slip] = &[
     Slip::WritesThoughRefused,
     Slip::PlaceBehind,
     Slip::PlaceCut,
-    Slip::PlaceWhole,
+    Slip::PlaceDropped,
     Slip::RefusedOnce,
     Slip::ClosedOnce,
     Slip::CloseOpens,
@@ -125,7 +125,7 @@ impl Intakes for Slipping {
         self.left(state, was, chunk.is_none(), store);
         match self.slip {
             Slip::PlaceBehind if answer > 0 => answer + 32,
-            Slip::PlaceWhole if state[0] == 1 => 32 * state[2] + state[1],
+            Slip::PlaceDropped if state[0] == 1 && state[2] > 65_536 => state[1],
             _ => answer,
         }
     }
