@@ -14,3 +14,5 @@ pub mod Rows
 pub mod Visits
 pub mod Windows
 pub mod Accepted
+pub mod Unplaced
+pub mod Listed
