@@ -16,3 +16,6 @@ pub mod Windows
 pub mod Accepted
 pub mod Unplaced
 pub mod Listed
+pub mod Alike
+pub mod AlikeBlocks
+pub mod AlikeStatements
