@@ -19,3 +19,5 @@ pub mod Listed
 pub mod Alike
 pub mod AlikeBlocks
 pub mod AlikeStatements
+pub mod AlikeDocument
+pub mod Braces
