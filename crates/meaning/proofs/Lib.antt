@@ -21,3 +21,5 @@ pub mod AlikeBlocks
 pub mod AlikeStatements
 pub mod AlikeDocument
 pub mod Braces
+pub mod SameTokens
+pub mod Edited
