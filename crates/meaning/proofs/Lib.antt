@@ -23,3 +23,4 @@ pub mod AlikeDocument
 pub mod Braces
 pub mod SameTokens
 pub mod Edited
+pub mod EditedSamples
