@@ -6,14 +6,14 @@ use Prim.Native.String.{String}
 use native.Mathlib.Omega.{arith}
 use mathlib.Core.Bool.{Bool, true, false, not, _&&_}
 use mathlib.Core.Option.{Option, none, some}
-use mathlib.Core.Logic.{_⊎_, inl, inr, ⊎-elim}
+use mathlib.Core.Logic.{_⊎_, inl, ⊎-elim}
 use mathlib.Core.List.{List, [], _∷_}
 use lib.Dec.{leb}
 use Rattle.tokens.specs.Written.{bytes, same}
 use Rattle.tokens.specs.Tokens.{Tok, Toks, stop, tok, left}
 use Rattle.tokens.specs.Refusals.{notHere}
 use Rattle.meaning.specs.Refusals.{badNumber}
-use Rattle.meaning.specs.Reader.{Res, Reader, ok, refuse, after, _>>=_, give, refuseIf, any, aheadOf, ahead, dueOf, oneOf, choose, isWord, word, ifAhead, option, whileF, while, closed, until}
+use Rattle.meaning.specs.Reader.{Res, Reader, ok, refuse, after, _>>=_, give, refuseIf, any, aheadOf, dueOf, oneOf, choose, isWord, word, ifAhead, option, whileF, while, closed, until}
 use Rattle.meaning.specs.Names.{known, within}
 use Rattle.meaning.specs.Document.{over}
 use Rattle.meaning.proofs.Gives.{bind-ok, bind-go, give-ok, if-ok, known-ok}

@@ -4,7 +4,7 @@ use Prim.Native.Nat.{ℕ, zero, suc}
 use Prim.Native.String.{String}
 use native.Mathlib.Omega.{arith}
 use mathlib.Core.Bool.{Bool, true, false, not, _&&_, _||_}
-use mathlib.Core.Option.{Option, none, some}
+use mathlib.Core.Option.{Option, some}
 use mathlib.Core.List.{List, [], _∷_, _++_}
 use lib.ListN.{length}
 use lib.Dec.{leb}
@@ -13,13 +13,13 @@ use Rattle.tokens.specs.Bytes.{between, digit}
 use Rattle.tokens.specs.Tokens.{Tok, Toks}
 use Rattle.meaning.specs.Bounds.{entryMost, bracketsMost}
 use Rattle.meaning.specs.Lists.{has, repeats}
-use Rattle.meaning.specs.Reader.{Reader, _>>=_, give, ahead, until}
+use Rattle.meaning.specs.Reader.{Reader, _>>=_, give, until}
 use Rattle.meaning.specs.Names.{reserved, among, isName, name, dueAmong, find, newName, oldName, value, number, numberIn}
 use Rattle.meaning.specs.Signals.{Names, directions, signal, signals}
 use Rattle.meaning.specs.Groups.{term, sign, signAhead, joined, more, terms, bracket, expression, group, groups}
-use Rattle.meaning.specs.Timing.{Wave, Table, Tables, picoseconds, quoted, eventLetter, letterDue, alternative, letters, Events, oneEvent, event, taken, blanks, wavesFor, entry, waveforms, table, timing}
+use Rattle.meaning.specs.Timing.{Wave, Tables, picoseconds, quoted, eventLetter, letterDue, alternative, letters, Events, oneEvent, event, taken, blanks, wavesFor, entry, waveforms, table, timing}
 use Rattle.meaning.proofs.Choices.{_also_}
-use Rattle.meaning.proofs.Alike.{Border, Like, like-ahead, Alike, Anyhow, Equal, SameWord, Never, alike-bind, alike-equal, alike-at, alike-give, alike-if, alike-known, alike-within, never-bind, never-then, never-if, never-known, never-within, never-refuse, alike-never, alike-any, alike-word, alike-due, alike-choose, alike-test, alike-ahead, alike-while, alike-until}
+use Rattle.meaning.proofs.Alike.{Border, Like, like-ahead, Alike, Anyhow, Equal, SameWord, alike-bind, alike-equal, alike-at, alike-give, alike-if, alike-known, alike-within, never-bind, never-then, never-if, never-known, never-within, never-refuse, alike-never, alike-any, alike-word, alike-due, alike-choose, alike-test, alike-ahead, alike-while, alike-until}
 
 -- ---- lists of names with what they stand for
 

@@ -1,7 +1,7 @@
 -- Bodies, PatternBurst and PatternExec on two streams with the same words up to a border; and what stands before the Patterns of a text.
-use mathlib.Core.Path.{_≡_, refl, sym, ap, ap₂, _∙_, subst}
+use mathlib.Core.Path.{_≡_, refl, _∙_}
 use Prim.Native.Nat.{ℕ}
-use mathlib.Core.Bool.{Bool, true, false}
+use mathlib.Core.Bool.{true, false}
 use mathlib.Core.List.{List, [], _∷_, _++_}
 use Rattle.tokens.specs.Written.{bytes, same}
 use Rattle.tokens.specs.Tokens.{Tok, Toks}
@@ -12,7 +12,7 @@ use Rattle.meaning.specs.Timing.{Tables, timing}
 use Rattle.meaning.specs.Statements.{Decls, Env}
 use Rattle.meaning.specs.Document.{oneBody, oneMacro, oneProcedure, macroDefs, procedures, bodies, listEntry, burst, exec, patterns, Read, document}
 use Rattle.meaning.proofs.Gives.{bind-ok, bind-go}
-use Rattle.meaning.proofs.Listed.{SameWords}
+use Rattle.meaning.proofs.Others.{SameWords}
 use Rattle.meaning.proofs.Alike.{Border, like-ahead, Alike, Anyhow, Equal, SameWord, alike-bind, alike-give, alike-if, alike-due, alike-test, alike-option, alike-until}
 use Rattle.meaning.proofs.AlikeBlocks.{Paired, paired-more, alike-name, alike-new, alike-old, alike-signals, alike-groups, alike-timing}
 use Rattle.meaning.proofs.AlikeStatements.{TwinDecls, TwinEnvs, alike-declared}

@@ -2,7 +2,7 @@
 use mathlib.Core.Path.{_≡_, refl, sym, ap, ap₂, _∙_, subst}
 use Prim.Native.Nat.{ℕ, zero, suc, _-_, _≤_}
 use native.Mathlib.Omega.{arith}
-use mathlib.Core.Bool.{Bool, true, false, not, _&&_}
+use mathlib.Core.Bool.{Bool, true, false, not}
 use mathlib.Core.Option.{Option, none, some}
 use mathlib.Core.Logic.{_⊎_, inl, inr}
 use mathlib.Core.List.{List, [], _∷_, _++_}
@@ -11,19 +11,19 @@ use Rattle.tokens.specs.Written.{bytes, same}
 use Rattle.tokens.specs.Bytes.{between, digit, letter, wordy}
 use Rattle.tokens.specs.Tokens.{Tok, Toks, stop, tok, left}
 use Rattle.meaning.specs.Lists.{count}
-use Rattle.meaning.specs.Reader.{Reader, ok, refuse, after, _>>=_, give, refuseIf, any, aheadOf, oneOf, isWord, word, whileF}
+use Rattle.meaning.specs.Reader.{Reader, ok, after, _>>=_, give, refuseIf, any, aheadOf, oneOf, isWord, word, whileF}
 use Rattle.meaning.specs.Names.{number}
 use Rattle.meaning.specs.Signals.{Names}
 use Rattle.meaning.specs.Timing.{Tables}
-use Rattle.meaning.specs.Body.{Assigns, Args, Setting, assigning, choosing, Kind, macro, procedure, Way, looped, shifted, entered, Body, done, vec, set′, inner, outside, shifting, argOf, turns}
+use Rattle.meaning.specs.Body.{Assigns, Args, Setting, choosing, Kind, macro, procedure, looped, shifted, entered, Body, vec, set′, inner, outside, shifting, argOf, turns}
 use Rattle.meaning.specs.Data.{charsOf, stretched, repeatOf, times, repeated, piece, part, dataRead, paired, assign, assigns, argFor, argument, arguments}
 use Rattle.meaning.specs.Statements.{Decl, Decls, Env, numbered, Head, ends, vecs, sets, loops, shifts, uses, used, chosen, looping, shiftHead, head, inShift, behind, statementsF, statements, declared}
 use Rattle.meaning.proofs.Gives.{bind-ok, give-ok, if-ok}
 use Rattle.meaning.proofs.Choices.{_also_}
 use Rattle.meaning.proofs.Unplaced.{unplaced, Twins, outside-unplaced, shifting-unplaced}
-use Rattle.meaning.proofs.Listed.{same-is}
-use Rattle.meaning.proofs.Alike.{Braced, Named, AtBlock, Border, Like, Leaves, Alike, Near, Anyhow, Equal, SameWord, Never, alike-bind, alike-equal, alike-at, alike-give, alike-if, alike-within, never-bind, never-then, never-if, never-refuse, alike-never, never-either, alike-oneOf, alike-either, alike-choose, word-any, alike-due, goes-on, open′, Lost, near-closed, alike-closed, alike-until}
-use Rattle.meaning.proofs.AlikeBlocks.{Paired, paired-more, alike-name, alike-old, alike-number}
+use Rattle.meaning.proofs.Others.{same-is}
+use Rattle.meaning.proofs.Alike.{Braced, Named, AtBlock, Border, Like, Leaves, Alike, Near, Equal, SameWord, Never, alike-bind, alike-equal, alike-at, alike-give, alike-if, alike-within, never-bind, never-refuse, alike-never, never-either, alike-choose, word-any, alike-due, goes-on, open′, Lost, near-closed, alike-closed, alike-until}
+use Rattle.meaning.proofs.AlikeBlocks.{Paired, alike-old, alike-number}
 
 -- ---- what two bodies that differ in places alone have in common where they are used
 

@@ -3,16 +3,16 @@ use mathlib.Core.Path.{_≡_, refl, sym, ap, _∙_, subst}
 use Prim.Native.Nat.{ℕ, zero, suc, _≤_}
 use Prim.Native.String.{String}
 use native.Mathlib.Omega.{arith}
-use mathlib.Core.Bool.{Bool, true, false, not, _&&_}
+use mathlib.Core.Bool.{Bool, true, false, not}
 use mathlib.Core.Option.{Option, none, some}
-use mathlib.Core.List.{List, [], _∷_, _++_}
+use mathlib.Core.List.{List, [], _∷_}
 use lib.Dec.{eqb}
 use borrow.Author.Tests.{eqb-true}
 use Rattle.tokens.specs.Written.{bytes, same}
 use Rattle.tokens.specs.Bytes.{between, digit, letter, wordy}
 use Rattle.tokens.specs.Tokens.{Tok, Toks, stop, tok, left}
 use Rattle.meaning.specs.Reader.{Res, Reader, ok, refuse, after, _>>=_, give, refuseIf, any, dueOf, oneOf, choose, isWord, word, whileF, while, closed, until}
-use Rattle.meaning.specs.Names.{name, known, oldName, number, within, numberIn}
+use Rattle.meaning.specs.Names.{name, known, oldName, within, numberIn}
 use Rattle.meaning.specs.Signals.{Names}
 use Rattle.meaning.specs.Body.{Assigns, Args, Kind, Body}
 use Rattle.meaning.specs.Data.{charsOf, repeatOf, times, repeated, piece, part, dataRead, assign, assigns, argument, arguments}
@@ -20,7 +20,7 @@ use Rattle.meaning.specs.Statements.{Decl, Decls, Env, Head, ends, vecs,
 use Rattle.meaning.specs.Edited.{fromBrace}
 use Rattle.meaning.proofs.Gives.{bind-ok, give-ok, if-ok, gives-if}
 use Rattle.meaning.proofs.Choices.{_also_}
-use Rattle.meaning.proofs.Listed.{same-is}
+use Rattle.meaning.proofs.Others.{same-is}
 use Rattle.meaning.proofs.Alike.{within-ok}
 
 -- how many braces are open behind a word, where d and one more were

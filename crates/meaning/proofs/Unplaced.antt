@@ -1,9 +1,9 @@
 -- A body without the places of its V's has the same rows, as many: two bodies that differ in places alone give the same.
 use mathlib.Core.Path.{_≡_, refl, sym, ap, ap₂, _∙_}
-use Prim.Native.Nat.{ℕ, zero, suc, _+_, _*_}
-use mathlib.Core.List.{List, [], _∷_, _++_}
-use Rattle.meaning.specs.Body.{Args, Kind, macro, procedure, listed, Way, looped, shifted, entered, Body, done, vec, set′, inner, depth, outside, shifting, inShift}
-use Rattle.meaning.specs.Run.{State, Cycle, Played, cycles, turnsOf, shiftOf, puts, changed, cycleAt, follow, again, entering, playing, play, start, cyclesOf}
+use Prim.Native.Nat.{ℕ, zero, suc}
+use mathlib.Core.List.{List, _++_}
+use Rattle.meaning.specs.Body.{Args, Kind, macro, procedure, listed, Way, looped, shifted, entered, Body, done, vec, set′, inner, depth, outside, shifting}
+use Rattle.meaning.specs.Run.{State, Played, cycles, shiftOf, changed, cycleAt, follow, again, entering, playing, play, start, cyclesOf}
 use Rattle.meaning.specs.Services.{row, rows}
 use Rattle.meaning.proofs.Windows.{rows-++}
 
