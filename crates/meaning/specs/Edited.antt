@@ -35,21 +35,23 @@ fromBrace d (tok t ts) =
       ]
     ]
 
--- `Pattern NAME { .. }` among a text's tokens: its first byte stands at p, and the `}` that matches its `{` ends at q
+-- `Pattern NAME { .. }` in a text: its first byte stands at p, and its last before q
 pub record PatternBlock (text : List ℕ) (p q : ℕ) (name : List ℕ) : Type 0 where
+  -- behind some tokens stand the word Pattern, the name and `{`
   pub before : ℕ
   pub word : Tok
   pub named : Tok
   pub brace : Tok
   pub inside : Toks
-  pub last : Tok
-  pub behind : Toks
   pub opens : fromToken before (toks text 0) ≡ tok word (tok named (tok brace inside))
-  pub closes : fromBrace 0 inside ≡ tok last behind
   pub is-pattern : word .word ≡ bytes "Pattern"
   pub is-named : named .word ≡ name
   pub is-word : isWord name ≡ true
   pub is-brace : brace .word ≡ bytes "{"
+  -- and it ends with the `}` that matches
+  pub last : Tok
+  pub behind : Toks
+  pub closes : fromBrace 0 inside ≡ tok last behind
   pub first : word .at ≡ p
   pub end : last .at + 1 ≡ q
 
