@@ -76,10 +76,6 @@ fewer-on : (c : Bool) (l m n : ℕ) → l ≤ m → Fewer c m n → Fewer c l n
 fewer-on true l m n h k = omega arith
 fewer-on false l m n h k = omega arith
 
-fewer-most : (c : Bool) (m n : ℕ) → Fewer c m n → m ≤ n
-fewer-most true m n h = omega arith
-fewer-most false m n h = h
-
 -- of the n tokens before the border, fewer are left (by one at least, where c is true)
 pub record Leaves (B : Border) (c : Bool) (n : ℕ) (ts us : Toks) : Type 0 where
   pub left : ℕ
@@ -129,13 +125,6 @@ module _ {B : Border} {c : Bool} {A D : Type 0} {R : D → D → Type 0} {m k : 
 pub alike-at : {B : Border} {c : Bool} {A D : Type 0} {R : D → D → Type 0} {f g : A → Reader D} → ((x : A) → Alike B c R (f x) (g x))
     → (x y : A) → x ≡ y → Alike B c R (f x) (g y)
 alike-at {B} {c} {A} {D} {R} {f} {g} h x y e = subst (λ (z : A). Alike B c R (f x) (g z)) e (h x)
-
-pub alike-weak : {B : Border} {c : Bool} {A : Type 0} {R : A → A → Type 0} {m k : Reader A} → Alike B c R m k → Alike B false R m k
-alike-weak {c} h = record {
-  both = λ n ts us l a vs e b ws d. (
-      let x = h .both n ts us l a vs e b ws d in
-      (x .0, record { left = x .1 .left; fewer = fewer-most c (x .1 .left) n (x .1 .fewer); like = x .1 .like }));
-}
 
 -- the tokens stay
 stays : {B : Border} {n : ℕ} {ts us vs ws : Toks} → ts ≡ vs → us ≡ ws → Like B n ts us → Leaves B false n vs ws
@@ -263,7 +252,7 @@ EachAlike B R (x ∷ xs) [] = ⊥
 EachAlike B R (x ∷ xs) (y ∷ ys) =
     ((x .0 ≡ y .0) × (same (bytes "Pattern") (bytes (x .0)) ≡ false) × ((p q : ℕ) → Alike B false R (x .1 p) (y .1 q))) × EachAlike B R xs ys
 
-pub alike-either : {B : Border} {c : Bool} {A : Type 0} {R : A → A → Type 0} (s t : Bool) → s ≡ t → {m k n l : Reader A} → Alike B c R m n → Alike B c R k l
+alike-either : {B : Border} {c : Bool} {A : Type 0} {R : A → A → Type 0} (s t : Bool) → s ≡ t → {m k n l : Reader A} → Alike B c R m n → Alike B c R k l
     → Alike B c R (λ ts. elim s [ true ↦ m ts | false ↦ k ts ]) (λ ts. elim t [ true ↦ n ts | false ↦ l ts ])
 alike-either true true e f g = f
 alike-either false false e f g = g

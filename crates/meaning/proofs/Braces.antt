@@ -11,10 +11,11 @@ use borrow.Author.Tests.{eqb-true}
 use Rattle.tokens.specs.Written.{bytes, same}
 use Rattle.tokens.specs.Bytes.{between, digit, letter, wordy}
 use Rattle.tokens.specs.Tokens.{Tok, Toks, stop, tok, left}
+use Rattle.meaning.specs.Refusals.{badArgument}
 use Rattle.meaning.specs.Reader.{Res, Reader, ok, refuse, after, _>>=_, give, refuseIf, any, dueOf, oneOf, choose, isWord, word, whileF, while, closed, until}
 use Rattle.meaning.specs.Names.{name, known, oldName, within, numberIn}
 use Rattle.meaning.specs.Signals.{Names}
-use Rattle.meaning.specs.Body.{Assigns, Args, Kind, Body}
+use Rattle.meaning.specs.Body.{Assigns, Args, mark, Kind, Body}
 use Rattle.meaning.specs.Data.{charsOf, repeatOf, times, repeated, piece, part, dataRead, assign, assigns, argument, arguments}
 use Rattle.meaning.specs.Statements.{Decl, Decls, Env, Head, ends, vecs, sets, loops, shifts, uses, used, chosen, looping, shiftHead, head, inShift, behind, statementsF, statements, declared}
 use Rattle.meaning.specs.Edited.{fromBrace}
@@ -240,13 +241,13 @@ levels-piece : (m : Bool) (t : Tok) → Levels (levelBehind (t .word)) (λ cs d.
 unfolding piece levelBehind bytes same
 levels-piece m t = by (isWord (t .word)) refl
   where
-    other : Levels (levelBehind (t .word)) (λ cs d. suc d) (oneOf (("#", λ p. refuseIf (not m) 13 p >>= λ u. give (35 ∷ [])) ∷ ("\\", λ p. repeated) ∷ []) t)
+    other : Levels (levelBehind (t .word)) (λ cs d. suc d) (oneOf (("#", λ p. refuseIf (not m) badArgument p >>= λ u. give (mark ∷ [])) ∷ ("\\", λ p. repeated) ∷ []) t)
     other = levels-oneOf _ ((λ p. levels-if _ _ _ _ λ e. levels-give _ λ d. refl) also (λ p. even-repeated) also tt) t
 
     by : (c : Bool) → isWord (t .word) ≡ c
         → Levels {A = List ℕ} (levelBehind (t .word)) (λ cs d. suc d) (λ ts. elim c [
           | true ↦ charsOf t ts
-          | false ↦ oneOf (("#", λ p. refuseIf (not m) 13 p >>= λ u. give (35 ∷ [])) ∷ ("\\", λ p. repeated) ∷ []) t ts
+          | false ↦ oneOf (("#", λ p. refuseIf (not m) badArgument p >>= λ u. give (mark ∷ [])) ∷ ("\\", λ p. repeated) ∷ []) t ts
         ])
     by true e = levels-from (level-word (t .word) e) (levels-chars t)
     by false e = other

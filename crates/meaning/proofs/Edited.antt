@@ -8,7 +8,6 @@ use mathlib.Core.Bool.{Bool, true, false}
 use mathlib.Core.List.{List, [], _∷_, _++_}
 use lib.ListN.{length, drop}
 use lib.Seq.{drop-drop}
-use lib.Dec.{eqb}
 use Rattle.tokens.specs.Written.{bytes, starts}
 use Rattle.tokens.specs.Bytes.{between, digit, letter, wordy}
 use Rattle.tokens.specs.Tokens.{Tok, Toks, tok, plain, run, lex, toks}
@@ -29,14 +28,14 @@ drop-front : {A : Type 0} (f s : List A) → drop (length f) (f ++ s) ≡ s
 drop-front [] s = refl
 drop-front (b ∷ f) s = drop-front f s
 
--- what begins with the word is seen to
-starts-run : (s : List ℕ) → run s ≡ bytes "Pattern" → (c : ℕ) → starts c s ≡ eqb 80 c
+-- a text that begins with the word begins with its first byte
+starts-run : (s : List ℕ) → run s ≡ bytes "Pattern" → (c : ℕ) → starts c s ≡ starts c (bytes "Pattern")
 unfolding run starts bytes
 starts-run [] e c = let z : _≡_ {A = ℕ} 0 1 = cc in absurd (omega arith)
 starts-run (b ∷ s) e c = by (wordy b) e
   where
-    by : (w : Bool) → _≡_ {A = List ℕ} (elim w [ true ↦ b ∷ run s | false ↦ [] ]) (80 ∷ 97 ∷ 116 ∷ 116 ∷ 101 ∷ 114 ∷ 110 ∷ []) → eqb b c ≡ eqb 80 c
-    by true e = let q : b ≡ 80 = cc in ap (λ (x : ℕ). eqb x c) q
+    by : (w : Bool) → _≡_ {A = List ℕ} (elim w [ true ↦ b ∷ run s | false ↦ [] ]) (bytes "Pattern") → starts c (b ∷ s) ≡ starts c (bytes "Pattern")
+    by true e = let q : b ∷ run s ≡ bytes "Pattern" = e in ap (starts c) q
     by false e = let z : _≡_ {A = ℕ} 0 1 = cc in absurd (omega arith)
 
 pattern-word : (t : Tok) → t .word ≡ bytes "Pattern" → isWord (t .word) ≡ true

@@ -2,7 +2,7 @@
 use mathlib.Core.Path.{_≡_, refl, sym, ap, ap₂, _∙_}
 use Prim.Native.Nat.{ℕ, zero, suc}
 use mathlib.Core.List.{List, _++_}
-use Rattle.meaning.specs.Body.{Args, Kind, macro, procedure, listed, Way, looped, shifted, entered, Body, done, vec, set′, inner, depth, outside, shifting}
+use Rattle.meaning.specs.Body.{Args, Kind, macro, procedure, listed, Way, looped, shifted, entered, Body, done, vec, set′, inner, outside, shifting}
 use Rattle.meaning.specs.Run.{State, Played, cycles, shiftOf, changed, cycleAt, follow, again, entering, playing, play, start, cyclesOf}
 use Rattle.meaning.specs.Services.{row, rows}
 use Rattle.meaning.proofs.Windows.{rows-++}
@@ -19,13 +19,6 @@ abbrev pub Twins : Body → Body → Type 0
 Twins b c = unplaced b ≡ unplaced c
 
 -- ---- what is asked of a body where it is used
-
-pub depth-unplaced : (b : Body) → depth (unplaced b) ≡ depth b
-unfolding unplaced depth
-depth-unplaced done = refl
-depth-unplaced (vec p a r) = depth-unplaced r
-depth-unplaced (set′ x r) = depth-unplaced r
-depth-unplaced (inner w b r) = rw (depth-unplaced b, depth-unplaced r)
 
 pub outside-unplaced : (b : Body) → outside (unplaced b) ≡ outside b
 unfolding unplaced outside
