@@ -14,3 +14,15 @@ pub mod Rows
 pub mod Visits
 pub mod Windows
 pub mod Accepted
+pub mod Unplaced
+pub mod Listed
+pub mod Others
+pub mod Alike
+pub mod AlikeBlocks
+pub mod AlikeStatements
+pub mod AlikeDocument
+pub mod Braces
+pub mod SameTokens
+pub mod AlikePatterns
+pub mod Edited
+pub mod EditedSamples

@@ -14,5 +14,6 @@ pub mod Run
 pub mod Meaning
 pub mod Services
 pub mod Windows
+pub mod Edited
 pub mod Open
 pub mod Samples

@@ -208,8 +208,9 @@ fn needed_turns<'a>(
     if a.failed | (n < 2) | (frame.seconds == 0) {
         return a;
     }
+    let after = a.table;
     let same = same_pins(values, &kept, signals);
-    if plain & (a.table == table) & same {
+    if plain & (after == table) & same {
         return a;
     }
     let second = Frame {
@@ -232,7 +233,7 @@ fn needed_turns<'a>(
         known,
         signals,
         second,
-        a.table,
+        after,
         values,
         feeds,
         args,

@@ -286,8 +286,8 @@ enter-returns-2 t c =
           procedure-told v _ _ (kind-procedure _ (if1′ .left)) sized l (p .kept) (come-back′ .ensures) (p .plays E b us _ (procedure-standing v sized l) m);
     }
 
-needed-turns-sub-t25 : (t : ℕ) → needed-turns-lts.Need-sub-t25 (needed-turns-calls t) (needed-turns-at t) needed-turns.Post
-needed-turns-sub-t25 t c =
+needed-turns-sub-t26 : (t : ℕ) → needed-turns-lts.Need-sub-t26 (needed-turns-calls t) (needed-turns-at t) needed-turns.Post
+needed-turns-sub-t26 t c =
     let pre′ = c .before .before .before .before .before .before .before .before .before .before .before .before .before .pre in
     omega (arith, pre′ .1 .2)
 
@@ -347,12 +347,12 @@ needed-turns-same-length-6 t c = search needs
 
 needed-turns-returns-2 : (t : ℕ) → needed-turns-lts.Need-returns-2 (needed-turns-calls t) (needed-turns-at t) needed-turns.Post
 needed-turns-returns-2 t c =
-    let statements′ = c .before .before .before .before .before .before .before .before .before .before .before .before .before .before .statements in
-    let pre′ = c .before .before .before .before .before .before .before .before .before .before .before .before .before .before .before .before .before .before .before .before .before .before .before .before .before .before .before .before .before .before .before .before .before .before .before .before .pre in
-    let same-pins′ = c .before .before .same-pins in
-    let args′ = c .before .before .before .before .before .before .before .before .before .before .before .before .before .before .before .before .before .before .before .before .before .before .before .before .before .before .before .before .before .before .before .before .before .before .before .before .args in
-    let keep′ = c .before .before .before .before .before .before .before .before .before .before .before .before .before .before .before .before .before .before .before .keep in
-    let if1′ = c .before .before .before .before .before .if1 in
+    let statements′ = c .before .before .before .before .before .before .before .before .before .before .before .before .before .statements in
+    let pre′ = c .before .before .before .before .before .before .before .before .before .before .before .before .before .before .before .before .before .before .before .before .before .before .before .before .before .before .before .before .before .before .before .before .before .before .before .pre in
+    let same-pins′ = c .before .same-pins in
+    let args′ = c .before .before .before .before .before .before .before .before .before .before .before .before .before .before .before .before .before .before .before .before .before .before .before .before .before .before .before .before .before .before .before .before .before .before .before .args in
+    let keep′ = c .before .before .before .before .before .before .before .before .before .before .before .before .before .before .before .before .before .before .keep in
+    let if1′ = c .before .before .before .before .if1 in
     let a = statements′ .ensures in
     let roomy = pre′ .1 .3 .sized .roomy in
     let i = both _ (same-pins′ .result) (c .if2 .taken) in
@@ -365,24 +365,24 @@ needed-turns-returns-2 t c =
       plays = λ E b us s st m f. turned-same _ st (f (j .0)) pins (eqb-true _ _ (j .1)) _ _ (a .plays E b us s st m) (if1′ .left);
     }
 
-needed-turns-sub-t25-2 : (t : ℕ) → needed-turns-lts.Need-sub-t25-2 (needed-turns-calls t) (needed-turns-at t) needed-turns.Post
-needed-turns-sub-t25-2 t c =
-    let args′ = c .before .before .before .before .before .before .before .before .before .before .before .before .before .before .before .before .before .before .before .before .before .before .before .before .before .before .before .before .before .before .before .before .before .before .before .before .before .args in
-    let statements′ = c .before .before .before .before .before .before .before .before .before .before .before .before .before .before .before .statements in
-    let if1′ = c .before .before .before .before .before .before .if1 in
+needed-turns-sub-t26-2 : (t : ℕ) → needed-turns-lts.Need-sub-t26-2 (needed-turns-calls t) (needed-turns-at t) needed-turns.Post
+needed-turns-sub-t26-2 t c =
+    let args′ = c .before .before .before .before .before .before .before .before .before .before .before .before .before .before .before .before .before .before .before .before .before .before .before .before .before .before .before .before .before .before .before .before .before .before .before .before .args in
+    let statements′ = c .before .before .before .before .before .before .before .before .before .before .before .before .before .before .statements in
+    let if1′ = c .before .before .before .before .before .if1 in
     omega (arith, second-open (args′ .n) (args′ .frame .seconds) (statements′ .result .failed) (if1′ .left))
 
-needed-turns-sub-t45 : (t : ℕ) → needed-turns-lts.Need-sub-t45 (needed-turns-calls t) (needed-turns-at t) needed-turns.Post
-needed-turns-sub-t45 t c =
-    let pre′ = c .before .before .before .before .before .before .before .before .before .before .before .before .before .before .before .before .before .before .before .before .before .before .before .before .before .before .before .before .before .before .before .before .before .before .before .before .before .before .pre in
+needed-turns-sub-t46 : (t : ℕ) → needed-turns-lts.Need-sub-t46 (needed-turns-calls t) (needed-turns-at t) needed-turns.Post
+needed-turns-sub-t46 t c =
+    let pre′ = c .before .before .before .before .before .before .before .before .before .before .before .before .before .before .before .before .before .before .before .before .before .before .before .before .before .before .before .before .before .before .before .before .before .before .before .before .before .pre in
     omega (arith, pre′ .1 .2)
 
 needed-turns-statements-requires-2 : (t : ℕ) → needed-turns-lts.Need-statements-requires-2 (needed-turns-calls t) (needed-turns-at t) needed-turns.Post
 needed-turns-statements-requires-2 t c κs =
-    let statements′ = c .before .before .before .before .before .before .before .before .before .before .before .before .before .before .before .before .before .before .before .statements in
-    let pre′ = c .before .before .before .before .before .before .before .before .before .before .before .before .before .before .before .before .before .before .before .before .before .before .before .before .before .before .before .before .before .before .before .before .before .before .before .before .before .before .before .before .before .pre in
-    let args′ = c .before .before .before .before .before .before .before .before .before .before .before .before .before .before .before .before .before .before .before .before .before .before .before .before .before .before .before .before .before .before .before .before .before .before .before .before .before .before .before .before .before .args in
-    let if1′ = c .before .before .before .before .before .before .before .before .before .before .if1 in
+    let statements′ = c .before .before .before .before .before .before .before .before .before .before .before .before .before .before .before .before .before .before .statements in
+    let pre′ = c .before .before .before .before .before .before .before .before .before .before .before .before .before .before .before .before .before .before .before .before .before .before .before .before .before .before .before .before .before .before .before .before .before .before .before .before .before .before .before .before .pre in
+    let args′ = c .before .before .before .before .before .before .before .before .before .before .before .before .before .before .before .before .before .before .before .before .before .before .before .before .before .before .before .before .before .before .before .before .before .before .before .before .before .before .before .before .args in
+    let if1′ = c .before .before .before .before .before .before .before .before .before .if1 in
     let a = statements′ .ensures in
     let stood = pre′ .1 .3 in
     let sound = first-sound (args′ .n) (args′ .frame .seconds) (statements′ .result .failed) (if1′ .left) in (
@@ -403,27 +403,27 @@ needed-turns-statements-requires-2 t c κs =
 needed-turns-same-length-7 : (t : ℕ) → needed-turns-lts.Need-same-length-7 (needed-turns-calls t) (needed-turns-at t) needed-turns.Post
 needed-turns-same-length-7 t c =
     let statements2′ = c .before .before .before .before .before .before .statements2 in
-    let statements′ = c .before .before .before .before .before .before .before .before .before .before .before .before .before .before .before .before .before .before .before .before .before .before .before .before .before .before .statements in
+    let statements′ = c .before .before .before .before .before .before .before .before .before .before .before .before .before .before .before .before .before .before .before .before .before .before .before .before .before .statements in
     statements2′ .ensures .kept .values-long ∙ statements′ .ensures .kept .values-long
 
 needed-turns-same-length-8 : (t : ℕ) → needed-turns-lts.Need-same-length-8 (needed-turns-calls t) (needed-turns-at t) needed-turns.Post
 needed-turns-same-length-8 t c =
     let statements2′ = c .before .before .before .before .before .before .statements2 in
-    let statements′ = c .before .before .before .before .before .before .before .before .before .before .before .before .before .before .before .before .before .before .before .before .before .before .before .before .before .before .statements in
+    let statements′ = c .before .before .before .before .before .before .before .before .before .before .before .before .before .before .before .before .before .before .before .before .before .before .before .before .before .statements in
     statements2′ .ensures .kept .feeds-long ∙ statements′ .ensures .kept .feeds-long
 
 needed-turns-same-length-9 : (t : ℕ) → needed-turns-lts.Need-same-length-9 (needed-turns-calls t) (needed-turns-at t) needed-turns.Post
 needed-turns-same-length-9 t c =
     let statements2′ = c .before .before .before .before .before .before .statements2 in
-    let statements′ = c .before .before .before .before .before .before .before .before .before .before .before .before .before .before .before .before .before .before .before .before .before .before .before .before .before .before .statements in
+    let statements′ = c .before .before .before .before .before .before .before .before .before .before .before .before .before .before .before .before .before .before .before .before .before .before .before .before .before .statements in
     statements2′ .ensures .kept .args-long ∙ statements′ .ensures .kept .args-long
 
 needed-turns-returns-3 : (t : ℕ) → needed-turns-lts.Need-returns-3 (needed-turns-calls t) (needed-turns-at t) needed-turns.Post
 needed-turns-returns-3 t c =
-    let statements′ = c .before .before .before .before .before .before .before .before .before .before .before .before .before .before .before .before .before .before .before .before .before .before .before .before .before .before .statements in
+    let statements′ = c .before .before .before .before .before .before .before .before .before .before .before .before .before .before .before .before .before .before .before .before .before .before .before .before .before .statements in
     let statements2′ = c .before .before .before .before .before .before .statements2 in
-    let args′ = c .before .before .before .before .before .before .before .before .before .before .before .before .before .before .before .before .before .before .before .before .before .before .before .before .before .before .before .before .before .before .before .before .before .before .before .before .before .before .before .before .before .before .before .before .before .before .before .before .args in
-    let if1′ = c .before .before .before .before .before .before .before .before .before .before .before .before .before .before .before .before .before .if1 in
+    let args′ = c .before .before .before .before .before .before .before .before .before .before .before .before .before .before .before .before .before .before .before .before .before .before .before .before .before .before .before .before .before .before .before .before .before .before .before .before .before .before .before .before .before .before .before .before .before .before .before .args in
+    let if1′ = c .before .before .before .before .before .before .before .before .before .before .before .before .before .before .before .before .if1 in
     let a = statements′ .ensures in
     let z = statements2′ .ensures in
     let sound = first-sound (args′ .n) (args′ .frame .seconds) (statements′ .result .failed) (if1′ .left) in
@@ -922,7 +922,7 @@ pub +body-of+enter+needed-turns+statement+statements-spec : {M : Type 1} → sta
     (λ t. needed-turns-lts.spec (needed-turns-calls t)
     (needed-turns-at t)
     needed-turns.Post
-    (needed-turns-sub-t25 t)
+    (needed-turns-sub-t26 t)
     (needed-turns-slice-aggregate-keep t)
     (needed-turns-keep-requires t)
     (needed-turns-statements-requires t)
@@ -936,8 +936,8 @@ pub +body-of+enter+needed-turns+statement+statements-spec : {M : Type 1} → sta
     (needed-turns-same-length-5 t)
     (needed-turns-same-length-6 t)
     (needed-turns-returns-2 t)
-    (needed-turns-sub-t25-2 t)
-    (needed-turns-sub-t45 t)
+    (needed-turns-sub-t26-2 t)
+    (needed-turns-sub-t46 t)
     (needed-turns-statements-requires-2 t)
     (needed-turns-same-length-7 t)
     (needed-turns-same-length-8 t)
