@@ -1,0 +1,1 @@
+// What a text assigns at all.
