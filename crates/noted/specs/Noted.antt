@@ -9,12 +9,20 @@ use lib.Dec.{eqb}
 use Rattle.meaning.specs.Lists.{has}
 use Rattle.meaning.specs.Body as body
 use Rattle.meaning.specs.Body.{Assigns, Args, Setting, assigning, choosing, Way, looped, shifted, entered, Body, done, vec, set′, inner}
-use Rattle.timing.specs.Marks.{mark, tableSize}
+use Rattle.timing.specs.Marks.{charsMost, mark}
 
 -- no mark is lost
 pub record Grows (before behind : List ℕ) : Type 0 where
   pub long : length behind ≡ length before
   pub more : (s c : ℕ) → mark before s c ≡ true → mark behind s c ≡ true
+
+-- signal s has a mark for c, if there can be one
+pub record CharNoted (used : List ℕ) (s c : ℕ) : Type 0 where
+  pub is : c < charsMost → mark used s c ≡ true
+
+-- so it has for each of these characters
+pub record CharsNoted (used : List ℕ) (s : ℕ) (cs : List ℕ) : Type 0 where
+  pub each : (c : ℕ) → has c cs ≡ true → CharNoted used s c
 
 -- each character given is marked; `#` is one of an argument, which is marked where that stands
 unfoldable pub Gives : List ℕ → Assigns → Type 0
