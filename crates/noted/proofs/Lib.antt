@@ -1,2 +1,2 @@
-mod Marking
+pub mod Marking
 pub mod Reading
