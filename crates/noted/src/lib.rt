@@ -15,6 +15,9 @@ const MARK: u8 = 35;
 
 const CHARS: usize = 128;
 
+// The marks of all signals.
+pub const USED: usize = sets::MOST * CHARS;
+
 // ---- characters of a signal
 
 // Every character is below CHARS; the remainder keeps any other byte within the signal's marks.
