@@ -1,4 +1,4 @@
-mod Noting
+pub mod Noting
 mod Turning
 mod Entering
 mod Allowed
