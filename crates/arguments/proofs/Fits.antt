@@ -17,7 +17,7 @@ use Rattle.arguments.proofs.Lists.{differ, both, has-behind, inside-eac
 -- ---- lengths
 
 -- the first argument of a list, and the others
-arg-first : (x : ℕ × List ℕ) (xs : Args) → argOf (x .0) (x ∷ xs) ≡ x .1
+pub arg-first : (x : ℕ × List ℕ) (xs : Args) → argOf (x .0) (x ∷ xs) ≡ x .1
 unfolding argOf
 arg-first x xs = rw (eq-eqb (x .0) (x .0) refl, argOf)
 

@@ -1,7 +1,7 @@
 -- For callers: what the blocks of names make ready, and what is known of a statement's assignments where nothing was refused.
 use Prim.Native.Nat.{ℕ, _<_}
-use mathlib.Core.Path.{_≡_, refl, ap, _∙_}
-use mathlib.Core.Bool.{Bool, true, false}
+use mathlib.Core.Path.{_≡_, refl, sym, ap, _∙_}
+use mathlib.Core.Bool.{Bool, true, false, _||_}
 use mathlib.Core.List.{List, [], _∷_}
 use lib.Dec.{eqb}
 use lib.ListN.{getD}
@@ -9,6 +9,7 @@ use Rattle.meaning.specs.Bounds.{signalsMost}
 use Rattle.meaning.specs.Body.{Assigns, mark}
 use Rattle.meaning.specs.Lists.{has, repeats}
 use Rattle.meaning.specs.Signals.{Names}
+use Rattle.meaning.specs.Timing.{waveChar}
 use Rattle.meaning.specs.Data.{assigned, assigns}
 use Rattle.words.specs.declared.Cursor.{Cursor}
 use Rattle.words.specs.Cursor.{alive}
@@ -17,8 +18,8 @@ use Rattle.signals.specs.Names.{AllTidy, Fronted}
 use Rattle.signals.proofs.Tidy.{gave, declared-front, tidy-wider}
 use Rattle.signals.proofs.Tables.{known}
 use Rattle.assigns.specs.Given.{charOf, chars, Gives, Ready}
-use Rattle.assigns.proofs.Table.{or-false}
-use Rattle.assigns.proofs.Read.{differ-assigns, tidy-once, no-mark-assigned}
+use Rattle.assigns.proofs.Table.{differ, or-false}
+use Rattle.assigns.proofs.Read.{differ-assigns, tidy-once, no-mark-assigned, no-other-assigned}
 
 -- both blocks were read
 pub ready : {text : List ℕ} {c r : Cursor} {places lists : List ℕ} {signals names : ℕ} → Fronted text c r places lists signals names → alive r ≡ true
@@ -50,3 +51,12 @@ pub unmarked : {text : List ℕ} {c r : Cursor} (ns : Names) {given : List ℕ} 
     → (s : ℕ) → s < signalsMost → eqb (getD given s 0) mark ≡ false
 unmarked ns g live s b =
     ap (λ (n : ℕ). eqb n mark) (g .gave live .each s b) ∙ char-not mark s (g .it) refl (gave (no-mark-assigned ns) (g .goes) live)
+
+-- each character is a letter, a digit or `#`
+pub all-written : {text : List ℕ} {c r : Cursor} (ns : Names) (may : Bool) {given : List ℕ} → (g : Gives text c (assigns ns may) r given) → alive r ≡ true
+    → (b : ℕ) → has b (chars (g .it)) ≡ true → (waveChar b || eqb mark b) ≡ true
+all-written ns may g live b h = by (waveChar b || eqb mark b) refl
+  where
+    by : (z : Bool) → (waveChar b || eqb mark b) ≡ z → z ≡ true
+    by true e = refl
+    by false e = absurd (differ (sym h ∙ gave (no-other-assigned b ns may e) (g .goes) live))

@@ -2,7 +2,7 @@
 use Prim.Native.Nat.{ℕ}
 use native.Mathlib.Omega.{arith}
 use mathlib.Core.Path.{_≡_, refl, sym, ap, _∙_, subst}
-use mathlib.Core.Bool.{Bool, true, false, not}
+use mathlib.Core.Bool.{Bool, true, false, not, _||_}
 use mathlib.Core.Option.{Option, some}
 use mathlib.Core.List.{List, [], _∷_, _++_}
 use lib.Dec.{eqb}
@@ -14,6 +14,7 @@ use Rattle.meaning.specs.Body.{Assigns, mark}
 use Rattle.meaning.specs.Lists.{has, meets, repeats}
 use Rattle.meaning.specs.Names.{find, oldName}
 use Rattle.meaning.specs.Signals.{Names}
+use Rattle.meaning.specs.Timing.{waveChar}
 use Rattle.meaning.specs.Data.{dataRead, paired, assigned, assign, assigns}
 use Rattle.meaning.proofs.Takes.{Takes}
 use Rattle.meaning.proofs.Taking.{takes-keeps, takes-due, takes-old, takes-bind, takes-until, keeps-bind, keeps-give, keeps-if}
@@ -21,7 +22,7 @@ use Rattle.meaning.proofs.Gives.{Gives, gives-bind, gives-after, gives-give, gi
 use Rattle.sets.proofs.Tidy.{TidyBelow, bare, next, tidy-append}
 use Rattle.signals.specs.Names.{AllTidy, none, more}
 use Rattle.signals.proofs.Tidy.{gives-known}
-use Rattle.data.proofs.Characters.{takes-data, no-mark, no-zero}
+use Rattle.data.proofs.Characters.{takes-data, no-mark, no-zero, no-other}
 use Rattle.assigns.specs.Given.{chars}
 use Rattle.assigns.proofs.Table.{is-true, chars-append, chars-paired}
 
@@ -124,3 +125,8 @@ no-zero-assigned ns m = without-assigns 0 ns m (no-zero m)
 pub no-mark-assigned : (ns : Names) → Gives (λ xs. has mark (chars xs) ≡ false) (assigns ns false)
 unfolding Without
 no-mark-assigned ns = without-assigns mark ns false no-mark
+
+-- none is anything but a letter, a digit or `#`
+pub no-other-assigned : (b : ℕ) (ns : Names) (m : Bool) → (waveChar b || eqb mark b) ≡ false → Gives (λ xs. has b (chars xs) ≡ false) (assigns ns m)
+unfolding Without
+no-other-assigned b ns m h = without-assigns b ns m (no-other b m h)

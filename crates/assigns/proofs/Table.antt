@@ -15,7 +15,7 @@ use Rattle.meaning.specs.Data.{paired, assigned}
 use Rattle.sets.proofs.Tidy.{TidyBelow, bare, next}
 use Rattle.assigns.specs.Given.{charOf, chars, Gave, placed}
 
-differ : true ≡ false → ⊥
+pub differ : true ≡ false → ⊥
 differ e = let z : _≡_ {A = ℕ} 0 1 = cc in omega arith
 
 pub is-true : (z : Bool) → not z ≡ false → z ≡ true

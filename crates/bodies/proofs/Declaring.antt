@@ -27,15 +27,18 @@ use Rattle.measures.specs.Uses.{rowLength}
 use Rattle.measures.specs.Book.{firstProcedure, Listed, Used, Kept, KeptRow}
 use Rattle.measures.proofs.Uses.{uses-none}
 use Rattle.measures.proofs.Book.{listed-append, listed-entries, new-listed, used-new, used-stays}
+use Rattle.noted.specs.Noted.{Grows, Noted}
+use Rattle.noted.specs.Known.{Knows}
 use Rattle.heads.specs.declared.Known.{Known}
 use Rattle.heads.specs.declared.Part.{Part}
 use Rattle.heads.specs.Known.{Describes}
 use Rattle.heads.specs.Heads.{partOf}
 use Rattle.heads.proofs.ByNumber.{of-part, fromFirst, from-first}
 use Rattle.heads.proofs.Callers.{describes-frame}
-use Rattle.bodies.specs.Bodies.{Summed}
-use Rattle.bodies.specs.Blocks.{oneMore, oneOf}
+use Rattle.bodies.specs.Bodies.{Notes, Summed}
+use Rattle.bodies.specs.Blocks.{oneMore, oneOf, Declared}
 use Rattle.bodies.proofs.Stating.{differ}
+use Rattle.bodies.proofs.Noting.{knows-grow, all-more}
 use Rattle.bodies.proofs.Callers.{declared-made}
 
 -- ---- the tables with one body more
@@ -89,6 +92,12 @@ module _ {text places lists tplaces book rows : List ℕ} {known : Known} {e : E
         procs-are = listed-more firstProcedure (known .procs) (e .procs) (s .procs-counted) (s .procs-are) u;
       }
 
+-- and noted as they are
+knows-one : (known : Known) (used : List ℕ) (e : Env) (x : Tok × Decl) → Knows (known .tables) used e → Noted (known .tables) used (x .1 .body) → (macros : Bool)
+    → Knows (oneMore known macros .tables) used (withDecls e macros (declsOf e macros ++ x ∷ []))
+knows-one known used e x h n true = record { macros = all-more (known .tables) used (e .macros) x (h .macros) n; procs = h .procs }
+knows-one known used e x h n false = record { macros = h .macros; procs = all-more (known .tables) used (e .procs) x (h .procs) n }
+
 -- ---- the next number of a kind
 
 module _ (known : Known) {part : Part} (macros : Bool) (part-is : part ≡ partOf known macros) where
@@ -130,10 +139,10 @@ one-due true e = refl
 one-due false e = refl
 
 module _ {text places lists tplaces book rows : List ℕ} {known : Known} {e : Env} {part : Part} (macros : Bool) (part-is : part ≡ partOf known macros)
-    (s : Describes text places lists tplaces book rows known e) {c a b d r : Cursor} {p : ℕ} {row : List ℕ} {x : Measure}
+    (s : Describes text places lists tplaces book rows known e) {c a b d r : Cursor} {p : ℕ} {row used used′ : List ℕ} {x : Measure}
     (name : Goes text c (newName (names text (fromFirst book part) (part .count))) a (ahead text c))
     (few : Checked a (leb bodiesMost (known .macros + known .procs)) tooMany (c .at) b) (opening : Goes text b (due "{") d p)
-    (body : Makes text d (statements e depthMost true) r (Summed true (replicate rowLength 0) row x)) where
+    (body : Makes text d (statements e depthMost true) r (Summed true (replicate rowLength 0) row x (Notes (known .tables) e used used′))) where
   new : Goes text c (newName (declsOf e macros)) a (ahead text c)
   new =
       let o = of-part s macros part-is in
@@ -144,7 +153,8 @@ module _ {text places lists tplaces book rows : List ℕ} {known : Known} {e : E
   unfolding bodiesOf
   counted-all = rw (s .macros-counted, s .procs-counted)
 
-  whole : Makes text d (declared e true) r (λ x′. (x′ .from ≡ toks text (b .end)) × Summed true (replicate rowLength 0) row x (x′ .body))
+  whole : Makes text d (declared e true) r
+      (λ x′. (x′ .from ≡ toks text (b .end)) × Summed true (replicate rowLength 0) row x (Notes (known .tables) e used used′) (x′ .body))
   whole = declared-made e true opening body
 
   read-all : Goes text c (oneOf macros e) r (withDecls e macros (declsOf e macros ++ (ahead text c, whole .it) ∷ []))
@@ -177,8 +187,11 @@ module _ {text places lists tplaces book rows : List ℕ} {known : Known} {e : E
           let h = whole .held live in
           used-new k text kr (whole .it) (h .0) (h .1 .measured) (h .1 .counted .counts refl done uses-none)
 
-      pub body-kept : {known′ : Known} → known′ ≡ oneMore known macros
-          → Makes text c (oneOf macros e) r (λ f. Describes text places lists tplaces book′ rows′ known′ f)
-      body-kept q =
+      pub body-kept : {known′ : Known} → known′ ≡ oneMore known macros → Grows used used′
+          → Makes text c (oneOf macros e) r (Declared text places lists tplaces book′ rows′ known′ (Knows (known .tables) used e) used′)
+      body-kept q grows =
           let u = subst (λ (z : Part). Used text book′ rows′ (z .first + z .count) (ahead text c, whole .it)) part-is new-used in
-          made read-all (λ l. rw q (describes-one others-stay room-for macros u))
+          made read-all (λ l. rw q (record {
+            describes = describes-one others-stay room-for macros u;
+            knows = λ k. knows-one known used′ e (ahead text c, whole .it) (knows-grow grows k) (whole .held l .1 .noted .noted k) macros;
+          }))

@@ -1,4 +1,6 @@
+pub mod Noting
 mod Turning
+mod Entering
 mod Allowed
 mod Rowing
 mod Shifting

@@ -18,13 +18,22 @@ use Rattle.words.proofs.Choice.{there, missing}
 use Rattle.timing.specs.Makes.{Makes, Brings}
 use Rattle.timing.proofs.Making.{made, makes-bind, first, first-then}
 use Rattle.assigns.proofs.Table.{is-true}
-use Rattle.bodies.specs.Blocks.{wordOf, oneOf, opening, blockOf}
+use Rattle.noted.specs.Known.{Knows}
+use Rattle.heads.specs.declared.Known.{Known}
+use Rattle.bodies.specs.Blocks.{wordOf, oneOf, opening, blockOf, Declared}
 use Rattle.bodies.proofs.Stating.{differ}
 
 pub takes-one : (macros : Bool) (e : Env) → Takes (oneOf macros e)
 unfolding oneOf
 takes-one true e = moves-takes (moves-macro e)
 takes-one false e = moves-takes (moves-procedure e)
+
+-- what is read behind what was declared is declared behind all of it
+module _ {text places lists tplaces book rows used : List ℕ} {known : Known} {N : Type 0} {e : Env} (h : Declared text places lists tplaces book rows known N used e)
+    {book′ rows′ used′ : List ℕ} {known′ : Known} {c r : Cursor} {m : Reader Env} where
+  pub declared-then : Makes text c m r (Declared text places lists tplaces book′ rows′ known′ (Knows (known .tables) used e) used′)
+      → Makes text c m r (Declared text places lists tplaces book′ rows′ known′ N used′)
+  declared-then f = made (f .goes) (λ live. record { describes = f .held live .describes; knows = λ n. f .held live .knows (h .knows n) })
 
 is-false : (b : Bool) → not b ≡ true → b ≡ false
 is-false true h = sym h

@@ -16,16 +16,19 @@ use Rattle.words.proofs.Loops.{room}
 use Rattle.timing.specs.Makes.{Makes, Brings}
 use Rattle.measures.specs.declared.Measure.{Measure}
 use Rattle.measures.specs.Measures.{Measures, joined}
-use Rattle.bodies.specs.Bodies.{Summed, rest, Turned}
+use Rattle.noted.specs.Noted.{Grows}
+use Rattle.bodies.specs.Bodies.{Notes, Summed, rest, Turned}
 use Rattle.bodies.specs.declared.Turn.{Turn}
 use Rattle.bodies.proofs.Turning.{from-alike}
 use Rattle.bodies.proofs.Rowing.{counted-none, counted-then}
+use Rattle.bodies.proofs.Noting.{notes-none, notes-then}
 
 -- what the loop keeps
-pub record Reading (text : List ℕ) (e : Env) (own : Bool) (d : ℕ) (c cursor : Cursor) (ended seen : Bool) (x : Measure) (before row : List ℕ) : Type 0 where
+pub record Reading (text : List ℕ) (e : Env) (own : Bool) (d : ℕ) (c cursor : Cursor) (ended seen : Bool) (x : Measure) (before row : List ℕ)
+    (N : Body → Type 0) : Type 0 where
   pub front : Body
   pub leads : Brings text c (statements e d own) cursor (rest e own d ended seen front)
-  pub held : alive cursor ≡ true → Summed own before row x front
+  pub held : alive cursor ≡ true → Summed own before row x N front
 
 -- the loop goes on
 on-and-on : (x y : Bool) → (x && not y) ≡ true → (x ≡ true) × (y ≡ false)
@@ -44,19 +47,22 @@ starts e own d ts = statements-onward e d own ts ∙ unit (onward e own d (deepe
 
 module _ {text : List ℕ} {e : Env} {own : Bool} {d : ℕ} {c : Cursor} {before : List ℕ} where
   -- none so far
-  pub reading-none : {x : Measure} → Measures done x → Reading text e own d c c false false x before before
+  pub reading-none : {x : Measure} {tables : ℕ} {used : List ℕ} → Measures done x → Reading text e own d c c false false x before before (Notes tables e used used)
   reading-none m =
       record {
         front = done;
         leads = record { same = sym (from-alike text c _ _ (starts e own d)) };
-        held = λ live. record { measured = m; counted = counted-none };
+        held = λ live. record { measured = m; counted = counted-none; noted = notes-none };
       }
 
-  module _ {cursor : Cursor} {ended seen : Bool} {x : Measure} {row : List ℕ} (h : Reading text e own d c cursor ended seen x before row) where
+  module _ {cursor : Cursor} {ended seen : Bool} {x : Measure} {row : List ℕ} {tables : ℕ} {used₀ used : List ℕ}
+      (h : Reading text e own d c cursor ended seen x before row (Notes tables e used₀ used)) where
     -- one more
-    module _ {t : Turn} {row′ : List ℕ} (q : (alive cursor && not ended) ≡ true) (u : Turned text e own d cursor seen x row t row′) where
-      pub reading-more : Reading text e own d c (t .cursor) (t .ends) (t .seen) (t .measure) before row′
-      reading-more =
+    module _ {t : Turn} {row′ used′ : List ℕ} (q : (alive cursor && not ended) ≡ true)
+        (u : Turned text e own d cursor seen x row t row′ (Notes tables e used used′)) where
+      pub reading-more : Grows used₀ used → Grows used used′
+          → Reading text e own d c (t .cursor) (t .ends) (t .seen) (t .measure) before row′ (Notes tables e used₀ used′)
+      reading-more f g =
           let o = on-and-on (alive cursor) ended q in
           record {
             front = joined (h .front) (u .one);
@@ -70,6 +76,7 @@ module _ {text : List ℕ} {e : Env} {own : Bool} {d : ℕ} {c : Cursor} {before
             held = λ l. record {
               measured = u .measured l (h .front) (h .held (o .0) .measured);
               counted = counted-then (h .held (o .0) .counted) (u .counted l);
+              noted = notes-then f (h .front) (u .one) g (h .held (o .0) .noted) (u .noted l);
             };
           }
 
@@ -77,7 +84,7 @@ module _ {text : List ℕ} {e : Env} {own : Bool} {d : ℕ} {c : Cursor} {before
       reading-less = u .less (on-and-on (alive cursor) ended q .0)
 
     -- `}`, or a refusal
-    pub reading-all : (alive cursor && not ended) ≡ false → Makes text c (statements e d own) cursor (Summed own before row x)
+    pub reading-all : (alive cursor && not ended) ≡ false → Makes text c (statements e d own) cursor (Summed own before row x (Notes tables e used₀ used))
     unfolding rest
     reading-all q = record { it = h .front; goes = record { same = by (alive cursor) refl ended refl q ∙ h .leads .same }; held = h .held }
       where

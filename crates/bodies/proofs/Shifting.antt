@@ -20,6 +20,7 @@ use Rattle.assigns.specs.Given.{Gives}
 use Rattle.measures.specs.Measures.{joined}
 use Rattle.measures.specs.Uses.{Uses, Given}
 use Rattle.measures.proofs.Uses.{given-read}
+use Rattle.noted.specs.Noted.{Gives as Marked}
 use Rattle.bodies.specs.Bodies.{Held}
 
 not-not : (x y : Bool) → x ≡ not y → not x ≡ y
@@ -32,11 +33,11 @@ module _ {text : List ℕ} {c a b d r : Cursor} {ns : Names} {chars : List ℕ} 
   is-given : alive d ≡ true → Given (g .it) chars
   is-given live = given-read true all g (alive-before close live)
 
-  pub in-shift : {row row′ : List ℕ}
+  pub in-shift : {row row′ used : List ℕ}
       → (alive r ≡ true → (f : Body) → Given (g .it) chars → Uses f row → Uses (joined f (inner shifted (vec p (g .it) done) done)) row′)
-      → Makes text c (inShift ns) r (Held row row′)
+      → (alive r ≡ true → (xs : Assigns) → Given xs chars → Marked used xs) → Makes text c (inShift ns) r (Held row row′ used)
   unfolding inShift
-  in-shift counts =
+  in-shift counts notes =
       record {
         it = vec p (g .it) done;
         goes =
@@ -47,5 +48,13 @@ module _ {text : List ℕ} {c a b d r : Cursor} {ns : Names} {chars : List ℕ} 
             (recast (checked test refl refl)
             (λ live. ap (λ (x : Bool). refuseIf x badArgument (b .at)) (not-not has _ (marks (g .it) (is-given live)))))
             given)));
-        held = λ live. record { at = p; assigns = g .it; is = refl; counts = λ f. counts live f (is-given (alive-before (checked {text = text} test refl refl) live)) };
+        held = λ live.
+            (let on = alive-before (checked {text = text} test refl refl) live in
+            record {
+              at = p;
+              assigns = g .it;
+              is = refl;
+              counts = λ f. counts live f (is-given on);
+              gives = notes live (g .it) (is-given on);
+            });
       }

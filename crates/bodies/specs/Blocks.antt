@@ -8,6 +8,7 @@ use Rattle.meaning.specs.Statements.{Env}
 use Rattle.meaning.specs.Document.{oneMacro, oneProcedure}
 use Rattle.timing.specs.Makes.{Makes}
 use Rattle.words.specs.declared.Cursor.{Cursor}
+use Rattle.noted.specs.Known.{Knows}
 use Rattle.heads.specs.declared.Known.{Known}
 use Rattle.heads.specs.Known.{Describes}
 use Rattle.bodies.specs.declared.Blocks.{Blocks}
@@ -36,8 +37,13 @@ opening macros k = do
 abbrev pub blockOf : Bool → Env → Reader Env
 blockOf macros e = opening macros (until "}" (oneOf macros) e)
 
+-- the tables describe all that is declared, and all of it is noted if what e declares was
+pub record Declared (text places lists tplaces book rows : List ℕ) (known : Known) (N : Type 0) (used : List ℕ) (f : Env) : Type 0 where
+  pub describes : Describes text places lists tplaces book rows known f
+  pub knows : N → Knows (known .tables) used f
+
 -- what `step` reads is declared too: where nothing was refused, the tables describe all
-abbrev pub Declares : (text places lists tplaces book rows : List ℕ) → Known → Cursor → (Env → Reader Env) → (book′ rows′ : List ℕ) → Blocks → Type 0
-Declares text places lists tplaces book rows known c step book′ rows′ r =
+abbrev pub Declares : (text places lists tplaces book rows used : List ℕ) → Known → Cursor → (Env → Reader Env) → (book′ rows′ used′ : List ℕ) → Blocks → Type 0
+Declares text places lists tplaces book rows used known c step book′ rows′ used′ r =
     (e : Env) → Describes text places lists tplaces book rows known e
-    → Makes text c (step e) (r .cursor) (λ f. Describes text places lists tplaces book′ rows′ (r .known) f)
+    → Makes text c (step e) (r .cursor) (Declared text places lists tplaces book′ rows′ (r .known) (Knows (known .tables) used e) used′)

@@ -9,14 +9,16 @@ ghost use Rattle.meaning.specs.Reader.{Reader, aheadOf, option};
 ghost use Rattle.meaning.specs.Body.{Assigns, done, vec};
 ghost use Rattle.meaning.specs.Statements.{Env, Head, head as headDue, inShift as inShiftDue, statements as statementsDue};
 ghost use Rattle.meaning.specs.Document.{bodies as bodiesDue};
+ghost use Rattle.timing.specs.Marks.{tableSize};
 ghost use Rattle.timing.specs.Makes.{Makes, Brings};
 ghost use Rattle.words.specs.Cursor.{alive, stream};
 ghost use Rattle.signals.specs.Names.{namesOf};
 ghost use Rattle.assigns.specs.Given.{Ready};
 ghost use Rattle.measures.specs.Uses.{rowLength, Given};
 ghost use Rattle.measures.specs.Book.{bookLength, rowsLength};
+ghost use Rattle.noted.specs.Noted.{Grows};
 ghost use Rattle.heads.specs.Known.{Describes, Described};
-ghost use Rattle.bodies.specs.Bodies.{Counted, Summed, HeadIs, Held, went as wentOn, last as lastOf, Turned, Begun};
+ghost use Rattle.bodies.specs.Bodies.{Notes, Counted, Summed, HeadIs, Held, went as wentOn, last as lastOf, Turned, Begun};
 ghost use Rattle.bodies.specs.Blocks.{oneMore, oneOf as oneDue, opening, blockOf, wordOf, Declares};
 use heads::Known;
 use measures::Measure;
@@ -52,7 +54,7 @@ pub struct Blocks {
 
 // ---- statements
 
-// What a Shift holds: one V with `#`, and `}`. Its uses go to the row.
+// What a Shift holds: one V with `#`, and `}`. Its uses go to the row, and it is noted.
 fn in_shift<'a>(
     text: &'a [u8],
     c: Cursor,
@@ -60,9 +62,10 @@ fn in_shift<'a>(
     lists: &'a [u16],
     names: usize,
     row: &mut [u16],
+    used: &mut [u8],
 ) -> Cursor
-    requires { ⌜ Ready (now text) (now places) (now lists) names × (length (now row) ≡ rowLength) ⌝ }
-    ensures { λ r. ⌜ Makes (now (text .entry)) c (inShiftDue (namesOf (now (text .entry)) (now (places .entry)) (now (lists .entry)) names)) r (Held (now (row .entry)) (now (row .exit))) ⌝ }
+    requires { ⌜ Ready (now text) (now places) (now lists) names × (length (now row) ≡ rowLength) × (length (now used) ≡ tableSize) ⌝ }
+    ensures { λ r. ⌜ Makes (now (text .entry)) c (inShiftDue (namesOf (now (text .entry)) (now (places .entry)) (now (lists .entry)) names)) r (Held (now (row .entry)) (now (row .exit)) (now (used .exit))) × Grows (now (used .entry)) (now (used .exit)) ⌝ }
 {
     let mut given = [0; sets::MOST];
     let a = words::due(text, c, b"V");
@@ -73,6 +76,7 @@ fn in_shift<'a>(
         return r;
     }
     measures::mark_uses(&given, row);
+    noted::note(&given, used);
     r
 }
 
@@ -112,7 +116,7 @@ fn last(cursor: Cursor, measure: Measure) -> Turn
     }
 }
 
-// Behind a statement's head h, which gives these characters: what else is read of it, unless it is a Loop.
+// Behind a statement's head h, which gives these characters or has these arguments: what else is read of it, unless it is a Loop. What it assigns is noted.
 fn behind<'a>(
     text: &'a [u8],
     h: heads::Headed,
@@ -124,11 +128,13 @@ fn behind<'a>(
     seen: bool,
     before: Measure,
     given: &'a [u8],
+    args: &'a [usize],
     row: &mut [u16],
+    used: &mut [u8],
 ) -> Turn
-    requires { ⌜ Ready (now text) (now places) (now lists) names × (length (now row) ≡ rowLength) × (length (now given) ≡ signalsMost) × (length (now book) ≡ bookLength) ⌝ }
-    requires { ⌜ ((c : Cursor) × (m : Reader Head) × HeadIs (now text) (now book) (now given) c m h) ⌝ }
-    ensures { λ r. ⌜ ((e : Env) (d : ℕ) (c : Cursor) → e .names ≡ namesOf (now (text .entry)) (now (places .entry)) (now (lists .entry)) names → HeadIs (now (text .entry)) (now (book .entry)) (now (given .entry)) c (headDue e own d seen) h → Begun (now (text .entry)) e own d c seen before (now (row .entry)) r (now (row .exit))) ⌝ }
+    requires { ⌜ Ready (now text) (now places) (now lists) names × (length (now row) ≡ rowLength) × (length (now given) ≡ signalsMost) × (length (now book) ≡ bookLength) × (length (now args) ≡ signalsMost * 2) × (length (now used) ≡ tableSize) ⌝ }
+    requires { ⌜ ((c : Cursor) × (m : Reader Head) × (tables : ℕ) × HeadIs (now text) (now book) (now given) (now args) tables c m h) ⌝ }
+    ensures { λ r. ⌜ ((e : Env) (d : ℕ) (c : Cursor) (tables : ℕ) → e .names ≡ namesOf (now (text .entry)) (now (places .entry)) (now (lists .entry)) names → HeadIs (now (text .entry)) (now (book .entry)) (now (given .entry)) (now (args .entry)) tables c (headDue e own d seen) h → Begun (now (text .entry)) e own d c seen before (now (row .entry)) r (now (row .exit)) (Notes tables e (now (used .entry)) (now (used .exit)))) × Grows (now (used .entry)) (now (used .exit)) ⌝ }
 {
     let cursor = h.cursor;
     if cursor.no != 0 {
@@ -139,9 +145,13 @@ fn behind<'a>(
         heads::What::Ends => last(cursor, before),
         heads::What::Vector(p) => {
             count(own, given, row);
+            noted::note(given, used);
             went(cursor, measures::plus(before, measures::vector()), seen)
         }
-        heads::What::Assigns => went(cursor, measures::plus(before, measures::setting()), seen),
+        heads::What::Assigns => {
+            noted::note(given, used);
+            went(cursor, measures::plus(before, measures::setting()), seen)
+        }
         heads::What::Chooses(k) => went(cursor, measures::plus(before, measures::setting()), seen),
         heads::What::Loops(n) => Turn {
             cursor,
@@ -151,10 +161,11 @@ fn behind<'a>(
             turns: n,
         },
         heads::What::Shifts => {
-            let r = in_shift(text, cursor, places, lists, names, row);
+            let r = in_shift(text, cursor, places, lists, names, row, used);
             went(r, measures::plus(before, measures::shift()), true)
         }
         heads::What::Uses(i, t) => {
+            noted::note_args(text, given, args, used);
             let x = measures::used(t, measures::measure_at(book, i));
             went(cursor, measures::plus(before, x), seen)
         }
@@ -177,9 +188,10 @@ fn begin<'a>(
     before: Measure,
     row: &mut [u16],
     args: &mut [usize],
+    used: &mut [u8],
 ) -> Turn
-    requires { ⌜ Described (now text) (now places) (now lists) (now tplaces) (now book) (now rows) known × (d ≤ depthMost) × (length (now row) ≡ rowLength) × (length (now args) ≡ signalsMost * 2) ⌝ }
-    ensures { λ r. ⌜ ((e : Env) → Describes (now (text .entry)) (now (places .entry)) (now (lists .entry)) (now (tplaces .entry)) (now (book .entry)) (now (rows .entry)) known e → Begun (now (text .entry)) e own d c seen before (now (row .entry)) r (now (row .exit))) ⌝ }
+    requires { ⌜ Described (now text) (now places) (now lists) (now tplaces) (now book) (now rows) known × (d ≤ depthMost) × (length (now row) ≡ rowLength) × (length (now args) ≡ signalsMost * 2) × (length (now used) ≡ tableSize) ⌝ }
+    ensures { λ r. ⌜ ((e : Env) → Describes (now (text .entry)) (now (places .entry)) (now (lists .entry)) (now (tplaces .entry)) (now (book .entry)) (now (rows .entry)) known e → Begun (now (text .entry)) e own d c seen before (now (row .entry)) r (now (row .exit)) (Notes (known .tables) e (now (used .entry)) (now (used .exit)))) × Grows (now (used .entry)) (now (used .exit)) ⌝ }
 {
     let mut given = [0; sets::MOST];
     let h = heads::head(
@@ -209,7 +221,9 @@ fn begin<'a>(
         seen,
         before,
         &given,
+        args,
         row,
+        used,
     )
 }
 
@@ -229,9 +243,10 @@ fn statement<'a>(
     before: Measure,
     row: &mut [u16],
     args: &mut [usize],
+    used: &mut [u8],
 ) -> Turn
-    requires { ⌜ Described (now text) (now places) (now lists) (now tplaces) (now book) (now rows) known × (d ≤ depthMost) × (length (now row) ≡ rowLength) × (length (now args) ≡ signalsMost * 2) ⌝ }
-    ensures { λ r. ⌜ ((e : Env) → Describes (now (text .entry)) (now (places .entry)) (now (lists .entry)) (now (tplaces .entry)) (now (book .entry)) (now (rows .entry)) known e → Turned (now (text .entry)) e own d c seen before (now (row .entry)) r (now (row .exit))) ⌝ }
+    requires { ⌜ Described (now text) (now places) (now lists) (now tplaces) (now book) (now rows) known × (d ≤ depthMost) × (length (now row) ≡ rowLength) × (length (now args) ≡ signalsMost * 2) × (length (now used) ≡ tableSize) ⌝ }
+    ensures { λ r. ⌜ ((e : Env) → Describes (now (text .entry)) (now (places .entry)) (now (lists .entry)) (now (tplaces .entry)) (now (book .entry)) (now (rows .entry)) known e → Turned (now (text .entry)) e own d c seen before (now (row .entry)) r (now (row .exit)) (Notes (known .tables) e (now (used .entry)) (now (used .exit)))) × Grows (now (used .entry)) (now (used .exit)) ⌝ }
 {
     let t = begin(
         text,
@@ -248,6 +263,7 @@ fn statement<'a>(
         before,
         row,
         args,
+        used,
     );
     let n = t.turns;
     if n == 0 {
@@ -267,13 +283,15 @@ fn statement<'a>(
         d - 1,
         row,
         args,
+        used,
     );
     let inner = x.measure;
     let r = x.cursor;
     went(r, measures::plus(before, measures::looped(n, inner)), seen)
 }
 
-// Statements and their `}`, in which bodies may stand d levels deep. `own`: they are a macro's or procedure's own, and `row` counts their uses of `#`.
+// Statements and their `}`, in which bodies may stand d levels deep. `own`: they are a macro's or procedure's own, and `row` counts their uses of `#`. What
+// they assign is noted in `used`.
 pub fn statements<'a>(
     text: &'a [u8],
     c: Cursor,
@@ -287,9 +305,10 @@ pub fn statements<'a>(
     d: usize,
     row: &mut [u16],
     args: &mut [usize],
+    used: &mut [u8],
 ) -> Measured
-    requires { ⌜ Described (now text) (now places) (now lists) (now tplaces) (now book) (now rows) known × (d ≤ depthMost) × (length (now row) ≡ rowLength) × (length (now args) ≡ signalsMost * 2) ⌝ }
-    ensures { λ r. ⌜ (length (now (row .exit)) ≡ rowLength) × (length (now (args .exit)) ≡ signalsMost * 2) × ((e : Env) → Describes (now (text .entry)) (now (places .entry)) (now (lists .entry)) (now (tplaces .entry)) (now (book .entry)) (now (rows .entry)) known e → Makes (now (text .entry)) c (statementsDue e d own) (r .cursor) (Summed own (now (row .entry)) (now (row .exit)) (r .measure))) ⌝ }
+    requires { ⌜ Described (now text) (now places) (now lists) (now tplaces) (now book) (now rows) known × (d ≤ depthMost) × (length (now row) ≡ rowLength) × (length (now args) ≡ signalsMost * 2) × (length (now used) ≡ tableSize) ⌝ }
+    ensures { λ r. ⌜ (length (now (row .exit)) ≡ rowLength) × (length (now (args .exit)) ≡ signalsMost * 2) × ((e : Env) → Describes (now (text .entry)) (now (places .entry)) (now (lists .entry)) (now (tplaces .entry)) (now (book .entry)) (now (rows .entry)) known e → Makes (now (text .entry)) c (statementsDue e d own) (r .cursor) (Summed own (now (row .entry)) (now (row .exit)) (r .measure) (Notes (known .tables) e (now (used .entry)) (now (used .exit))))) × Grows (now (used .entry)) (now (used .exit)) ⌝ }
 {
     let mut cursor = c;
     let mut measure = measures::nothing();
@@ -311,6 +330,7 @@ pub fn statements<'a>(
             measure,
             row,
             args,
+            used,
         );
         cursor = t.cursor;
         measure = t.measure;
@@ -355,9 +375,10 @@ fn one_body<'a>(
     known: Known,
     macros: bool,
     args: &mut [usize],
+    used: &mut [u8],
 ) -> Blocks
-    requires { ⌜ Described (now text) (now places) (now lists) (now tplaces) (now book) (now rows) known × (length (now args) ≡ signalsMost * 2) ⌝ }
-    ensures { λ r. ⌜ Declares (now (text .entry)) (now (places .entry)) (now (lists .entry)) (now (tplaces .entry)) (now (book .entry)) (now (rows .entry)) known c (oneDue macros) (now (book .exit)) (now (rows .exit)) r ⌝ }
+    requires { ⌜ Described (now text) (now places) (now lists) (now tplaces) (now book) (now rows) known × (length (now args) ≡ signalsMost * 2) × (length (now used) ≡ tableSize) ⌝ }
+    ensures { λ r. ⌜ Declares (now (text .entry)) (now (places .entry)) (now (lists .entry)) (now (tplaces .entry)) (now (book .entry)) (now (rows .entry)) (now (used .entry)) known c (oneDue macros) (now (book .exit)) (now (rows .exit)) (now (used .exit)) r × Grows (now (used .entry)) (now (used .exit)) ⌝ }
 {
     let part = heads::part_of(known, macros);
     let first = part.first;
@@ -380,6 +401,7 @@ fn one_body<'a>(
         DEPTH,
         &mut row,
         args,
+        used,
     );
     let end = x.cursor;
     if end.no != 0 {
@@ -429,9 +451,10 @@ fn block<'a>(
     known: Known,
     macros: bool,
     args: &mut [usize],
+    used: &mut [u8],
 ) -> Blocks
-    requires { ⌜ Described (now text) (now places) (now lists) (now tplaces) (now book) (now rows) known × (length (now args) ≡ signalsMost * 2) ⌝ }
-    ensures { λ r. ⌜ Declares (now (text .entry)) (now (places .entry)) (now (lists .entry)) (now (tplaces .entry)) (now (book .entry)) (now (rows .entry)) known c (option (wordOf macros) (blockOf macros)) (now (book .exit)) (now (rows .exit)) r ⌝ }
+    requires { ⌜ Described (now text) (now places) (now lists) (now tplaces) (now book) (now rows) known × (length (now args) ≡ signalsMost * 2) × (length (now used) ≡ tableSize) ⌝ }
+    ensures { λ r. ⌜ Declares (now (text .entry)) (now (places .entry)) (now (lists .entry)) (now (tplaces .entry)) (now (book .entry)) (now (rows .entry)) (now (used .entry)) known c (option (wordOf macros) (blockOf macros)) (now (book .exit)) (now (rows .exit)) (now (used .exit)) r × Grows (now (used .entry)) (now (used .exit)) ⌝ }
 {
     if !begins(text, c, macros) {
         return Blocks { cursor: c, known };
@@ -450,6 +473,7 @@ fn block<'a>(
             all,
             macros,
             args,
+            used,
         );
         cursor = x.cursor;
         all = x.known;
@@ -471,9 +495,10 @@ pub fn bodies<'a>(
     book: &mut [usize],
     rows: &mut [u16],
     known: Known,
+    used: &mut [u8],
 ) -> Blocks
-    requires { ⌜ Described (now text) (now places) (now lists) (now tplaces) (now book) (now rows) known ⌝ }
-    ensures { λ r. ⌜ (length (now (book .exit)) ≡ bookLength) × (length (now (rows .exit)) ≡ rowsLength) × Declares (now (text .entry)) (now (places .entry)) (now (lists .entry)) (now (tplaces .entry)) (now (book .entry)) (now (rows .entry)) known c bodiesDue (now (book .exit)) (now (rows .exit)) r ⌝ }
+    requires { ⌜ Described (now text) (now places) (now lists) (now tplaces) (now book) (now rows) known × (length (now used) ≡ tableSize) ⌝ }
+    ensures { λ r. ⌜ (length (now (book .exit)) ≡ bookLength) × (length (now (rows .exit)) ≡ rowsLength) × Declares (now (text .entry)) (now (places .entry)) (now (lists .entry)) (now (tplaces .entry)) (now (book .entry)) (now (rows .entry)) (now (used .entry)) known c bodiesDue (now (book .exit)) (now (rows .exit)) (now (used .exit)) r × Grows (now (used .entry)) (now (used .exit)) ⌝ }
 {
     let mut args = [0usize; measures::ROW];
     let macros = begins(text, c, true);
@@ -488,6 +513,7 @@ pub fn bodies<'a>(
         known,
         macros,
         &mut args,
+        used,
     );
     let cursor = m.cursor;
     if cursor.no != 0 {
@@ -505,5 +531,6 @@ pub fn bodies<'a>(
         more,
         !macros,
         &mut args,
+        used,
     )
 }

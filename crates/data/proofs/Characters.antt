@@ -19,6 +19,7 @@ use Rattle.meaning.proofs.Takes.{Takes, Keeps}
 use Rattle.meaning.proofs.Taking.{takes-keeps, takes-any, takes-word, takes-bind, takes-closed, keeps-bind, keeps-give, keeps-if, keeps-within, keeps-oneOf}
 use Rattle.meaning.proofs.Gives.{Gives, gives-bind, gives-after, gives-give, gives-if, gives-closed}
 use Rattle.meaning.proofs.Choices.{gives-either, gives-taken, _also_}
+use Rattle.words.proofs.Words.{neither}
 
 -- ---- it takes a token
 
@@ -147,3 +148,7 @@ no-mark = without-data mark refl false (λ h. let z : _≡_ {A = ℕ} 0 1 = cc i
 pub no-zero : (m : Bool) → Gives (λ x. has 0 (x .0) ≡ false) (dataRead m)
 unfolding waveChar letter digit between
 no-zero m = without-data 0 refl m (λ h. refl)
+
+-- none is anything but a letter, a digit or `#`
+pub no-other : (b : ℕ) (m : Bool) → (waveChar b || eqb mark b) ≡ false → Gives (λ x. has b (x .0) ≡ false) (dataRead m)
+no-other b m h = let p = neither (waveChar b) (eqb mark b) h in without-data b (p .0) m (λ u. p .1)

@@ -18,7 +18,7 @@ use Rattle.words.specs.Cursor.{alive}
 use Rattle.sets.proofs.Tidy.{TidyBelow, bare, next}
 use Rattle.signals.specs.Names.{AllTidy}
 use Rattle.assigns.specs.Given.{Gives}
-use Rattle.assigns.proofs.Callers.{assigned-once}
+use Rattle.assigns.proofs.Callers.{assigned-once, all-written}
 use Rattle.measures.specs.Measures.{joined}
 use Rattle.measures.specs.Uses.{usesCap, rowLength, flag, rowAt, Uses, Given}
 use Rattle.measures.proofs.Counting.{differ}
@@ -98,7 +98,7 @@ module _ {b : Body} {row : List ℕ} (u : Uses b row) where
   unfolding outside shifting inShift
   uses-entered k t x c = uses-plain (inner (entered k t x) c done) refl refl
 
--- ---- for callers: what was read has no signal twice, and none above the bound
+-- ---- for callers: what was read has no signal twice, none above the bound, and no other characters than those of DATA
 
 tidy-below : {most : ℕ} {l : List ℕ} → TidyBelow most l → (s : ℕ) → has s l ≡ true → s < most
 unfolding has
@@ -111,6 +111,6 @@ tidy-below {most} (next {x} {l} b e t) s h = by (eqb x s) refl h (tidy-below t s
 
 pub given-read : {text : List ℕ} {c r : Cursor} {ns : Names} (may : Bool) {given : List ℕ} → AllTidy signalsMost ns
     → (g : Gives text c (assigns ns may) r given) → alive r ≡ true → Given (g .it) given
-given-read may all g live =
+given-read {ns = ns} may all g live =
     let t = assigned-once may all g live in
-    record { gave = g .gave live; once = t .1; below = tidy-below (t .0) }
+    record { gave = g .gave live; once = t .1; below = tidy-below (t .0); written = all-written ns may g live }

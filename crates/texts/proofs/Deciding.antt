@@ -24,7 +24,7 @@ use Rattle.measures.proofs.Within.{size-within, cycles-within}
 use Rattle.arguments.proofs.Lists.{both}
 use Rattle.bursts.proofs.Entries.{listed-length}
 use Rattle.texts.specs.Texts.{Sound, sound, countsOf}
-use Rattle.texts.specs.Tables.{Tabled, Reads, Found, Decides}
+use Rattle.texts.specs.Tables.{Tabled, Reads, NotesRead, Found, Decides, NotesSound}
 use Rattle.texts.specs.Run.{Tells, soundOf, ReadAs}
 use Rattle.texts.specs.declared.Parts.{Parts}
 use Rattle.texts.specs.declared.Total.{Total}
@@ -79,6 +79,10 @@ module _ {text places lists tplaces waves book rows list : List ℕ} {w : Watch}
             let k = held .2 (read-sound (x .1)) in
             record { it = soundOf (held .0) (x .0); is = x .1; tabled = k .0; measured = x .2; watched = k .1 });
       }
+
+  -- what was noted of it is noted of what is left
+  pub notes-sound : {used : List ℕ} {t : Total} → NotesRead text used r → NotesSound text used (record { no = t .no; place = t .place; parts = r; total = t .measure })
+  notes-sound n = record { noted = λ x e. (let k = sound-runs text e in n .noted (read-sound e) (x .read) (k .rest) (k .read)) }
 
 -- ---- the numbers that are told
 

@@ -33,7 +33,10 @@ use Rattle.measures.specs.Book.{firstProcedure, bodies, burst, firstPattern, en
 use Rattle.measures.proofs.Book.{listed-map, entry-new, used-beside, entries-more, part-listed}
 use Rattle.heads.specs.declared.Known.{Known}
 use Rattle.heads.specs.Known.{Describes}
-use Rattle.bodies.specs.Bodies.{Summed}
+use Rattle.noted.specs.Noted.{Grows}
+use Rattle.noted.specs.Known.{AllNoted}
+use Rattle.bodies.specs.Bodies.{Notes, Summed}
+use Rattle.bodies.proofs.Noting.{knows-grow, all-grow, all-more}
 use Rattle.bodies.proofs.Callers.{declared-made}
 use Rattle.texts.specs.Patterns.{burstAs, Patterned}
 
@@ -75,14 +78,15 @@ module _ {text places lists tplaces book book′ rows : List ℕ} {known : Known
 
   -- the burst was kept: there is no pattern yet
   pub burst-kept : i ≡ burst → start ≡ 0 → Measures done x → Describes text places lists tplaces book rows known e
-      → Patterned text places lists tplaces book′ rows known 0 e (ahead text c) []
-  unfolding Listed
+      → {used : List ℕ} → Patterned text places lists tplaces book′ rows known 0 e (ahead text c) used used []
+  unfolding Listed AllNoted
   burst-kept h z m s =
       record {
         describes = describes-beside (omega arith) s;
         entries = (rw (← h) (entry-new k text (record { body = done; from = toks text 0 }) (rw z) m), tt);
         counted = refl;
         few = omega arith;
+        noted = λ k. (k, tt);
       }
 
 -- ---- a pattern
@@ -93,8 +97,8 @@ pub pattern-room : {A B C : Type 0} {text : List ℕ} {k : Reader A} {l : Reader
 pattern-room count few name opening body live =
     leb-false patternsMost count (passed few refl (alive-before name (alive-before opening (alive-before body live))))
 
-module _ {text places lists tplaces book rows : List ℕ} {known : Known} {count : ℕ} {e : Env} {b : Tok} {ps : Decls}
-    (s : Patterned text places lists tplaces book rows known count e b ps) where
+module _ {text places lists tplaces book rows : List ℕ} {known : Known} {count : ℕ} {e : Env} {b : Tok} {used₀ used : List ℕ} {ps : Decls}
+    (s : Patterned text places lists tplaces book rows known count e b used₀ used ps) where
   -- the part of the book with the names of the burst and the patterns
   names-besides : firsts (besides b ps) ≡ firsts (names text (drop (burst * 2) book) (count + 1))
   unfolding besides firsts
@@ -105,14 +109,14 @@ module _ {text places lists tplaces book rows : List ℕ} {known : Known} {count
   nothing : Decl
   nothing = record { body = done; from = stop 0 0 }
 
-  module _ {part row row′ : List ℕ} {c a o d f r : Cursor} {q : ℕ} {x : Measure} (part-is : part ≡ drop (burst * 2) book)
+  module _ {part row row′ used′ : List ℕ} {c a o d f r : Cursor} {q : ℕ} {x : Measure} (part-is : part ≡ drop (burst * 2) book)
       (word : Goes text c (due "Pattern") a (c .at)) (few : Checked a (leb patternsMost count) tooMany (c .at) o)
       (name : Goes text o (newName (names text part (count + 1))) d (ahead text o)) (opening : Goes text d (due "{") f q)
-      (body : Makes text f (statements e depthMost false) r (Summed false row row′ x)) where
+      (body : Makes text f (statements e depthMost false) r (Summed false row row′ x (Notes (known .tables) e used used′))) where
     new : Goes text o (newName (besides b ps)) d (ahead text o)
     new = new-by-number text (drop (burst * 2) book) nothing (count + 1) (besides b ps) names-besides (rw (← part-is) name)
 
-    body-made : Makes text f (declared e false) r (λ y. (y .from ≡ toks text (d .end)) × Summed false row row′ x (y .body))
+    body-made : Makes text f (declared e false) r (λ y. (y .from ≡ toks text (d .end)) × Summed false row row′ x (Notes (known .tables) e used used′) (y .body))
     body-made = declared-made e false opening body
 
     read-all : Goes text c (pattern e b ps) r (ps ++ (ahead text o, body-made .it) ∷ [])
@@ -125,9 +129,9 @@ module _ {text places lists tplaces book rows : List ℕ} {known : Known} {count
     pub pattern-refused : {P : Decls → Type 0} → (alive r ≡ true → ⊥) → Makes text c (pattern e b ps) r P
     pattern-refused off = made read-all (λ live. absurd (off live))
 
-    pub pattern-kept : {book′ : List ℕ} → alive r ≡ true → Kept book (firstPattern + count) o (d .end) x book′
-        → Makes text c (pattern e b ps) r (Patterned text places lists tplaces book′ rows known (count + 1) e b)
-    pattern-kept live k =
+    pub pattern-kept : {book′ : List ℕ} → alive r ≡ true → Kept book (firstPattern + count) o (d .end) x book′ → Grows used used′
+        → Makes text c (pattern e b ps) r (Patterned text places lists tplaces book′ rows known (count + 1) e b used₀ used′)
+    pattern-kept live k grows =
         let h = body-made .held live in
         let room = pattern-room count few name opening (body .goes) live in
         made read-all (λ l. record {
@@ -135,4 +139,7 @@ module _ {text places lists tplaces book rows : List ℕ} {known : Known} {count
           entries = entries-more k text burst (burstAs text b ∷ ps) (omega (arith, s .counted)) (omega arith) (body-made .it) (h .0) (h .1 .measured) (s .entries);
           counted = length-append ps ((ahead text o, body-made .it) ∷ []) ∙ ap (λ (n : ℕ). n + 1) (s .counted);
           few = omega arith;
+          noted = λ n.
+              let was = s .noted n in
+              (knows-grow grows (was .0), all-more (known .tables) used′ ps (ahead text o, body-made .it) (all-grow grows (known .tables) ps (was .1)) (h .1 .noted .noted (was .0)));
         })

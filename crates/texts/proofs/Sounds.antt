@@ -52,31 +52,34 @@ module _ (text : List ℕ) where
         unfolding sized
         sound-given e = sound-run ∙ rw (e, sized)
 
--- what is left: the listed patterns are the run, and it fits
-pub record Runs (x : Sound) : Type 0 where
+-- what is left: the text was read, its listed patterns are the run, and it fits
+pub record Runs (text : List ℕ) (x : Sound) : Type 0 where
+  pub rest : Toks
+  pub read : document (toks text 0) ≡ ok (x .read) rest
   pub run-is : runOf (x .read .patterns) (x .read .listed) ≡ given (x .run)
   pub fits : fitting (x .run) ≡ true
 
-pub sound-runs : (text : List ℕ) {x : Sound} → sound text ≡ given x → Runs x
+pub sound-runs : (text : List ℕ) {x : Sound} → sound text ≡ given x → Runs text x
 unfolding sound runnable sized answering
 sound-runs text {x} e = by-fault (faultOf text) e
   where
-    by-fit : (d : Read) (b : Body) → runOf (d .patterns) (d .listed) ≡ given b → (t : Bool) → fitting b ≡ t
-        → _≡_ {A = Answer Sound} (elim t [ false ↦ refused tooLarge 0 | true ↦ given (soundOf d b) ]) (given x) → Runs x
-    by-fit d b r true f e = let q : soundOf d b ≡ x = cc in subst Runs q (record { run-is = r; fits = f })
-    by-fit d b r false f e = let z : _≡_ {A = ℕ} 0 1 = cc in absurd (omega arith)
+    by-fit : (d : Read) (us : Toks) → document (toks text 0) ≡ ok d us → (b : Body) → runOf (d .patterns) (d .listed) ≡ given b → (t : Bool) → fitting b ≡ t
+        → _≡_ {A = Answer Sound} (elim t [ false ↦ refused tooLarge 0 | true ↦ given (soundOf d b) ]) (given x) → Runs text x
+    by-fit d us k b r true f e = let q : soundOf d b ≡ x = cc in subst (Runs text) q (record { rest = us; read = k; run-is = r; fits = f })
+    by-fit d us k b r false f e = let z : _≡_ {A = ℕ} 0 1 = cc in absurd (omega arith)
 
-    by-run : (d : Read) (a : Answer Body) → runOf (d .patterns) (d .listed) ≡ a → answering a (sized d) ≡ given x → Runs x
-    by-run d (given b) r e = by-fit d b r (fitting b) refl e
-    by-run d (refused n p) r e = let z : _≡_ {A = ℕ} 0 1 = cc in absurd (omega arith)
+    by-run : (d : Read) (us : Toks) → document (toks text 0) ≡ ok d us → (a : Answer Body) → runOf (d .patterns) (d .listed) ≡ a → answering a (sized d) ≡ given x
+        → Runs text x
+    by-run d us k (given b) r e = by-fit d us k b r (fitting b) refl e
+    by-run d us k (refused n p) r e = let z : _≡_ {A = ℕ} 0 1 = cc in absurd (omega arith)
 
-    by-read : (r : Res Read) → runnable r ≡ given x → Runs x
-    by-read (ok d us) e = by-run d (runOf (d .patterns) (d .listed)) refl e
-    by-read (refuse n p) e = let z : _≡_ {A = ℕ} 0 1 = cc in absurd (omega arith)
+    by-read : (r : Res Read) → document (toks text 0) ≡ r → runnable r ≡ given x → Runs text x
+    by-read (ok d us) k e = by-run d us k (runOf (d .patterns) (d .listed)) refl e
+    by-read (refuse n p) k e = let z : _≡_ {A = ℕ} 0 1 = cc in absurd (omega arith)
 
     by-fault : (o : Option (ℕ × ℕ))
-        → _≡_ {A = Answer Sound} (elim o [ some f ↦ refused (f .0) (f .1) | none ↦ runnable (document (toks text 0)) ]) (given x) → Runs x
-    by-fault none e = by-read (document (toks text 0)) e
+        → _≡_ {A = Answer Sound} (elim o [ some f ↦ refused (f .0) (f .1) | none ↦ runnable (document (toks text 0)) ]) (given x) → Runs text x
+    by-fault none e = by-read (document (toks text 0)) refl e
     by-fault (some f) e = let z : _≡_ {A = ℕ} 0 1 = cc in absurd (omega arith)
 
 -- ---- as the code tells it

@@ -8,7 +8,7 @@ use lib.ListN.{length}
 use borrow.Author.Tests.{eq-eqb, ne-eqb}
 use Rattle.tokens.specs.Tokens.{toks}
 use Rattle.meaning.specs.Bounds.{tablesMost}
-use Rattle.meaning.specs.Reader.{give}
+use Rattle.meaning.specs.Reader.{ok, give}
 use Rattle.meaning.specs.Signals.{Names}
 use Rattle.meaning.specs.Document.{bodies, Read, document}
 use Rattle.meaning.specs.Meaning.{firsts, tableAt}
@@ -28,13 +28,19 @@ use Rattle.declared.specs.Declarations.{declarations, Declares}
 use Rattle.arguments.proofs.Lists.{differ}
 use Rattle.measures.specs.Book.{bookLength, rowsLength, Listed}
 use Rattle.bursts.proofs.Entries.{listed-length}
+use Rattle.noted.specs.Known.{AllNoted, Knows}
 use Rattle.heads.specs.declared.Known.{Known}
 use Rattle.heads.specs.Known.{Describes}
+use Rattle.bodies.specs.Blocks.{Declared}
 use Rattle.texts.specs.Patterns.{ending, Ends}
-use Rattle.texts.specs.Tables.{stoppedAt, Tabled, Reads}
+use Rattle.texts.specs.Tables.{stoppedAt, Tabled, Reads, NotesRead}
 use Rattle.texts.specs.declared.Parts.{Parts}
 use Rattle.texts.specs.declared.Ended.{Ended}
 use Rattle.texts.proofs.Blocks.{blocks, document-blocks, parts-of, Signals, declared-signals}
+
+-- reading it on from where it was read to
+whole-from : {text : List ℕ} {c r : Cursor} {d : Read} → Stands text 0 c → Goes text c blocks r d → from text r (give d) ≡ document (toks text 0)
+whole-from {text} {c} s g = g .same ∙ from-on text c blocks (eq-eqb (c .no) 0 (s .on)) ∙ ap blocks (s .there) ∙ document-blocks (toks text 0)
 
 -- a text that was read from its first token on: refused, or held
 pub reads-from : {text places lists tplaces waves book rows list : List ℕ} {w : Watch} {c : Cursor} {r : Parts} {d : Read} → Stands text 0 c
@@ -43,13 +49,29 @@ pub reads-from : {text places lists tplaces waves book rows list : List ℕ} {w 
     × Watched text w (r .found) (r .place) (tableAt (d .tables) (w .table)))
     → Reads text w places lists tplaces waves book rows list r
 unfolding give
-reads-from {text} {c = c} {r = r} {d = d} s g h =
-    let whole : from text (r .cursor) (give d) ≡ document (toks text 0) =
-    g .same ∙ from-on text c blocks (eq-eqb (c .no) 0 (s .on)) ∙ ap blocks (s .there) ∙ document-blocks (toks text 0) in
+reads-from {text} {r = r} {d = d} s g h =
+    let whole = whole-from s g in
     record {
       refuses = λ z. sym whole ∙ from-stop text (r .cursor) (give d) (ne-eqb (r .cursor .no) 0 z);
       reads = λ z. let on = eq-eqb (r .cursor .no) 0 z in (d, sym whole ∙ from-on text (r .cursor) (give d) on, h on .0, h on .1);
     }
+
+-- and what was held of it is so of whatever was read
+notes-from : {text used : List ℕ} {c : Cursor} {r : Parts} {d : Read} → Stands text 0 c → Goes text c blocks (r .cursor) d
+    → (alive (r .cursor) ≡ true → AllNoted (r .known .tables) used (d .patterns)) → NotesRead text used r
+unfolding give
+notes-from {text} {used} {r = r} {d = d} s g h =
+    record {
+      noted = λ z x us e. (
+          let on = eq-eqb (r .cursor .no) 0 z in
+          let both : ok d (stream text (r .cursor)) ≡ ok x us = sym (from-on text (r .cursor) (give d) on) ∙ whole-from s g ∙ e in
+          let same : d ≡ x = cc in
+          subst (λ (y : Read). AllNoted (r .known .tables) used (y .patterns)) same (h on));
+    }
+
+-- nothing was
+pub notes-stopped : {text used : List ℕ} {b : Cursor} {r : Parts} {k : Known} → r ≡ stoppedAt b k → alive b ≡ false → NotesRead text used r
+notes-stopped {b = b} e off = rw e (record { noted = λ z d us q. absurd (differ (sym (eq-eqb (b .no) 0 z) ∙ off)) })
 
 -- one that was not
 nothing : Read
@@ -102,52 +124,63 @@ module _ {text places lists tplaces waves : List ℕ} {c a : Cursor} {signals na
           procs-are = tt;
         }
 
-    module _ {book rows : List ℕ} {b : Cursor} {known : Known}
-        (f : Makes text a (bodies (firstEnv ns (d .it))) b (λ e. Describes text places lists tplaces book rows known e)) where
-      -- among the bodies
-      pub bodies-stopped : {places′ lists′ tplaces′ waves′ book′ rows′ list : List ℕ} {r : Parts} {k : Known} → r ≡ stoppedAt b k → alive b ≡ false
-          → Reads text w places′ lists′ tplaces′ waves′ book′ rows′ list r
-      unfolding blocks
-      bodies-stopped e off = refused-from s (then _ (d .goes) (then _ (f .goes) (stays off))) e off
+    module _ {book rows used₀ used : List ℕ} {b : Cursor} {known : Known}
+        (f : Makes text a (bodies (firstEnv ns (d .it))) b (Declared text places lists tplaces book rows known (Knows tables used₀ (firstEnv ns (d .it))) used))
+      where
+        -- among the bodies
+        pub bodies-stopped : {places′ lists′ tplaces′ waves′ book′ rows′ list : List ℕ} {r : Parts} {k : Known} → r ≡ stoppedAt b k → alive b ≡ false
+            → Reads text w places′ lists′ tplaces′ waves′ book′ rows′ list r
+        unfolding blocks
+        bodies-stopped e off = refused-from s (then _ (d .goes) (then _ (f .goes) (stays off))) e off
 
-      -- names and tables are those that were declared
-      module _ (live : alive b ≡ true) where
-        stay : (f .it .names ≡ ns) × (f .it .tables ≡ d .it)
-        stay = bodies-stay (firstEnv ns (d .it)) _ .all _ _ (read (f .goes) live .gave)
+        -- names and tables are those that were declared
+        module _ (live : alive b ≡ true) where
+          stay : (f .it .names ≡ ns) × (f .it .tables ≡ d .it)
+          stay = bodies-stay (firstEnv ns (d .it)) _ .all _ _ (read (f .goes) live .gave)
 
-        tables-same : known .tables ≡ tables
-        tables-same =
-            sym (listed-length text tplaces 0 (known .tables))
-            ∙ ap length (sym (f .held live .tables-are) ∙ ap firsts (stay .1) ∙ d .held on .named)
-            ∙ listed-length text tplaces 0 tables
+          tables-same : known .tables ≡ tables
+          tables-same =
+              sym (listed-length text tplaces 0 (known .tables))
+              ∙ ap length (sym (f .held live .describes .tables-are) ∙ ap firsts (stay .1) ∙ d .held on .named)
+              ∙ listed-length text tplaces 0 tables
 
-      pub reads-all : {book′ rows′ list : List ℕ} {n : Ended} → length waves ≡ tablesMost * tableSize
-          → Makes text b (ending (f .it)) (n .cursor) (Ends text places lists tplaces book′ rows′ list known n (f .it))
-          → Reads text w places lists tplaces waves book′ rows′ list
-          (record { cursor = n .cursor; signals = signals; known = known; listed = n .listed; patterns = n .patterns; found = found; place = place })
-      unfolding blocks parts-of Listed
-      reads-all {n = n} long g =
-          reads-from s (then _ (d .goes) (then _ (f .goes) (then _ (g .goes) given)))
-          (λ end.
-          let live = alive-before (g .goes) end in
-          let e = g .held end in
-          let k = known-signals .declared in
-          let m = names-length text places lists signals in (
-            record {
-              rest = stream text (n .cursor);
-              parts = parts-of (ap declarations (sym (s .there)) ∙ read (d .goes) on .gave) (read (f .goes) live .gave) (read (g .goes) end .gave);
-              describes = e .patterned .describes;
-              held = rw (tables-same live) (d .held on);
-              waves-long = long;
-              signals-are = refl;
-              few-signals = omega (arith, k .signals .few);
-              some-signal = omega (arith, known-signals .some);
-              tidy = subst (AllTidy signals) (sym (stay live .0)) (subst (λ (i : ℕ). AllTidy i ns) m (k .names .tidy));
-              listed-are = e .listed-are;
-              few-listed = e .few-listed;
-              patterns-are = e .patterned .entries .1;
-              patterns-counted = e .patterned .counted;
-              few-patterns = e .patterned .few;
-            },
-            d .watched on,
-          ))
+        pub reads-all : {book′ rows′ list used′ : List ℕ} {n : Ended} → length waves ≡ tablesMost * tableSize
+            → Makes text b (ending (f .it)) (n .cursor) (Ends text places lists tplaces book′ rows′ list known n (f .it) used used′)
+            → Reads text w places lists tplaces waves book′ rows′ list
+            (record { cursor = n .cursor; signals = signals; known = known; listed = n .listed; patterns = n .patterns; found = found; place = place })
+        unfolding blocks parts-of Listed
+        reads-all {n = n} long g =
+            reads-from s (then _ (d .goes) (then _ (f .goes) (then _ (g .goes) given)))
+            (λ end.
+            let live = alive-before (g .goes) end in
+            let e = g .held end in
+            let k = known-signals .declared in
+            let m = names-length text places lists signals in (
+              record {
+                rest = stream text (n .cursor);
+                parts = parts-of (ap declarations (sym (s .there)) ∙ read (d .goes) on .gave) (read (f .goes) live .gave) (read (g .goes) end .gave);
+                describes = e .patterned .describes;
+                held = rw (tables-same live) (d .held on);
+                waves-long = long;
+                signals-are = refl;
+                few-signals = omega (arith, k .signals .few);
+                some-signal = omega (arith, known-signals .some);
+                tidy = subst (AllTidy signals) (sym (stay live .0)) (subst (λ (i : ℕ). AllTidy i ns) m (k .names .tidy));
+                listed-are = e .listed-are;
+                few-listed = e .few-listed;
+                patterns-are = e .patterned .entries .1;
+                patterns-counted = e .patterned .counted;
+                few-patterns = e .patterned .few;
+              },
+              d .watched on,
+            ))
+
+        -- and all that it assigns is noted: no body is known before the first
+        pub notes-all : {book′ rows′ list used′ : List ℕ} {n : Ended} {found : Bool} {place : ℕ}
+            → Makes text b (ending (f .it)) (n .cursor) (Ends text places lists tplaces book′ rows′ list known n (f .it) used used′)
+            → NotesRead text used′
+            (record { cursor = n .cursor; signals = signals; known = known; listed = n .listed; patterns = n .patterns; found = found; place = place })
+        unfolding blocks AllNoted
+        notes-all g =
+            notes-from s (then _ (d .goes) (then _ (f .goes) (then _ (g .goes) given)))
+            (λ end. g .held end .patterned .noted (f .held (alive-before (g .goes) end) .knows (record { macros = tt; procs = tt })) .1)

@@ -19,6 +19,7 @@ use Rattle.timing.specs.Watch.{Watched}
 use Rattle.timing.specs.declared.Watch.{Watch}
 use Rattle.measures.specs.Measures.{Measures}
 use Rattle.measures.specs.Book.{firstPattern, Entry, Listed}
+use Rattle.noted.specs.Known.{AllNoted}
 use Rattle.heads.specs.declared.Known.{Known}
 use Rattle.heads.specs.Known.{Describes}
 use Rattle.bursts.specs.Listed.{listedIn}
@@ -57,6 +58,10 @@ pub record Reads (text : List ℕ) (w : Watch) (places lists tplaces waves book 
       × Tabled text places lists tplaces waves book rows list r d
       × Watched text w (r .found) (r .place) (tableAt (d .tables) (w .table))
 
+-- beside it: all that the patterns of a text assign is noted
+pub record NotesRead (text used : List ℕ) (r : Parts) : Type 0 where
+  pub noted : r .cursor .no ≡ 0 → (d : Read) (us : Toks) → document (toks text 0) ≡ ok d us → AllNoted (r .known .tables) used (d .patterns)
+
 -- a text that 1 to 16 leave, with the tables that hold it and the measure of its run
 pub record Found (text : List ℕ) (w : Watch) (places lists tplaces waves book rows list : List ℕ) (r : Verdict) : Type 0 where
   pub it : Sound
@@ -69,3 +74,7 @@ pub record Found (text : List ℕ) (w : Watch) (places lists tplaces waves book 
 pub record Decides (text : List ℕ) (w : Watch) (places lists tplaces waves book rows list : List ℕ) (r : Verdict) : Type 0 where
   pub refuses : (r .no ≡ 0 → ⊥) → sound text ≡ refused (r .no) (r .place)
   pub finds : r .no ≡ 0 → Found text w places lists tplaces waves book rows list r
+
+-- beside it: all that the patterns of a text that 1 to 16 leave assign is noted
+pub record NotesSound (text used : List ℕ) (r : Verdict) : Type 0 where
+  pub noted : (x : Sound) → sound text ≡ given x → AllNoted (r .parts .known .tables) used (x .read .patterns)

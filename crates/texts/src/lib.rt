@@ -1,7 +1,7 @@
 // A whole text: all its blocks in order, read into tables that the caller lends; and what refuses it before it is played, 1 to 16.
 ghost use mathlib.Core.Path.{_≡_};
-ghost use mathlib.Core.List.{[]};
-ghost use Prim.Native.Nat.{_+_, _*_, _≤_};
+ghost use mathlib.Core.List.{List, []};
+ghost use Prim.Native.Nat.{ℕ, _+_, _*_, _≤_};
 ghost use lib.ListN.{length};
 ghost use Rattle.tokens.specs.Tokens.{Tok, toks};
 ghost use Rattle.tokens.specs.Refusals.{textMost};
@@ -11,15 +11,17 @@ ghost use Rattle.meaning.specs.Statements.{Decls, Env};
 ghost use Rattle.meaning.specs.Document.{Read, document as documentDue, patterns as patternsDue, pattern as patternDue};
 ghost use Rattle.meaning.specs.Meaning.{given, answering, runOf};
 ghost use Rattle.words.specs.Cursor.{stopNo};
+ghost use Rattle.timing.specs.Marks.{tableSize};
 ghost use Rattle.timing.specs.Makes.{Makes};
 ghost use Rattle.declared.specs.Declarations.{Blank};
 ghost use Rattle.measures.specs.Uses.{rowLength};
 ghost use Rattle.measures.specs.Book.{bookLength, rowsLength, firstPattern, Entry, Listed};
+ghost use Rattle.noted.specs.Noted.{Grows};
 ghost use Rattle.heads.specs.Known.{Describes, Described};
 ghost use Rattle.bursts.specs.Listed.{listedIn, listLength};
 ghost use Rattle.texts.specs.Texts.{sound, countsOf};
 ghost use Rattle.texts.specs.Patterns.{Patterned, Begun, ending as endingDue, Ends};
-ghost use Rattle.texts.specs.Tables.{stoppedAt, Reads, Decides};
+ghost use Rattle.texts.specs.Tables.{stoppedAt, Reads, NotesRead, Decides, NotesSound};
 ghost use Rattle.texts.specs.Run.{Refuses, Tells, soundOf, Recorded, ReadAs};
 ghost use Rattle.texts.specs.Told.{decidedOf, Packs};
 use heads::Known;
@@ -104,9 +106,10 @@ fn pattern<'a>(
     count: usize,
     row: &mut [u16],
     args: &mut [usize],
+    used: &mut [u8],
 ) -> Cursor
-    requires { ⌜ Described (now text) (now places) (now lists) (now tplaces) (now book) (now rows) known × (count ≤ patternsMost) × (length (now row) ≡ rowLength) × (length (now args) ≡ signalsMost * 2) ⌝ }
-    ensures { λ r. ⌜ (length (now (row .exit)) ≡ rowLength) × (length (now (args .exit)) ≡ signalsMost * 2) × ((e : Env) (b : Tok) (ps : Decls) → Patterned (now (text .entry)) (now (places .entry)) (now (lists .entry)) (now (tplaces .entry)) (now (book .entry)) (now (rows .entry)) known count e b ps → Makes (now (text .entry)) c (patternDue e b ps) r (Patterned (now (text .entry)) (now (places .entry)) (now (lists .entry)) (now (tplaces .entry)) (now (book .exit)) (now (rows .entry)) known (count + 1) e b)) ⌝ }
+    requires { ⌜ Described (now text) (now places) (now lists) (now tplaces) (now book) (now rows) known × (count ≤ patternsMost) × (length (now row) ≡ rowLength) × (length (now args) ≡ signalsMost * 2) × (length (now used) ≡ tableSize) ⌝ }
+    ensures { λ r. ⌜ (length (now (row .exit)) ≡ rowLength) × (length (now (args .exit)) ≡ signalsMost * 2) × ((used₀ : List ℕ) (e : Env) (b : Tok) (ps : Decls) → Patterned (now (text .entry)) (now (places .entry)) (now (lists .entry)) (now (tplaces .entry)) (now (book .entry)) (now (rows .entry)) known count e b used₀ (now (used .entry)) ps → Makes (now (text .entry)) c (patternDue e b ps) r (Patterned (now (text .entry)) (now (places .entry)) (now (lists .entry)) (now (tplaces .entry)) (now (book .exit)) (now (rows .entry)) known (count + 1) e b used₀ (now (used .exit)))) × Grows (now (used .entry)) (now (used .exit)) ⌝ }
 {
     let a = words::due(text, c, b"Pattern");
     let b = words::refuse_if(a, PATTERNS <= count, TOO_MANY, c.at);
@@ -125,6 +128,7 @@ fn pattern<'a>(
         DEPTH,
         row,
         args,
+        used,
     );
     let r = x.cursor;
     if r.no != 0 {
@@ -145,9 +149,10 @@ fn patterns<'a>(
     book: &mut [usize],
     rows: &'a [u16],
     known: Known,
+    used: &mut [u8],
 ) -> Counted
-    requires { ⌜ Begun (now text) (now places) (now lists) (now tplaces) (now book) (now rows) known ⌝ }
-    ensures { λ r. ⌜ ((e : Env) (b : Tok) → Patterned (now (text .entry)) (now (places .entry)) (now (lists .entry)) (now (tplaces .entry)) (now (book .entry)) (now (rows .entry)) known 0 e b [] → Makes (now (text .entry)) c (patternsDue e b) (r .cursor) (Patterned (now (text .entry)) (now (places .entry)) (now (lists .entry)) (now (tplaces .entry)) (now (book .exit)) (now (rows .entry)) known (r .count) e b)) ⌝ }
+    requires { ⌜ Begun (now text) (now places) (now lists) (now tplaces) (now book) (now rows) known (now used) × (length (now used) ≡ tableSize) ⌝ }
+    ensures { λ r. ⌜ ((e : Env) (b : Tok) → Patterned (now (text .entry)) (now (places .entry)) (now (lists .entry)) (now (tplaces .entry)) (now (book .entry)) (now (rows .entry)) known 0 e b (now (used .entry)) (now (used .entry)) [] → Makes (now (text .entry)) c (patternsDue e b) (r .cursor) (Patterned (now (text .entry)) (now (places .entry)) (now (lists .entry)) (now (tplaces .entry)) (now (book .exit)) (now (rows .entry)) known (r .count) e b (now (used .entry)) (now (used .exit)))) × Grows (now (used .entry)) (now (used .exit)) ⌝ }
 {
     let mut row = [0u16; measures::ROW];
     let mut args = [0usize; measures::ROW];
@@ -163,6 +168,7 @@ fn patterns<'a>(
         0,
         &mut row,
         &mut args,
+        used,
     );
     let mut count = 1;
     while (cursor.no == 0) & (cursor.at < cursor.end) {
@@ -178,6 +184,7 @@ fn patterns<'a>(
             count,
             &mut row,
             &mut args,
+            used,
         );
         count += 1;
     }
@@ -197,9 +204,10 @@ fn ending<'a>(
     rows: &'a [u16],
     list: &mut [usize],
     known: Known,
+    used: &mut [u8],
 ) -> Ended
-    requires { ⌜ Described (now text) (now places) (now lists) (now tplaces) (now book) (now rows) known × (length (now list) ≡ listLength) ⌝ }
-    ensures { λ r. ⌜ ((e : Env) → Describes (now (text .entry)) (now (places .entry)) (now (lists .entry)) (now (tplaces .entry)) (now (book .entry)) (now (rows .entry)) known e → Makes (now (text .entry)) c (endingDue e) (r .cursor) (Ends (now (text .entry)) (now (places .entry)) (now (lists .entry)) (now (tplaces .entry)) (now (book .exit)) (now (rows .entry)) (now (list .exit)) known r e)) ⌝ }
+    requires { ⌜ Described (now text) (now places) (now lists) (now tplaces) (now book) (now rows) known × (length (now list) ≡ listLength) × (length (now used) ≡ tableSize) ⌝ }
+    ensures { λ r. ⌜ ((e : Env) → Describes (now (text .entry)) (now (places .entry)) (now (lists .entry)) (now (tplaces .entry)) (now (book .entry)) (now (rows .entry)) known e → Makes (now (text .entry)) c (endingDue e) (r .cursor) (Ends (now (text .entry)) (now (places .entry)) (now (lists .entry)) (now (tplaces .entry)) (now (book .exit)) (now (rows .entry)) (now (list .exit)) known r e (now (used .entry)) (now (used .exit)))) × Grows (now (used .entry)) (now (used .exit)) ⌝ }
 {
     let n = bursts::burst(text, c, list);
     let a = n.cursor;
@@ -212,7 +220,7 @@ fn ending<'a>(
     measures::keep(book, measures::BODIES, name, 0, measures::nothing());
     let x = bursts::exec(text, a, n.at, n.end);
     let b = x.cursor;
-    let p = patterns(text, b, places, lists, tplaces, book, rows, known);
+    let p = patterns(text, b, places, lists, tplaces, book, rows, known, used);
     let cursor = p.cursor;
     Ended {
         cursor,
@@ -236,7 +244,7 @@ fn stopped(cursor: Cursor, known: Known) -> Parts
     }
 }
 
-// All of them. Where one waveform stands that is wanted is watched for.
+// All of them. Where one waveform stands that is wanted is watched for. What the statements assign is noted.
 pub fn document(
     text: &[u8],
     places: &mut [usize],
@@ -247,9 +255,10 @@ pub fn document(
     rows: &mut [u16],
     list: &mut [usize],
     watch: Watch,
+    used: &mut [u8],
 ) -> Parts
-    requires { ⌜ Blank (now places) (now lists) (now tplaces) (now waves) × (length (now book) ≡ bookLength) × (length (now rows) ≡ rowsLength) × (length (now list) ≡ listLength) ⌝ }
-    ensures { λ r. ⌜ Reads (now (text .entry)) watch (now (places .exit)) (now (lists .exit)) (now (tplaces .exit)) (now (waves .exit)) (now (book .exit)) (now (rows .exit)) (now (list .exit)) r ⌝ }
+    requires { ⌜ Blank (now places) (now lists) (now tplaces) (now waves) × (length (now book) ≡ bookLength) × (length (now rows) ≡ rowsLength) × (length (now list) ≡ listLength) × (length (now used) ≡ tableSize) ⌝ }
+    ensures { λ r. ⌜ Reads (now (text .entry)) watch (now (places .exit)) (now (lists .exit)) (now (tplaces .exit)) (now (waves .exit)) (now (book .exit)) (now (rows .exit)) (now (list .exit)) r × NotesRead (now (text .entry)) (now (used .exit)) r ⌝ }
 {
     let c = words::cursor_at(text, 0);
     let d = declared::declarations(text, c, places, lists, tplaces, waves, watch);
@@ -263,13 +272,24 @@ pub fn document(
     if a.no != 0 {
         return stopped(a, first);
     }
-    let m = bodies::bodies(text, a, places, lists, tplaces, book, rows, first);
+    let m = bodies::bodies(text, a, places, lists, tplaces, book, rows, first, used);
     let b = m.cursor;
     let known = m.known;
     if b.no != 0 {
         return stopped(b, known);
     }
-    let e = ending(text, b, places, lists, tplaces, book, rows, list, known);
+    let e = ending(
+        text,
+        b,
+        places,
+        lists,
+        tplaces,
+        book,
+        rows,
+        list,
+        known,
+        used,
+    );
     let cursor = e.cursor;
     Parts {
         cursor,
@@ -379,7 +399,7 @@ fn refusal<'a>(text: &'a [u8], book: &'a [usize], list: &'a [usize], parts: Part
     judged(text, book, list, parts)
 }
 
-// 1 to 16. Where nothing is refused the tables hold the text.
+// 1 to 16. Where nothing is refused the tables hold the text, and what its statements assign is noted.
 pub fn decide(
     text: &[u8],
     places: &mut [usize],
@@ -390,11 +410,23 @@ pub fn decide(
     rows: &mut [u16],
     list: &mut [usize],
     watch: Watch,
+    used: &mut [u8],
 ) -> Verdict
-    requires { ⌜ Blank (now places) (now lists) (now tplaces) (now waves) × (length (now book) ≡ bookLength) × (length (now rows) ≡ rowsLength) × (length (now list) ≡ listLength) ⌝ }
-    ensures { λ r. ⌜ Decides (now (text .entry)) watch (now (places .exit)) (now (lists .exit)) (now (tplaces .exit)) (now (waves .exit)) (now (book .exit)) (now (rows .exit)) (now (list .exit)) r ⌝ }
+    requires { ⌜ Blank (now places) (now lists) (now tplaces) (now waves) × (length (now book) ≡ bookLength) × (length (now rows) ≡ rowsLength) × (length (now list) ≡ listLength) × (length (now used) ≡ tableSize) ⌝ }
+    ensures { λ r. ⌜ Decides (now (text .entry)) watch (now (places .exit)) (now (lists .exit)) (now (tplaces .exit)) (now (waves .exit)) (now (book .exit)) (now (rows .exit)) (now (list .exit)) r × NotesSound (now (text .entry)) (now (used .exit)) r ⌝ }
 {
-    let parts = document(text, places, lists, tplaces, waves, book, rows, list, watch);
+    let parts = document(
+        text,
+        places,
+        lists,
+        tplaces,
+        waves,
+        book,
+        rows,
+        list,
+        watch,
+        used,
+    );
     let t = refusal(text, book, list, parts);
     let total = t.measure;
     Verdict {
@@ -425,6 +457,7 @@ pub fn decided(text: &[u8]) -> Finding
     let mut book = [0usize; measures::BOOK];
     let mut rows = [0u16; measures::ROWS];
     let mut list = [0usize; bursts::LISTED];
+    let mut used = [0u8; noted::USED];
     let nothing = Watch {
         table: timing::TABLES,
         signal: 0,
@@ -440,6 +473,7 @@ pub fn decided(text: &[u8]) -> Finding
         &mut rows,
         &mut list,
         nothing,
+        &mut used,
     );
     if v.no != 0 {
         return Finding::Refused(v.no, v.place);

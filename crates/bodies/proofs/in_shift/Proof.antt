@@ -1,8 +1,9 @@
--- `in_shift` meets its contract: where nothing was refused, the signals with `#` are marked in the row.
+-- `in_shift` meets its contract: where nothing was refused, the signals with `#` are marked in the row, and what the V gives is noted.
 use mathlib.Core.Path.{sym, _∙_}
 use borrow.Author.Tests.{ne-eqb}
 use Rattle.tokens.specs.Written.{bytes}
 use Rattle.assigns.proofs.Table.{gave-zeros}
+use Rattle.noted.proofs.Marking.{grows-none}
 use Rattle.bodies.proofs.Stating.{differ}
 use Rattle.bodies.proofs.Shifting.{in-shift}
 use borrow.Author.Needs.{needs}
@@ -20,7 +21,7 @@ slice-aggregate-assigns c = search needs
 
 assigns-requires : tie.Need-assigns-requires
 assigns-requires c κs =
-    let pre′ = c .before .before .before .before .before .before .before .pre in
+    let pre′ = c .before .before .before .before .before .before .before .before .pre in
     (pre′ .0, gave-zeros)
 
 slice-aggregate-due-2 : tie.Need-slice-aggregate-due-2
@@ -41,40 +42,57 @@ refuse-if-requires c κs = search needs
 returns : tie.Need-returns
 unfolding bytes
 returns c =
-    let pre′ = c .before .before .before .before .before .before .before .before .before .before .before .before .before .before .before .before .pre in
+    let pre′ = c .before .before .before .before .before .before .before .before .before .before .before .before .before .before .before .before .before .pre in
     let due′ = c .before .before .before .before .before .before .before .before .before .before .due in
     let assigns′ = c .before .before .before .before .before .before .before .before .assigns in
     let due2′ = c .before .before .before .before .before .due2 in
     let has-mark′ = c .before .before .before .has-mark in
-    let refuse-if′ = c .before .before .refuse-if in
-    in-shift (pre′ .0 .usable .tidy) (due′ .ensures) (assigns′ .ensures) (due2′ .ensures) (has-mark′ .ensures) (refuse-if′ .ensures)
-    (λ live. differ (sym live ∙ ne-eqb _ _ (c .if1 .taken)))
+    let refuse-if′ = c .before .before .refuse-if in (
+      in-shift (pre′ .0 .usable .tidy) (due′ .ensures) (assigns′ .ensures) (due2′ .ensures) (has-mark′ .ensures) (refuse-if′ .ensures)
+          (λ live. differ (sym live ∙ ne-eqb _ _ (c .if1 .taken))) (λ live. differ (sym live ∙ ne-eqb _ _ (c .if1 .taken))),
+      grows-none,
+    )
 
 slice-aggregate-mark-uses : tie.Need-slice-aggregate-mark-uses
 slice-aggregate-mark-uses c = search needs
 
 mark-uses-requires : tie.Need-mark-uses-requires
 mark-uses-requires c κs =
-    let pre′ = c .before .before .before .before .before .before .before .before .before .before .before .before .before .before .before .before .before .before .pre in
+    let pre′ = c .before .before .before .before .before .before .before .before .before .before .before .before .before .before .before .before .before .before .before .pre in
     let assigns′ = c .before .before .before .before .before .before .before .before .before .before .assigns in
     (assigns′ .ensures .long, pre′ .1)
+
+slice-aggregate-note : tie.Need-slice-aggregate-note
+slice-aggregate-note c = search needs
+
+note-requires : tie.Need-note-requires
+note-requires c κs =
+    let pre′ = c .before .before .before .before .before .before .before .before .before .before .before .before .before .before .before .before .before .before .before .before .before .before .before .before .pre in
+    let assigns′ = c .before .before .before .before .before .before .before .before .before .before .before .before .before .before .before .assigns in
+    (assigns′ .ensures .long, pre′ .2)
 
 same-length : tie.Need-same-length
 same-length c = search needs
 
+same-length-2 : tie.Need-same-length-2
+same-length-2 c = search needs
+
 returns-2 : tie.Need-returns-2
 unfolding bytes
 returns-2 c =
-    let pre′ = c .before .before .before .before .before .before .before .before .before .before .before .before .before .before .before .before .before .before .before .before .before .pre in
-    let args′ = c .before .before .before .before .before .before .before .before .before .before .before .before .before .before .before .before .before .before .before .before .before .args in
-    let due′ = c .before .before .before .before .before .before .before .before .before .before .before .before .before .before .before .due in
-    let assigns′ = c .before .before .before .before .before .before .before .before .before .before .before .before .before .assigns in
-    let due2′ = c .before .before .before .before .before .before .before .before .before .before .due2 in
-    let has-mark′ = c .before .before .before .before .before .before .before .before .has-mark in
-    let refuse-if′ = c .before .before .before .before .before .before .before .refuse-if in
-    let mark-uses′ = c .before .before .mark-uses in
-    in-shift (pre′ .0 .usable .tidy) (due′ .ensures) (assigns′ .ensures) (due2′ .ensures) (has-mark′ .ensures) (refuse-if′ .ensures)
-    (λ live f. mark-uses′ .ensures (args′ .c .at) (assigns′ .ensures .it) f)
+    let pre′ = c .before .before .before .before .before .before .before .before .before .before .before .before .before .before .before .before .before .before .before .before .before .before .before .before .before .before .before .pre in
+    let args′ = c .before .before .before .before .before .before .before .before .before .before .before .before .before .before .before .before .before .before .before .before .before .before .before .before .before .before .before .args in
+    let due′ = c .before .before .before .before .before .before .before .before .before .before .before .before .before .before .before .before .before .before .before .before .due in
+    let assigns′ = c .before .before .before .before .before .before .before .before .before .before .before .before .before .before .before .before .before .before .assigns in
+    let due2′ = c .before .before .before .before .before .before .before .before .before .before .before .before .before .before .before .due2 in
+    let has-mark′ = c .before .before .before .before .before .before .before .before .before .before .before .before .before .has-mark in
+    let refuse-if′ = c .before .before .before .before .before .before .before .before .before .before .before .before .refuse-if in
+    let mark-uses′ = c .before .before .before .before .before .before .before .mark-uses in
+    let note′ = c .before .before .note in (
+      in-shift (pre′ .0 .usable .tidy) (due′ .ensures) (assigns′ .ensures) (due2′ .ensures) (has-mark′ .ensures) (refuse-if′ .ensures)
+          (λ live f. mark-uses′ .ensures (args′ .c .at) (assigns′ .ensures .it) f) (λ live. note′ .ensures .1),
+      note′ .ensures .0,
+    )
 
 pub in-shift-spec : {M : Type 1} → statement M
 in-shift-spec =
@@ -92,5 +110,8 @@ in-shift-spec =
     returns
     slice-aggregate-mark-uses
     mark-uses-requires
+    slice-aggregate-note
+    note-requires
     same-length
+    same-length-2
     returns-2)

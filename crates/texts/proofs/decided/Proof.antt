@@ -29,19 +29,22 @@ slice-aggregate-decide-6 c = search needs
 slice-aggregate-decide-7 : tie.Need-slice-aggregate-decide-7
 slice-aggregate-decide-7 c = search needs
 
+slice-aggregate-decide-8 : tie.Need-slice-aggregate-decide-8
+slice-aggregate-decide-8 c = search needs
+
 decide-requires : tie.Need-decide-requires
-decide-requires c κs = (record { sized = record { all = refl; rows = refl }; tables = refl; marks = refl; unset = zeros 65_536 }, refl, refl, refl)
+decide-requires c κs = (record { sized = record { all = refl; rows = refl }; tables = refl; marks = refl; unset = zeros 65_536 }, refl, refl, refl, refl)
 
 returns : tie.Need-returns
 returns c =
-    let decide′ = c .before .before .before .before .before .before .before .before .before .decide in
-    answered-refused _ (decide′ .ensures .refuses (c .if1 .taken))
+    let decide′ = c .before .before .before .before .before .before .before .before .before .before .decide in
+    answered-refused _ (decide′ .ensures .0 .refuses (c .if1 .taken))
 
 returns-2 : tie.Need-returns-2
 returns-2 c =
-    let decide′ = c .before .before .before .before .before .before .before .before .before .before .before .before .decide in
+    let decide′ = c .before .before .before .before .before .before .before .before .before .before .before .before .before .decide in
     let if1′ = c .before .before .before .if1 in
-    let found = decide′ .ensures .finds (if1′ .left) in ap given (counted found) ∙ answered-given countsOf (found .is)
+    let found = decide′ .ensures .0 .finds (if1′ .left) in ap given (counted found) ∙ answered-given countsOf (found .is)
 
 pub decided-spec : {M : Type 1} → statement M
 decided-spec =
@@ -54,6 +57,7 @@ decided-spec =
     slice-aggregate-decide-5
     slice-aggregate-decide-6
     slice-aggregate-decide-7
+    slice-aggregate-decide-8
     decide-requires
     returns
     returns-2)

@@ -23,10 +23,10 @@ exec-requires c κs = search needs
 patterns-requires : tie.Need-patterns-requires
 unfolding bytes
 patterns-requires c κs =
-    let pre′ = c .before .before .before .before .before .before .before .before .before .before .before .before .before .before .before .before .before .before .before .before .pre in
-    let keep′ = c .before .before .before .before .before .keep in
-    let nothing′ = c .before .before .before .before .before .before .nothing in
-    record { env = pre′ .0 .env; name = _; patterned = burst-kept (keep′ .ensures) refl refl (nothing′ .ensures) (pre′ .0 .describes) }
+    let pre′ = c .before .before .before .before .before .before .before .before .before .before .before .before .before .before .before .before .before .before .before .before .before .before .pre in
+    let keep′ = c .before .before .before .before .before .before .keep in
+    let nothing′ = c .before .before .before .before .before .before .before .nothing in
+    (record { env = pre′ .0 .env; name = _; patterned = burst-kept (keep′ .ensures) refl refl (nothing′ .ensures) (pre′ .0 .describes) }, pre′ .2)
 
 same-length : tie.Need-same-length
 same-length c = search needs
@@ -34,25 +34,30 @@ same-length c = search needs
 same-length-2 : tie.Need-same-length-2
 same-length-2 c = search needs
 
+same-length-3 : tie.Need-same-length-3
+same-length-3 c = search needs
+
 returns : tie.Need-returns
 unfolding endingDue
 returns c =
-    let patterns′ = c .before .before .before .patterns in
-    let keep′ = c .before .before .before .before .before .before .before .before .before .keep in
-    let nothing′ = c .before .before .before .before .before .before .before .before .before .before .nothing in
-    let burst′ = c .before .before .before .before .before .before .before .before .before .before .before .before .before .before .before .burst in
-    let exec′ = c .before .before .before .before .before .before .exec in
-    λ e s.
-    let all = patterns′ .ensures e _ (burst-kept (keep′ .ensures) refl refl (nothing′ .ensures) s) in
-    record {
-      it = (_, _, all .it);
-      goes = then _ (burst′ .ensures .goes) (then _ (exec′ .ensures) (then _ (all .goes) given));
-      held = λ live. record {
-        patterned = all .held live;
-        listed-are = refl;
-        few-listed = burst′ .ensures .few (alive-before (exec′ .ensures) (alive-before (all .goes) live));
-      };
-    }
+    let patterns′ = c .before .before .before .before .before .patterns in
+    let keep′ = c .before .before .before .before .before .before .before .before .before .before .before .before .keep in
+    let nothing′ = c .before .before .before .before .before .before .before .before .before .before .before .before .before .nothing in
+    let burst′ = c .before .before .before .before .before .before .before .before .before .before .before .before .before .before .before .before .before .before .burst in
+    let exec′ = c .before .before .before .before .before .before .before .before .before .exec in (
+      λ e s.
+          let all = patterns′ .ensures .0 e _ (burst-kept (keep′ .ensures) refl refl (nothing′ .ensures) s) in
+          record {
+            it = (_, _, all .it);
+            goes = then _ (burst′ .ensures .goes) (then _ (exec′ .ensures) (then _ (all .goes) given));
+            held = λ live. record {
+              patterned = all .held live;
+              listed-are = refl;
+              few-listed = burst′ .ensures .few (alive-before (exec′ .ensures) (alive-before (all .goes) live));
+            };
+          },
+      patterns′ .ensures .1,
+    )
 
 pub ending-spec : {M : Type 1} → statement M
 ending-spec =
@@ -65,4 +70,5 @@ ending-spec =
     patterns-requires
     same-length
     same-length-2
+    same-length-3
     returns)

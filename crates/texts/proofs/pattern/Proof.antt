@@ -1,4 +1,4 @@
--- `pattern` meets its contract: where nothing was refused, there was room for one pattern more, and the book has it.
+-- `pattern` meets its contract: where nothing was refused, there was room for one pattern more, and the book has it; it is noted too.
 use Prim.Native.Nat.{_*_}
 use native.Mathlib.Omega.{arith}
 use borrow.Author.Tests.{eq-eqb, eqb-true}
@@ -27,12 +27,12 @@ mul-new-name-2 c = search needs
 
 sub-new-name : tie.Need-sub-new-name
 sub-new-name c =
-    let pre′ = c .before .before .before .before .before .before .before .before .before .before .before .pre in
+    let pre′ = c .before .before .before .before .before .before .before .before .before .before .before .before .pre in
     omega (arith, pre′ .0 .describes .book-long)
 
 part-new-name-start : tie.Need-part-new-name-start
 part-new-name-start c =
-    let pre′ = c .before .before .before .before .before .before .before .before .before .before .before .before .pre in
+    let pre′ = c .before .before .before .before .before .before .before .before .before .before .before .before .before .pre in
     omega (arith, pre′ .0 .describes .book-long)
 
 part-new-name-end : tie.Need-part-new-name-end
@@ -52,8 +52,8 @@ due-requires-2 c κs = search needs
 
 statements-requires : tie.Need-statements-requires
 statements-requires c κs =
-    let pre′ = c .before .before .before .before .before .before .before .before .before .before .before .before .before .before .before .before .before .before .before .pre in
-    (pre′ .0, omega arith, pre′ .2, pre′ .3)
+    let pre′ = c .before .before .before .before .before .before .before .before .before .before .before .before .before .before .before .before .before .before .before .before .before .pre in
+    (pre′ .0, omega arith, pre′ .2, pre′ .3, pre′ .4)
 
 same-length : tie.Need-same-length
 same-length c = search needs
@@ -67,32 +67,33 @@ same-length-3 c = search needs
 returns : tie.Need-returns
 unfolding bytes
 returns c =
-    let statements′ = c .before .before .before .before .before .before .before .statements in
-    let args′ = c .before .before .before .before .before .before .before .before .before .before .before .before .before .before .before .before .before .before .before .before .before .before .before .before .before .before .before .args in
-    let due′ = c .before .before .before .before .before .before .before .before .before .before .before .before .before .before .before .before .before .due in
-    let refuse-if′ = c .before .before .before .before .before .before .before .before .before .before .before .before .before .before .before .before .refuse-if in
-    let new-name′ = c .before .before .before .before .before .before .before .before .before .before .before .before .before .new-name in
-    let due2′ = c .before .before .before .before .before .before .before .before .before .before .before .due2 in (
+    let statements′ = c .before .before .before .before .before .before .before .before .before .statements in
+    let args′ = c .before .before .before .before .before .before .before .before .before .before .before .before .before .before .before .before .before .before .before .before .before .before .before .before .before .before .before .before .before .before .before .args in
+    let due′ = c .before .before .before .before .before .before .before .before .before .before .before .before .before .before .before .before .before .before .before .before .due in
+    let refuse-if′ = c .before .before .before .before .before .before .before .before .before .before .before .before .before .before .before .before .before .before .before .refuse-if in
+    let new-name′ = c .before .before .before .before .before .before .before .before .before .before .before .before .before .before .before .before .new-name in
+    let due2′ = c .before .before .before .before .before .before .before .before .before .before .before .before .before .before .due2 in (
       statements′ .ensures .0,
       statements′ .ensures .1,
-      λ e b ps s.
+      λ u e b ps s.
           pattern-refused s (rest (args′ .book .now) (burst * 2)) (due′ .ensures) (refuse-if′ .ensures) (new-name′ .ensures) (due2′ .ensures)
           (statements′ .ensures .2 e (s .describes)) (λ live. c .if1 .taken (eqb-true _ _ live)),
+      statements′ .ensures .3,
     )
 
 add-keep : tie.Need-add-keep
 add-keep c =
-    let pre′ = c .before .before .before .before .before .before .before .before .before .before .before .before .before .before .before .before .before .before .before .before .before .before .before .before .before .before .before .before .before .pre in
+    let pre′ = c .before .before .before .before .before .before .before .before .before .before .before .before .before .before .before .before .before .before .before .before .before .before .before .before .before .before .before .before .before .before .before .before .before .pre in
     omega (arith, pre′ .1)
 
 keep-requires : tie.Need-keep-requires
 keep-requires c κs =
-    let pre′ = c .before .before .before .before .before .before .before .before .before .before .before .before .before .before .before .before .before .before .before .before .before .before .before .before .before .before .before .before .before .pre in
-    let args′ = c .before .before .before .before .before .before .before .before .before .before .before .before .before .before .before .before .before .before .before .before .before .before .before .before .before .before .before .before .before .args in
-    let refuse-if′ = c .before .before .before .before .before .before .before .before .before .before .before .before .before .before .before .before .before .before .refuse-if in
-    let new-name′ = c .before .before .before .before .before .before .before .before .before .before .before .before .before .before .before .new-name in
-    let due2′ = c .before .before .before .before .before .before .before .before .before .before .before .before .before .due2 in
-    let statements′ = c .before .before .before .before .before .before .before .before .before .statements in (
+    let pre′ = c .before .before .before .before .before .before .before .before .before .before .before .before .before .before .before .before .before .before .before .before .before .before .before .before .before .before .before .before .before .before .before .before .before .pre in
+    let args′ = c .before .before .before .before .before .before .before .before .before .before .before .before .before .before .before .before .before .before .before .before .before .before .before .before .before .before .before .before .before .before .before .before .before .args in
+    let refuse-if′ = c .before .before .before .before .before .before .before .before .before .before .before .before .before .before .before .before .before .before .before .before .before .refuse-if in
+    let new-name′ = c .before .before .before .before .before .before .before .before .before .before .before .before .before .before .before .before .before .before .new-name in
+    let due2′ = c .before .before .before .before .before .before .before .before .before .before .before .before .before .before .before .before .due2 in
+    let statements′ = c .before .before .before .before .before .before .before .before .before .before .before .statements in (
       pre′ .0 .describes .book-long,
       omega (
         arith,
@@ -110,21 +111,28 @@ same-length-5 c = search needs
 same-length-6 : tie.Need-same-length-6
 same-length-6 c = search needs
 
+same-length-7 : tie.Need-same-length-7
+same-length-7 c = search needs
+
+same-length-8 : tie.Need-same-length-8
+same-length-8 c = search needs
+
 returns-2 : tie.Need-returns-2
 unfolding bytes
 returns-2 c =
-    let statements′ = c .before .before .before .before .before .before .before .before .before .before .before .before .statements in
-    let args′ = c .before .before .before .before .before .before .before .before .before .before .before .before .before .before .before .before .before .before .before .before .before .before .before .before .before .before .before .before .before .before .before .before .args in
-    let due′ = c .before .before .before .before .before .before .before .before .before .before .before .before .before .before .before .before .before .before .before .before .before .before .due in
-    let refuse-if′ = c .before .before .before .before .before .before .before .before .before .before .before .before .before .before .before .before .before .before .before .before .before .refuse-if in
-    let new-name′ = c .before .before .before .before .before .before .before .before .before .before .before .before .before .before .before .before .before .before .new-name in
-    let due2′ = c .before .before .before .before .before .before .before .before .before .before .before .before .before .before .before .before .due2 in
+    let statements′ = c .before .before .before .before .before .before .before .before .before .before .before .before .before .before .statements in
+    let args′ = c .before .before .before .before .before .before .before .before .before .before .before .before .before .before .before .before .before .before .before .before .before .before .before .before .before .before .before .before .before .before .before .before .before .before .before .before .args in
+    let due′ = c .before .before .before .before .before .before .before .before .before .before .before .before .before .before .before .before .before .before .before .before .before .before .before .before .before .due in
+    let refuse-if′ = c .before .before .before .before .before .before .before .before .before .before .before .before .before .before .before .before .before .before .before .before .before .before .before .before .refuse-if in
+    let new-name′ = c .before .before .before .before .before .before .before .before .before .before .before .before .before .before .before .before .before .before .before .before .before .new-name in
+    let due2′ = c .before .before .before .before .before .before .before .before .before .before .before .before .before .before .before .before .before .before .before .due2 in
     let if1′ = c .before .before .before .before .before .if1 in (
       statements′ .ensures .0,
       statements′ .ensures .1,
-      λ e b ps s.
+      λ u e b ps s.
           pattern-kept s (rest (args′ .book .now) (burst * 2)) (due′ .ensures) (refuse-if′ .ensures) (new-name′ .ensures) (due2′ .ensures)
-          (statements′ .ensures .2 e (s .describes)) (eq-eqb _ _ (if1′ .left)) (c .before .before .keep .ensures),
+          (statements′ .ensures .2 e (s .describes)) (eq-eqb _ _ (if1′ .left)) (c .before .before .keep .ensures) (statements′ .ensures .3),
+      statements′ .ensures .3,
     )
 
 pub pattern-spec : {M : Type 1} → statement M
@@ -147,10 +155,12 @@ pattern-spec =
     same-length
     same-length-2
     same-length-3
+    same-length-4
     returns
     add-keep
     keep-requires
-    same-length-4
     same-length-5
     same-length-6
+    same-length-7
+    same-length-8
     returns-2)
