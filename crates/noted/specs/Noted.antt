@@ -11,7 +11,7 @@ use Rattle.meaning.specs.Lists.{has}
 use Rattle.meaning.specs.Timing.{Tables}
 use Rattle.meaning.specs.Meaning.{hasWave, tableAt}
 use Rattle.meaning.specs.Body as body
-use Rattle.meaning.specs.Body.{Assigns, Args, Setting, assigning, choosing, Way, looped, shifted, entered, Body, done, vec, set′, inner}
+use Rattle.meaning.specs.Body.{Assigns, Args, Setting, assigning, choosing, Kind, macro, procedure, listed, Way, looped, shifted, entered, Body, done, vec, set′, inner}
 use Rattle.timing.specs.Marks.{charsMost, tableSize, mark}
 
 -- no mark is lost
@@ -41,10 +41,16 @@ unfoldable pub Sets : ℕ → List ℕ → Setting → Type 0
 Sets tables used (assigning a) = Gives used a
 Sets tables used (choosing k) = k < tables
 
+-- a statement plays no listed pattern, which would begin without a table
+abbrev pub Stated : Kind → Type 0
+Stated macro = Unit {0}
+Stated procedure = Unit {0}
+Stated listed = ⊥
+
 unfoldable pub Enters : List ℕ → Way → Type 0
 Enters used (looped n) = Unit {0}
 Enters used shifted = Unit {0}
-Enters used (entered k t a) = Supplies used a
+Enters used (entered k t a) = Stated k × Supplies used a
 
 -- all that a body assigns, and the bodies in it, is marked
 unfoldable pub Noted : ℕ → List ℕ → Body → Type 0
