@@ -8,3 +8,5 @@ pub mod Bodies
 pub mod Shifting
 pub mod Listing
 pub mod Texts
+pub mod Calm
+pub mod Chosen

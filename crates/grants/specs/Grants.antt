@@ -5,9 +5,9 @@ use mathlib.Core.Bool.{Bool, true, false}
 use mathlib.Core.List.{List}
 use lib.ListN.{length, getD}
 use Rattle.tokens.specs.Tokens.{Toks, toks, left}
-use Rattle.meaning.specs.Bounds.{signalsMost, tablesMost, depthMost}
+use Rattle.meaning.specs.Bounds.{signalsMost, tablesMost, patternsMost, depthMost}
 use Rattle.meaning.specs.Lists.{count}
-use Rattle.meaning.specs.Body.{Assigns, Args, looped, shifted, entered, Body, done, vec, inner, depth, shifting}
+use Rattle.meaning.specs.Body.{Assigns, Args, choosing, looped, shifted, entered, Body, done, vec, set′, inner, depth, shifting}
 use Rattle.meaning.specs.Statements.{Decl, Decls, Env}
 use Rattle.meaning.proofs.Turns.{Plain, Good}
 use Rattle.held.specs.Held.{Holds}
@@ -15,10 +15,11 @@ use Rattle.words.specs.Cursor.{alive, stream}
 use Rattle.timing.specs.Marks.{tableSize}
 use Rattle.measures.specs.Measures.{joined}
 use Rattle.measures.specs.Uses.{flag}
-use Rattle.measures.specs.Book.{bodies, startAt}
+use Rattle.measures.specs.Book.{bodies, bookLength, startAt}
 use Rattle.arguments.specs.Supplied.{Supplied}
 use Rattle.heads.specs.Heads.{kindOf}
-use Rattle.plays.specs.Plays.{Ground, Holding, Summed, Single}
+use Rattle.heads.specs.declared.Known.{Known}
+use Rattle.plays.specs.Plays.{Ground, ground, Holding, Summed, Single}
 use Rattle.sums.specs.Sums.{Sums}
 use Rattle.plays.specs.Run.{ListedAt}
 use Rattle.sums.specs.Parts.{Exact, Cleared}
@@ -234,3 +235,24 @@ pub record Patterned (g : Ground) (list : List ℕ) (patterns k : ℕ) (marks ma
   pub roomy : Roomy g marks′ sums′
   pub summed : (E : Env) (ps : Decls) (d : Decl) → ListedAt g list patterns k E ps d → Summed g marks sums E → Summed g marks′ sums′ E
   pub cleared : r ≡ true → (E : Env) (ps : Decls) (d : Decl) → ListedAt g list patterns k E ps d → Summed g marks sums E → Cleared (E .tables) (g .signals) (d .body)
+
+-- ---- by what the text assigns at all
+
+-- a table is chosen before all else
+pub record TableFirst (b : Body) : Type 0 where
+  pub table : ℕ
+  pub rest : Body
+  pub is : b ≡ set′ (choosing table) rest
+
+-- so it is in the pattern of the listed name of number k, whatever text holds it
+pub record ListedFirst (text book list : List ℕ) (patterns k : ℕ) : Type 0 where
+  pub first : (places lists tplaces rows waves : List ℕ) (known : Known) (signals : ℕ) (E : Env) (ps : Decls) (d : Decl)
+      → ListedAt (ground text places lists tplaces book rows waves known signals) list patterns k E ps d → TableFirst (d .body)
+
+-- arrays of the right length, and bounds
+pub record Marking (book waves used : List ℕ) (tables patterns : ℕ) : Type 0 where
+  pub book-long : length book ≡ bookLength
+  pub waves-long : length waves ≡ tablesMost * tableSize
+  pub used-long : length used ≡ tableSize
+  pub few-tables : tables ≤ tablesMost
+  pub few-patterns : patterns ≤ patternsMost

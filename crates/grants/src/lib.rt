@@ -1,5 +1,6 @@
-// Is it plain that no cycle of a text's run fails? Every body that the run uses is summed up once, where the text holds it: what it asks of the state in which it
-// begins. Where no listed pattern asks for anything that isn't there, no cycle fails. The sums may ask for too much; then nothing is said, and the run is played.
+// Is it plain that no cycle of a text's run fails? It is from the marks of all that the text assigns, where every table has a waveform for each and every listed
+// pattern begins with a table. Else every body that the run uses is summed up once, where the text holds it: what it asks of the state in which it begins. Where no
+// listed pattern asks for anything that isn't there, no cycle fails. The sums may ask for too much; then nothing is said, and the run is played.
 ghost use mathlib.Core.Path.{_≡_};
 ghost use mathlib.Core.Bool.{true, false};
 ghost use mathlib.Core.Option.{none};
@@ -7,21 +8,24 @@ ghost use Prim.Native.Nat.{ℕ, _+_, _*_, _≤_};
 ghost use mathlib.Core.List.{List};
 ghost use lib.ListN.{length};
 ghost use Rattle.words.specs.Cursor.{alive, stream};
-ghost use Rattle.meaning.specs.Bounds.{signalsMost, tablesMost};
+ghost use Rattle.meaning.specs.Bounds.{signalsMost, tablesMost, patternsMost};
 ghost use Rattle.meaning.specs.Timing.{Tables};
 ghost use Rattle.meaning.specs.Body.{Assigns, Body};
 ghost use Rattle.meaning.specs.Run.{cyclesOf};
 ghost use Rattle.meaning.specs.Meaning.{firstFailing};
 ghost use Rattle.meaning.specs.Document.{Read};
+ghost use Rattle.held.specs.Held.{All};
 ghost use Rattle.texts.specs.declared.Parts.{Parts};
 ghost use Rattle.plays.specs.Plays.{ground, Summed};
 ghost use Rattle.plays.specs.Run.{SomeRun, Runs};
 ghost use Rattle.timing.specs.Marks.{tableSize};
 ghost use Rattle.measures.specs.Uses.{Given};
+ghost use Rattle.measures.specs.Book.{bookLength};
+ghost use Rattle.noted.specs.Noted.{Noted};
 ghost use Rattle.sums.specs.Sums.{Sum};
 ghost use Rattle.sums.specs.Parts.{Assigned, Cycled, Looped as LoopedSum};
 ghost use Rattle.tallies.specs.Rows.{rowSize, sumAt, Only, Marked};
-ghost use Rattle.grants.specs.Grants.{Unknown, Sized, Stood, Promised, Stepped, LoopStood, Looped, ShiftStood, Shifted, UseStood, Used, BodyStood, Bodied, SomePattern, Patterned};
+ghost use Rattle.grants.specs.Grants.{Unknown, Sized, Stood, Promised, Stepped, LoopStood, Looped, ShiftStood, Shifted, UseStood, Used, BodyStood, Bodied, SomePattern, Patterned, ListedFirst, Marking};
 use heads::Known;
 use words::Cursor;
 
@@ -537,4 +541,53 @@ pub fn granted<'a>(
         k += 1;
     }
     all
+}
+
+// ---- by what the text assigns at all
+
+// Does the listed pattern of number k choose a table before all else?
+fn chooses<'a>(
+    text: &'a [u8],
+    book: &'a [usize],
+    list: &'a [usize],
+    patterns: usize,
+    k: usize,
+) -> bool
+    requires { ⌜ (length (now book) ≡ bookLength) × (patterns ≤ patternsMost) ⌝ }
+    ensures { λ r. ⌜ (r ≡ true → ListedFirst (now (text .entry)) (now (book .entry)) (now (list .entry)) patterns k) ⌝ }
+{
+    let names = &book[measures::PATTERNS * 2..];
+    let i = words::find(text, words::name_bytes(text, list, k), names, patterns);
+    if patterns <= i {
+        return false;
+    }
+    let c = words::cursor_at(text, measures::start_at(book, measures::PATTERNS + i));
+    words::is(text, c, b"W")
+}
+
+// Is it plain from the marks alone? Every table has a waveform for each, and a table is chosen before all else; then nothing is summed up.
+pub fn plain<'a>(
+    text: &'a [u8],
+    book: &'a [usize],
+    list: &'a [usize],
+    waves: &'a [u8],
+    used: &'a [u8],
+    known: Known,
+    listed: usize,
+    patterns: usize,
+) -> bool
+    requires { ⌜ Marking (now book) (now waves) (now used) (known .tables) patterns ⌝ }
+    ensures { λ r. ⌜ (r ≡ true → (places lists tplaces rows : List ℕ) (signals : ℕ) (p : Parts) (d : Read) (run : Body) → Runs (now (text .entry)) places lists tplaces (now (waves .entry)) (now (book .entry)) rows (now (list .entry)) known signals listed patterns p d run → All (λ x. Noted (known .tables) (now (used .entry)) (x .1 .body)) (d .patterns) → firstFailing (d .tables) (cyclesOf (length (d .signals)) run) ≡ none) ⌝ }
+{
+    if !noted::fine(used, waves, known.tables) {
+        return false;
+    }
+    let mut k = 0;
+    while k < listed {
+        if !chooses(text, book, list, patterns, k) {
+            return false;
+        }
+        k += 1;
+    }
+    true
 }

@@ -1,9 +1,9 @@
 mod Taken
 mod Asked
 pub mod Left
-mod Cycles
+pub mod Cycles
 pub mod Exact
-mod Adds
+pub mod Adds
 mod Free
 pub mod Statements
 pub mod Bodies
