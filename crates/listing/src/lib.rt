@@ -22,13 +22,25 @@ fn shown<'a>(
     book: &'a [usize],
     rows: &'a [u16],
     list: &'a [usize],
+    used: &'a [u8],
     v: Verdict,
     page: &mut [u8],
 ) -> Page
-    requires { ⌜ (frontMost ≤ length (now page)) × SomeFound (now text) (now places) (now lists) (now tplaces) (now waves) (now book) (now rows) (now list) v ⌝ }
+    requires { ⌜ (frontMost ≤ length (now page)) × SomeFound (now text) (now places) (now lists) (now tplaces) (now waves) (now book) (now rows) (now list) (now used) v ⌝ }
     ensures { λ r. ⌜ Begins (now (text .entry)) (now (page .entry)) r (now (page .exit)) ⌝ }
 {
-    let f = stil::failing(text, places, lists, tplaces, waves, book, rows, list, v);
+    let f = stil::failing(
+        text,
+        places,
+        lists,
+        tplaces,
+        waves,
+        book,
+        rows,
+        list,
+        used,
+        v,
+    );
     if f.failed {
         return sections::refused(page, NOT_PLAYABLE, f.place);
     }
@@ -66,6 +78,7 @@ pub fn begin(text: &[u8], page: &mut [u8]) -> Page
     let mut book = [0usize; measures::BOOK];
     let mut rows = [0u16; measures::ROWS];
     let mut list = [0usize; bursts::LISTED];
+    let mut used = [0u8; noted::USED];
     let v = texts::decide(
         text,
         &mut places,
@@ -76,6 +89,7 @@ pub fn begin(text: &[u8], page: &mut [u8]) -> Page
         &mut rows,
         &mut list,
         stil::nowhere(),
+        &mut used,
     );
     if v.no != 0 {
         return sections::refused(page, v.no, v.place);
@@ -89,6 +103,7 @@ pub fn begin(text: &[u8], page: &mut [u8]) -> Page
         &book,
         &rows,
         &list,
+        &used,
         v,
         page,
     )

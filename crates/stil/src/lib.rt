@@ -11,7 +11,9 @@ ghost use Rattle.meaning.specs.Bounds.{signalsMost, tablesMost, entryMost};
 ghost use Rattle.meaning.specs.Meaning.{given, firsts};
 ghost use Rattle.meaning.specs.Services.{check as checkOf, nameAt, nameOf, window as windowOf, waveform as waveformOf};
 ghost use Rattle.words.specs.Table.{names};
-ghost use Rattle.texts.specs.Tables.{Found};
+ghost use Rattle.timing.specs.Marks.{tableSize};
+ghost use Rattle.timing.specs.declared.Watch.{Watch};
+ghost use Rattle.texts.specs.Tables.{Found, NotesSound};
 ghost use Rattle.texts.specs.Told.{packedRefusal};
 ghost use Rattle.stil.specs.Answers.{checkedOf, whichOf, locatedOf};
 ghost use Rattle.stil.specs.Judged.{namedOf, numbered, Judges, Copies};
@@ -201,9 +203,8 @@ fn told<'a>(
     }
 }
 
-// The first cycle of a text's run that fails, where 1 to 16 leave the text. Where the sums of its bodies show that none does, nothing is played; else they tell
-// which of them can be passed.
-pub fn failing<'a>(
+// The first cycle of a text's run that fails. Where the sums of its bodies show that none does, nothing is played; else they tell which of them can be passed.
+fn summed<'a>(
     text: &'a [u8],
     places: &'a [usize],
     lists: &'a [u16],
@@ -214,7 +215,7 @@ pub fn failing<'a>(
     list: &'a [usize],
     v: Verdict,
 ) -> Failing
-    requires { ⌜ SomeFound (now text) (now places) (now lists) (now tplaces) (now waves) (now book) (now rows) (now list) v ⌝ }
+    requires { ⌜ ((w : Watch) × Found (now text) w (now places) (now lists) (now tplaces) (now waves) (now book) (now rows) (now list) v) ⌝ }
     ensures { λ r. ⌜ Plays (now (text .entry)) (now (places .entry)) (now (lists .entry)) (now (tplaces .entry)) (now (waves .entry)) (now (book .entry)) (now (rows .entry)) (now (list .entry)) v r ⌝ }
 {
     let parts = v.parts;
@@ -261,6 +262,41 @@ pub fn failing<'a>(
     )
 }
 
+// The first cycle of a text's run that fails, where 1 to 16 leave the text. Most texts are plain, and none of theirs does.
+pub fn failing<'a>(
+    text: &'a [u8],
+    places: &'a [usize],
+    lists: &'a [u16],
+    tplaces: &'a [usize],
+    waves: &'a [u8],
+    book: &'a [usize],
+    rows: &'a [u16],
+    list: &'a [usize],
+    used: &'a [u8],
+    v: Verdict,
+) -> Failing
+    requires { ⌜ SomeFound (now text) (now places) (now lists) (now tplaces) (now waves) (now book) (now rows) (now list) (now used) v ⌝ }
+    ensures { λ r. ⌜ Plays (now (text .entry)) (now (places .entry)) (now (lists .entry)) (now (tplaces .entry)) (now (waves .entry)) (now (book .entry)) (now (rows .entry)) (now (list .entry)) v r ⌝ }
+{
+    let parts = v.parts;
+    if !grants::plain(
+        text,
+        book,
+        list,
+        waves,
+        used,
+        parts.known,
+        parts.listed,
+        parts.patterns,
+    ) {
+        return summed(text, places, lists, tplaces, waves, book, rows, list, v);
+    }
+    Failing {
+        failed: false,
+        place: 0,
+    }
+}
+
 // A text that 1 to 16 leave: 17, or what is wanted of it.
 fn play<'a>(
     text: &'a [u8],
@@ -271,13 +307,25 @@ fn play<'a>(
     book: &'a [usize],
     rows: &'a [u16],
     list: &'a [usize],
+    used: &'a [u8],
     v: Verdict,
     wanted: Wanted,
 ) -> Judged
-    requires { ⌜ Found (now text) (wanted .watch) (now places) (now lists) (now tplaces) (now waves) (now book) (now rows) (now list) v ⌝ }
+    requires { ⌜ Found (now text) (wanted .watch) (now places) (now lists) (now tplaces) (now waves) (now book) (now rows) (now list) v × NotesSound (now text) (now used) v × (length (now used) ≡ tableSize) ⌝ }
     ensures { λ r. ⌜ Judges (now (text .entry)) wanted r ⌝ }
 {
-    let f = failing(text, places, lists, tplaces, waves, book, rows, list, v);
+    let f = failing(
+        text,
+        places,
+        lists,
+        tplaces,
+        waves,
+        book,
+        rows,
+        list,
+        used,
+        v,
+    );
     if f.failed {
         return refused(NOT_PLAYABLE, f.place);
     }
@@ -294,6 +342,7 @@ fn judge(text: &[u8], wanted: Wanted) -> Judged
     let mut book = [0usize; measures::BOOK];
     let mut rows = [0u16; measures::ROWS];
     let mut list = [0usize; bursts::LISTED];
+    let mut used = [0u8; noted::USED];
     let v = texts::decide(
         text,
         &mut places,
@@ -304,6 +353,7 @@ fn judge(text: &[u8], wanted: Wanted) -> Judged
         &mut rows,
         &mut list,
         wanted.watch,
+        &mut used,
     );
     if v.no != 0 {
         return refused(v.no, v.place);
@@ -317,6 +367,7 @@ fn judge(text: &[u8], wanted: Wanted) -> Judged
         &book,
         &rows,
         &list,
+        &used,
         v,
         wanted,
     )
@@ -404,18 +455,30 @@ fn view<'a>(
     book: &'a [usize],
     rows: &'a [u16],
     list: &'a [usize],
+    used: &'a [u8],
     v: Verdict,
     first: usize,
     wanted: usize,
     spare: bool,
     buffer: &mut [u8],
 ) -> Shown
-    requires { ⌜ SomeFound (now text) (now places) (now lists) (now tplaces) (now waves) (now book) (now rows) (now list) v ⌝ }
+    requires { ⌜ SomeFound (now text) (now places) (now lists) (now tplaces) (now waves) (now book) (now rows) (now list) (now used) v ⌝ }
     ensures { λ r. ⌜ Views (spared spare (windowOf (now (text .entry)) first wanted (now (buffer .entry)))) (now (buffer .entry)) (now (buffer .exit)) r ⌝ }
 {
     let parts = v.parts;
     let total = v.total;
-    let f = failing(text, places, lists, tplaces, waves, book, rows, list, v);
+    let f = failing(
+        text,
+        places,
+        lists,
+        tplaces,
+        waves,
+        book,
+        rows,
+        list,
+        used,
+        v,
+    );
     if f.failed {
         return Shown::Refused(NOT_PLAYABLE, f.place);
     }
@@ -455,6 +518,7 @@ fn viewed(text: &[u8], first: usize, wanted: usize, spare: bool, buffer: &mut [u
     let mut book = [0usize; measures::BOOK];
     let mut rows = [0u16; measures::ROWS];
     let mut list = [0usize; bursts::LISTED];
+    let mut used = [0u8; noted::USED];
     let v = texts::decide(
         text,
         &mut places,
@@ -465,6 +529,7 @@ fn viewed(text: &[u8], first: usize, wanted: usize, spare: bool, buffer: &mut [u
         &mut rows,
         &mut list,
         nowhere(),
+        &mut used,
     );
     if v.no != 0 {
         return Shown::Refused(v.no, v.place);
@@ -478,6 +543,7 @@ fn viewed(text: &[u8], first: usize, wanted: usize, spare: bool, buffer: &mut [u
         &book,
         &rows,
         &list,
+        &used,
         v,
         first,
         wanted,

@@ -35,7 +35,7 @@ nowhere-requires : tie.Need-nowhere-requires
 nowhere-requires c κs = search needs
 
 decide-requires : tie.Need-decide-requires
-decide-requires c κs = (record { sized = record { all = refl; rows = refl }; tables = refl; marks = refl; unset = zeros 65_536 }, refl, refl, refl)
+decide-requires c κs = (record { sized = record { all = refl; rows = refl }; tables = refl; marks = refl; unset = zeros 65_536 }, refl, refl, refl, refl)
 
 refused-requires : tie.Need-refused-requires
 refused-requires c κs = c .before .before .before .before .before .before .before .before .before .before .before .before .before .before .before .before .before .before .before .if1 .left
@@ -45,11 +45,7 @@ same-length c = search needs
 
 returns-2 : tie.Need-returns-2
 returns-2 c =
-    let called = c .before .before in
-    let test = called .before .before in
-    let decided = test .before .before .before .before .before .before .before .before .before in
-    let large = decided .before .before .before .before .before .before .before .before .before in
-    begins-refused (large .if1 .left) (meaning-refused _ (decided .decide .ensures .refuses (test .if2 .taken))) (called .refused .ensures)
+    begins-refused (c .if1 .left) (meaning-refused _ (c .decide .ensures .0 .refuses (c .if2 .taken))) (c .refused .ensures)
 
 slice-aggregate-shown : tie.Need-slice-aggregate-shown
 slice-aggregate-shown c = search needs
@@ -74,10 +70,8 @@ slice-aggregate-shown-7 c = search needs
 
 shown-requires : tie.Need-shown-requires
 shown-requires c κs =
-    let test = c .before .before .before .before .before .before .before .before in
-    let decided = test .before .before .before .before .before .before .before .before .before in
-    let large = decided .before .before .before .before .before .before .before .before .before in
-    (large .if1 .left, record { watch = _; found = decided .decide .ensures .finds (test .if2 .left) })
+    let decide′ = c .decide in
+    (c .if1 .left, record { watch = _; found = decide′ .ensures .0 .finds (c .if2 .left); notes = decide′ .ensures .1; long = search needs })
 
 same-length-2 : tie.Need-same-length-2
 same-length-2 c = search needs

@@ -17,12 +17,8 @@ same-length c = search needs
 
 returns : tie.Need-returns
 returns c =
-    let called = c .before .before in
-    let test = called .before .before in
-    let played = test .before in
-    let start = played .before .before .before .before .before .before .before .before .before .before in
-    let found = start .pre .1 .found in
-    begins-refused (start .pre .0) (meaning-failing found (played .failing .ensures) (test .if1 .taken)) (called .refused .ensures)
+    let found = c .pre .1 .found in
+    begins-refused (c .pre .0) (meaning-failing found (c .failing .ensures) (c .if1 .taken)) (c .refused .ensures)
 
 sections-requires : tie.Need-sections-requires
 sections-requires c κs =
@@ -35,12 +31,8 @@ same-length-2 c = search needs
 
 returns-2 : tie.Need-returns-2
 returns-2 c =
-    let called = c .before .before in
-    let test = called .before .before .before .before .before in
-    let played = test .before in
-    let start = played .before .before .before .before .before .before .before .before .before .before in
-    let found = start .pre .1 .found in
-    begins-sections found (start .pre .0) (meaning-given found (played .failing .ensures) (test .if1 .left)) (called .sections .ensures)
+    let found = c .pre .1 .found in
+    begins-sections found (c .pre .0) (meaning-given found (c .failing .ensures) (c .if1 .left)) (c .sections .ensures)
 
 pub shown-spec : {M : Type 1} → statement M
 shown-spec =

@@ -1,50 +1,35 @@
--- `failing` meets its contract: what 1 to 16 leave has a run, whatever waveform was watched for; the sums show that no cycle of it fails, or tell which bodies
--- are passed where it is played.
-use Prim.Native.Nat.{ℕ}
-use lib.ListN.{length-replicate}
+-- `failing` meets its contract: a plain text's cycles all pass; any other text is summed up.
 use borrow.Author.Needs.{needs}
-use Rattle.declared.proofs.Numbers.{zeros}
 use Rattle.plays.proofs.Texts.{decides-sound}
 use Rattle.stil.proofs.Found.{runs}
 use Rattle.stil.proofs.failing.Statement.{statement}
 use Rattle.stil.proofs.failing.Tie as tie
 
-slice-aggregate-granted : tie.Need-slice-aggregate-granted
-slice-aggregate-granted c = search needs
+plain-requires : tie.Need-plain-requires
+plain-requires c κs =
+    let tabled = c .before .before .pre .found .tabled in
+    record {
+      book-long = tabled .describes .book-long;
+      waves-long = tabled .waves-long;
+      used-long = c .before .before .pre .long;
+      few-tables = tabled .describes .few-tables;
+      few-patterns = tabled .few-patterns;
+    }
 
-slice-aggregate-granted-2 : tie.Need-slice-aggregate-granted-2
-slice-aggregate-granted-2 c = search needs
-
-granted-requires : tie.Need-granted-requires
-granted-requires c κs = (
-  record { parts = _; read = _; body = _; runs = runs (c .before .before .before .before .before .before .before .before .before .before .before .before .pre .found) },
-  record { marks-long = length-replicate {A = ℕ} 64 0; sums-long = length-replicate {A = ℕ} 89_571 0; unmarked = zeros 64 },
-)
+summed-requires : tie.Need-summed-requires
+summed-requires c κs = (_, c .before .before .pre .found)
 
 returns : tie.Need-returns
-returns c = record { decides = λ f. decides-sound (c .before .before .before .granted .ensures .2 _ _ _ (runs f) .1 (c .if1 .taken)) }
-
-slice-aggregate-first-failing : tie.Need-slice-aggregate-first-failing
-slice-aggregate-first-failing c = search needs
-
-slice-aggregate-first-failing-2 : tie.Need-slice-aggregate-first-failing-2
-slice-aggregate-first-failing-2 c = search needs
-
-first-failing-requires : tie.Need-first-failing-requires
-first-failing-requires c κs = record { parts = _; read = _; body = _; runs = runs (c .before .before .before .before .before .before .before .before .before .before .before .before .before .before .before .before .before .before .pre .found) }
+returns c = c .summed .ensures
 
 returns-2 : tie.Need-returns-2
-returns-2 c = record { decides = λ f. c .first-failing .ensures _ _ _ (runs f) (c .before .before .before .before .before .before .granted .ensures .2 _ _ _ (runs f) .0) }
+returns-2 c = record { decides = λ f. decides-sound (c .before .plain .ensures (c .if1 .left) _ _ _ _ _ _ _ _ (runs f) (c .before .before .pre .notes .noted (f .it) (f .is))) }
 
 pub failing-spec : {M : Type 1} → statement M
 failing-spec =
     tie.close
     (tie.spec
-    slice-aggregate-granted
-    slice-aggregate-granted-2
-    granted-requires
+    plain-requires
+    summed-requires
     returns
-    slice-aggregate-first-failing
-    slice-aggregate-first-failing-2
-    first-failing-requires
     returns-2)

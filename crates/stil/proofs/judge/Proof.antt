@@ -27,17 +27,18 @@ slice-aggregate-decide-6 c = search needs
 slice-aggregate-decide-7 : tie.Need-slice-aggregate-decide-7
 slice-aggregate-decide-7 c = search needs
 
+slice-aggregate-decide-8 : tie.Need-slice-aggregate-decide-8
+slice-aggregate-decide-8 c = search needs
+
 decide-requires : tie.Need-decide-requires
-decide-requires c κs = (record { sized = record { all = refl; rows = refl }; tables = refl; marks = refl; unset = zeros 65_536 }, refl, refl, refl)
+decide-requires c κs = (record { sized = record { all = refl; rows = refl }; tables = refl; marks = refl; unset = zeros 65_536 }, refl, refl, refl, refl)
 
 refused-requires : tie.Need-refused-requires
 refused-requires c κs = search needs
 
 returns : tie.Need-returns
 returns c =
-    let test = c .before in
-    let decided = test .before .before .before .before .before .before .before .before .before in
-    judged-refused (decided .decide .ensures .refuses (test .if1 .taken)) (test .if1 .taken) (c .refused .ensures)
+    judged-refused (c .before .before .before .before .before .before .before .before .before .before .before .decide .ensures .0 .refuses (c .before .if1 .taken)) (c .before .if1 .taken) (c .refused .ensures)
 
 slice-aggregate-play : tie.Need-slice-aggregate-play
 slice-aggregate-play c = search needs
@@ -60,11 +61,13 @@ slice-aggregate-play-6 c = search needs
 slice-aggregate-play-7 : tie.Need-slice-aggregate-play-7
 slice-aggregate-play-7 c = search needs
 
+slice-aggregate-play-8 : tie.Need-slice-aggregate-play-8
+slice-aggregate-play-8 c = search needs
+
 play-requires : tie.Need-play-requires
 play-requires c κs =
-    let test = c .before .before .before .before .before .before .before in
-    let decided = test .before .before .before .before .before .before .before .before .before in
-    decided .decide .ensures .finds (test .if1 .left)
+    let decide′ = c .before .before .before .before .before .before .before .before .before .before .before .before .before .before .before .before .before .before .decide in
+    (decide′ .ensures .0 .finds (c .before .before .before .before .before .before .before .before .if1 .left), decide′ .ensures .1, search needs)
 
 returns-2 : tie.Need-returns-2
 returns-2 c = search needs
@@ -80,6 +83,7 @@ judge-spec =
     slice-aggregate-decide-5
     slice-aggregate-decide-6
     slice-aggregate-decide-7
+    slice-aggregate-decide-8
     decide-requires
     refused-requires
     returns
@@ -90,5 +94,6 @@ judge-spec =
     slice-aggregate-play-5
     slice-aggregate-play-6
     slice-aggregate-play-7
+    slice-aggregate-play-8
     play-requires
     returns-2)

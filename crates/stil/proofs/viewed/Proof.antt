@@ -31,14 +31,15 @@ slice-aggregate-decide-7 c = search needs
 nowhere-requires : tie.Need-nowhere-requires
 nowhere-requires c κs = search needs
 
+slice-aggregate-decide-8 : tie.Need-slice-aggregate-decide-8
+slice-aggregate-decide-8 c = search needs
+
 decide-requires : tie.Need-decide-requires
-decide-requires c κs = (record { sized = record { all = refl; rows = refl }; tables = refl; marks = refl; unset = zeros 65_536 }, refl, refl, refl)
+decide-requires c κs = (record { sized = record { all = refl; rows = refl }; tables = refl; marks = refl; unset = zeros 65_536 }, refl, refl, refl, refl)
 
 returns : tie.Need-returns
 returns c =
-    let decided = c .before .before .before .before .before .before .before .before .before in
-    let start = decided .before .before .before .before .before .before .before .before .before .before .before in
-    view-refused _ _ _ _ (start .args .spare) (meaning-refused _ (decided .decide .ensures .refuses (c .if1 .taken)))
+    view-refused _ _ _ _ (c .before .before .before .before .before .before .before .before .before .before .before .before .before .before .before .before .before .before .before .before .before .before .args .spare) (meaning-refused _ (c .before .before .before .before .before .before .before .before .before .before .decide .ensures .0 .refuses (c .if1 .taken)))
 
 slice-aggregate-view : tie.Need-slice-aggregate-view
 slice-aggregate-view c = search needs
@@ -61,11 +62,13 @@ slice-aggregate-view-6 c = search needs
 slice-aggregate-view-7 : tie.Need-slice-aggregate-view-7
 slice-aggregate-view-7 c = search needs
 
+slice-aggregate-view-8 : tie.Need-slice-aggregate-view-8
+slice-aggregate-view-8 c = search needs
+
 view-requires : tie.Need-view-requires
 view-requires c κs =
-    let test = c .before .before .before .before .before .before .before .before in
-    let decided = test .before .before .before .before .before .before .before .before .before in
-    record { watch = _; found = decided .decide .ensures .finds (test .if1 .left) }
+    let decide′ = c .before .before .before .before .before .before .before .before .before .before .before .before .before .before .before .before .before .before .before .decide in
+    record { watch = _; found = decide′ .ensures .0 .finds (c .before .before .before .before .before .before .before .before .before .if1 .left); notes = decide′ .ensures .1; long = search needs }
 
 same-length : tie.Need-same-length
 same-length c = search needs
@@ -85,6 +88,7 @@ viewed-spec =
     slice-aggregate-decide-6
     slice-aggregate-decide-7
     nowhere-requires
+    slice-aggregate-decide-8
     decide-requires
     returns
     slice-aggregate-view
@@ -94,6 +98,7 @@ viewed-spec =
     slice-aggregate-view-5
     slice-aggregate-view-6
     slice-aggregate-view-7
+    slice-aggregate-view-8
     view-requires
     same-length
     returns-2)
