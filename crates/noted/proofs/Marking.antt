@@ -20,7 +20,7 @@ use Rattle.words.specs.Cursor.{span}
 use Rattle.data.proofs.Characters.{no-other}
 use Rattle.feeds.specs.declared.Feed.{Feed}
 use Rattle.feeds.specs.Feeds.{NextWord}
-use Rattle.timing.specs.Marks.{charsMost, tableSize, mark}
+use Rattle.timing.specs.Marks.{charsMost, mark}
 use Rattle.assigns.specs.Given.{charOf, chars}
 use Rattle.measures.specs.Uses.{Given}
 use Rattle.arguments.specs.Supplied.{DataAt, Supplied}

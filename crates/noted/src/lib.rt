@@ -1,21 +1,24 @@
 // What a text assigns at all: a mark for each signal and character that one of its V's, C's or arguments gives it.
 ghost use mathlib.Core.Path.{_≡_};
+ghost use mathlib.Core.Bool.{true};
 ghost use mathlib.Core.List.{List};
-ghost use Prim.Native.Nat.{ℕ, _*_, _<_};
+ghost use Prim.Native.Nat.{ℕ, _*_, _<_, _≤_};
 ghost use lib.ListN.{length};
-ghost use Rattle.meaning.specs.Bounds.{signalsMost};
+ghost use Rattle.meaning.specs.Bounds.{signalsMost, tablesMost};
+ghost use Rattle.meaning.specs.Timing.{Tables};
 ghost use Rattle.meaning.specs.Body.{Assigns, Args};
 ghost use Rattle.timing.specs.Marks.{tableSize};
+ghost use Rattle.timing.specs.Held.{Held};
 ghost use Rattle.measures.specs.Uses.{Given};
 ghost use Rattle.arguments.specs.Supplied.{Supplied, DataAt};
-ghost use Rattle.noted.specs.Noted.{Grows, CharNoted, CharsNoted, Gives, Supplies};
+ghost use Rattle.noted.specs.Noted.{Grows, CharNoted, CharsNoted, Gives, Supplies, Covered, Fine};
 
 // `#`, in place of a character.
 const MARK: u8 = 35;
 
 const CHARS: usize = 128;
 
-// The marks of all signals.
+// How long the marks are.
 pub const USED: usize = sets::MOST * CHARS;
 
 // ---- characters of a signal
@@ -87,4 +90,36 @@ pub fn note_args(text: &[u8], given: &[u8], args: &[usize], used: &mut [u8])
         }
         s += 1;
     }
+}
+
+// ---- waveforms for the marks
+
+// Has the table of number k a waveform for each mark? No branch for any, so that many are looked at together.
+fn covered(used: &[u8], waves: &[u8], k: usize) -> bool
+    requires { ⌜ (length (now used) ≡ tableSize) × (length (now waves) ≡ tablesMost * tableSize) × (k < tablesMost) ⌝ }
+    ensures { λ r. ⌜ (r ≡ true → Covered (now (used .entry)) (now (waves .entry)) k tableSize) ⌝ }
+{
+    let at = k * USED;
+    let mut missing = false;
+    let mut i = 0;
+    while i < USED {
+        missing = missing | ((used[i] != 0) & (waves[at + i] != 1));
+        i += 1;
+    }
+    !missing
+}
+
+// Has every table? Then no cycle can fail in which a table is in force.
+pub fn fine(used: &[u8], waves: &[u8], tables: usize) -> bool
+    requires { ⌜ (length (now used) ≡ tableSize) × (length (now waves) ≡ tablesMost * tableSize) × (tables ≤ tablesMost) ⌝ }
+    ensures { λ r. ⌜ (r ≡ true → (text tplaces : List ℕ) (count : ℕ) (tabs : Tables) → Held text tplaces (now (waves .entry)) count tabs → Fine tables (now (used .entry)) tabs) ⌝ }
+{
+    let mut k = 0;
+    while k < tables {
+        if !covered(used, waves, k) {
+            return false;
+        }
+        k += 1;
+    }
+    true
 }

@@ -1,13 +1,12 @@
 -- A signal's argument, one word after the other: each character that was read has a property, and one that has it already needs no second look.
 use Prim.Native.Nat.{ℕ, _+_, _≤_, _<_}
 use native.Mathlib.Omega.{arith}
-use native.Mathlib.Numerals.{add-one}
 use mathlib.Core.Path.{_≡_, refl, sym, ap, _∙_, subst}
-use mathlib.Core.Bool.{Bool, true, false, _||_}
+use mathlib.Core.Bool.{Bool, true, false}
 use mathlib.Core.List.{List, [], _∷_, _++_}
 use lib.Dec.{ltb, eqb}
 use lib.ListN.{length, getD, take, set, replicate, length-set, length-replicate, getD-replicate, List·getD-eq-default}
-use lib.Seq.{take-suc, getD-set-same, getD-set-other}
+use lib.Seq.{getD-set-same, getD-set-other}
 use borrow.Author.Tests.{ltb-true, ltb-false, eqb-true, eqb-false, eq-eqb}
 use Rattle.meaning.specs.Bounds.{signalsMost}
 use Rattle.meaning.specs.Lists.{has}
@@ -15,11 +14,11 @@ use Rattle.meaning.specs.Body.{Args, argOf}
 use Rattle.words.specs.Cursor.{span}
 use Rattle.feeds.specs.declared.Feed.{Feed}
 use Rattle.feeds.specs.Feeds.{NextWord}
-use Rattle.feeds.proofs.Worded.{Worded, worded}
 use Rattle.arguments.specs.Supplied.{DataAt, Supplied}
-use Rattle.arguments.proofs.Lists.{has-append, differ}
+use Rattle.arguments.proofs.Lists.{differ}
 use Rattle.arguments.proofs.Fits.{arg-none}
 use Rattle.arguments.proofs.Counted.{argument-none}
+use Rattle.noted.proofs.Reading.{take-more, has-more, Unread, unread-all, unread-word, unread-none}
 use Rattle.sums.specs.Parts.{lastOf}
 use Rattle.tallies.specs.Rows.{bytes, SeenWord}
 
@@ -37,86 +36,34 @@ last-word [] [] d a = refl
 last-word (x ∷ front) [] d a = absurd (differ (sym (a x (rw (eq-eqb x x refl)))))
 last-word front (x ∷ w) d a = refl
 
-or-left : (a b : Bool) → b ≡ false → (a || b) ≡ true → a ≡ true
-or-left true b h e = refl
-or-left false b h e = absurd (differ (sym e ∙ h))
-
-or-word : (a b z : Bool) → (a ≡ true → b ≡ true) → z ≡ false → (a || (b || z)) ≡ true → b ≡ true
-or-word true b z f n h = f refl
-or-word false b z f n h = or-left b z n h
-
 -- one more of a list
-module _ (w : List ℕ) (i : ℕ) (h : i < length w) where
-  take-more : take (i + 1) w ≡ take i w ++ (getD w i 0 ∷ [])
-  take-more = rw (add-one, take-suc w i 0 h)
-
-  pub last-more : (d : ℕ) → getD w i 0 ≡ lastOf (take (i + 1) w) d
-  unfolding lastOf
-  last-more d = sym (ap (λ (l : List ℕ). lastOf l d) take-more ∙ last-append (take i w) (getD w i 0 ∷ []) d)
-
-  has-more : {G : Type 0} (c : ℕ) → (has c (take i w) ≡ true → G) → (getD w i 0 ≡ c → G) → has c (take (i + 1) w) ≡ true → G
-  unfolding has
-  has-more {G} c f g e = by (eqb (getD w i 0) c) refl (sym (ap (has c) take-more ∙ has-append c (take i w) (getD w i 0 ∷ [])) ∙ e)
-    where
-      by : (z : Bool) → eqb (getD w i 0) c ≡ z → (has c (take i w) || has c (getD w i 0 ∷ [])) ≡ true → G
-      by true q k = g (eqb-true (getD w i 0) c q)
-      by false q k = f (or-left (has c (take i w)) _ (rw q) k)
+pub last-more : (w : List ℕ) (i : ℕ) → i < length w → (d : ℕ) → getD w i 0 ≡ lastOf (take (i + 1) w) d
+unfolding lastOf
+last-more w i h d = sym (ap (λ (l : List ℕ). lastOf l d) (take-more w i h) ∙ last-append (take i w) (getD w i 0 ∷ []) d)
 
 -- ---- the words up to a place: each of their characters has the property P
 
--- of the characters cs, those from the place on are unread
-pub record Unread (text cs : List ℕ) (at last : ℕ) (P : ℕ → Type 0) : Type 0 where
-  pub rest : List ℕ
-  pub read : DataAt text at rest
-  pub last-is : lastOf cs 0 ≡ lastOf rest last
-  pub each : (c : ℕ) → has c cs ≡ true → has c rest ≡ false → P c
-
 pub record Reading (text : List ℕ) (place at last : ℕ) (P : ℕ → Type 0) : Type 0 where
-  pub left : (cs : List ℕ) → DataAt text place cs → Unread text cs at last P
+  pub left : (cs : List ℕ) → DataAt text place cs → Unread text cs at P (λ rest. lastOf cs 0 ≡ lastOf rest last)
 
 module _ {text : List ℕ} {place : ℕ} where
   pub reading-none : {P : ℕ → Type 0} → Reading text place place 0 P
-  reading-none = record { left = λ cs d. record { rest = cs; read = d; last-is = refl; each = λ c h n. absurd (differ (sym h ∙ n)) } }
+  reading-none = record { left = λ cs d. unread-all d refl }
 
   module _ {at last : ℕ} {f : Feed} {P : ℕ → Type 0} (y : Reading text place at last P) (n : NextWord text at f) where
     -- one more, behind which the property may be another
     pub reading-word : {w : List ℕ} {last′ : ℕ} {Q : ℕ → Type 0} → w ≡ span text (f .at) (f .end) → last′ ≡ lastOf w last → ((c : ℕ) → P c → Q c) → ((c : ℕ) → has c w ≡ true → Q c)
         → Reading text place (f .end) last′ Q
-    reading-word {w} {last′} {Q} e l k q = record { left = λ cs d. step cs (y .left cs d) }
+    reading-word {w} {last′} e l k q = record { left = λ cs d. unread-word (y .left cs d) n e k q λ front rest a h. h ∙ behind front rest a }
       where
-        step : (cs : List ℕ) → Unread text cs at last P → Unread text cs (f .end) last′ Q
-        step cs u = by (worded (n .feeds (u .rest) (u .read .0) (u .read .1) (u .read .2)))
-          where
-            by : Worded text f (u .rest) → Unread text cs (f .end) last′ Q
-            by x =
-                record {
-                  rest = x .rest;
-                  read = (x .last, x .others, x .read);
-                  last-is =
-                      u .last-is ∙ ap (λ (z : List ℕ). lastOf z last) is ∙ last-append (x .front) (w ++ x .rest) last
-                      ∙ last-append w (x .rest) (lastOf (x .front) last) ∙ ap (lastOf (x .rest)) (last-word (x .front) w last among ∙ sym l);
-                  each = λ c h o. either c (has c (u .rest)) refl h o;
-                }
-              where
-                is : u .rest ≡ x .front ++ (w ++ x .rest)
-                is = x .is ∙ ap (λ (z : List ℕ). x .front ++ (z ++ x .rest)) (sym e)
-
-                among : (c : ℕ) → has c (x .front) ≡ true → has c w ≡ true
-                among c h = ap (has c) e ∙ x .among c h
-
-                either : (c : ℕ) (z : Bool) → has c (u .rest) ≡ z → has c cs ≡ true → has c (x .rest) ≡ false → Q c
-                either c true r h o =
-                    q c (or-word (has c (x .front)) (has c w) (has c (x .rest)) (among c) o
-                    (sym (ap (has c) is ∙ has-append c (x .front) (w ++ x .rest) ∙ ap (λ (z : Bool). has c (x .front) || z) (has-append c w (x .rest))) ∙ r))
-                either c false r h o = k c (u .each c h r)
+        behind : (front rest : List ℕ) → ((c : ℕ) → has c front ≡ true → has c w ≡ true) → lastOf (front ++ (w ++ rest)) last ≡ lastOf rest last′
+        behind front rest a =
+            last-append front (w ++ rest) last ∙ last-append w rest (lastOf front last) ∙ ap (lastOf rest) (last-word front w last a ∙ sym l)
 
     -- there are no more
     pub reading-all : f .end ≤ f .at → (cs : List ℕ) → DataAt text place cs → (last ≡ lastOf cs 0) × ((c : ℕ) → has c cs ≡ true → P c)
-    unfolding lastOf has
-    reading-all h cs d =
-        let u = y .left cs d in
-        let e : u .rest ≡ [] = n .ends (u .rest) (u .read .0) (u .read .1) (u .read .2) h in
-        (sym (u .last-is ∙ ap (λ (l : List ℕ). lastOf l last) e), λ c k. u .each c k (ap (has c) e))
+    unfolding lastOf
+    reading-all h cs d = let u = unread-none (y .left cs d) n h in (sym (u .0), u .1)
 
 -- a signal that has no argument
 pub reading-unsupplied : {text : List ℕ} {xs : Args} {given args : List ℕ} → Supplied text xs given args → (i : ℕ) → i < signalsMost → getD given i 0 ≡ 0
