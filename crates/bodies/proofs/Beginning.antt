@@ -23,7 +23,7 @@ use Rattle.bodies.specs.Bodies.{Notes, Counted, Summed, Held, HeadIs, we
 use Rattle.bodies.specs.declared.Turn.{Turn}
 use Rattle.bodies.proofs.Allowed.{allowed-head}
 use Rattle.bodies.proofs.Noting.{notes-none, notes-vector, notes-assigning, notes-choosing, notes-shift, notes-entered, notes-looped}
-use Rattle.bodies.proofs.Entering.{noted-head}
+use Rattle.bodies.proofs.Entering.{stated, noted-head}
 use Rattle.bodies.proofs.Telling.{told-ends, told-vector, told-assigns, told-chooses, told-loops, told-shifts, told-uses}
 use Rattle.bodies.proofs.Stating.{Plus, turned-ends, turned-refused, turned-vector, turned-setting, turned-used, turned-shift, turned-loop}
 
@@ -86,11 +86,11 @@ module _ {text book given args : List ℕ} {tables : ℕ} {e : Env} {own : Bool}
           → ((k : Kind) (a : Args) (b : Body) → Measures b w → Measures (inner (entered k n a) b done) y) → r ≡ went (h .cursor) z seen
           → Grows used used′ → ((a : Args) → Supplied text a given args → Supplies used′ a)
           → Begun text e own d c seen x row r row (Notes tables e used used′)
-      begun-used {w = w} q f m s grows note =
+      begun-used {i = i} {w = w} q f m s grows note =
           let g = told-uses t live q in
           whole s refl
           (turned-used p (g .3) (m _ (g .2) (g .1 .body) (subst (Measures (g .1 .body)) (sym f) (g .5 .entry .measured)))
-          (λ l. notes-entered grows (λ k. gave (noted-head tables used e own d seen k) (g .3) live) (note (g .2) (g .6))))
+          (λ l. notes-entered grows (stated i) (λ k. gave (noted-head tables used e own d seen k) (g .3) live) (note (g .2) (g .6))))
 
 -- ---- the whole statement: with the body of a Loop, if it is one
 

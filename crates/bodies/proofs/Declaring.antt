@@ -15,6 +15,7 @@ use Rattle.meaning.specs.Names.{newName}
 use Rattle.meaning.specs.Body.{done}
 use Rattle.meaning.specs.Statements.{Decl, Decls, Env, statements, declared}
 use Rattle.meaning.specs.Document.{oneBody, bodiesOf, oneMacro, oneProcedure}
+use Rattle.held.proofs.All.{all-more}
 use Rattle.words.specs.declared.Cursor.{Cursor}
 use Rattle.words.specs.Cursor.{ahead, alive, from, Goes, Checked}
 use Rattle.words.specs.Table.{names}
@@ -38,7 +39,7 @@ use Rattle.heads.proofs.Callers.{describes-frame}
 use Rattle.bodies.specs.Bodies.{Notes, Summed}
 use Rattle.bodies.specs.Blocks.{oneMore, oneOf, Declared}
 use Rattle.bodies.proofs.Stating.{differ}
-use Rattle.bodies.proofs.Noting.{knows-grow, all-more}
+use Rattle.bodies.proofs.Noting.{knows-grow}
 use Rattle.bodies.proofs.Callers.{declared-made}
 
 -- ---- the tables with one body more
@@ -95,8 +96,8 @@ module _ {text places lists tplaces book rows : List ℕ} {known : Known} {e : E
 -- and noted as they are
 knows-one : (known : Known) (used : List ℕ) (e : Env) (x : Tok × Decl) → Knows (known .tables) used e → Noted (known .tables) used (x .1 .body) → (macros : Bool)
     → Knows (oneMore known macros .tables) used (withDecls e macros (declsOf e macros ++ x ∷ []))
-knows-one known used e x h n true = record { macros = all-more (known .tables) used (e .macros) x (h .macros) n; procs = h .procs }
-knows-one known used e x h n false = record { macros = h .macros; procs = all-more (known .tables) used (e .procs) x (h .procs) n }
+knows-one known used e x h n true = record { macros = all-more _ (e .macros) x (h .macros) n; procs = h .procs }
+knows-one known used e x h n false = record { macros = h .macros; procs = all-more _ (e .procs) x (h .procs) n }
 
 -- ---- the next number of a kind
 

@@ -1,21 +1,30 @@
 -- A head that uses a body uses one of those that are declared: where all those are noted, so is it.
 use Prim.Native.Nat.{ℕ}
-use native.Mathlib.Omega.{arith}
-use mathlib.Core.Path.{_≡_, subst}
 use mathlib.Core.Bool.{Bool, true, false}
-use mathlib.Core.Option.{Option, some}
-use mathlib.Core.List.{List, [], _∷_}
-use Rattle.tokens.specs.Written.{same}
+use mathlib.Core.List.{List}
+use lib.Dec.{ltb}
 use Rattle.tokens.specs.Tokens.{Tok}
-use Rattle.meaning.specs.Names.{find, oldName}
+use Rattle.meaning.specs.Names.{oldName}
 use Rattle.meaning.specs.Signals.{Names}
-use Rattle.meaning.specs.Body.{Kind}
+use Rattle.meaning.specs.Body.{Kind, macro, procedure}
 use Rattle.meaning.specs.Statements.{Decl, Decls, Env, Head, ends, vecs, sets, loops, shifts, uses, used, chosen, looping, shiftHead, head}
 use Rattle.meaning.proofs.Gives.{Gives, gives-bind, gives-after, gives-give, gives-choose}
 use Rattle.meaning.proofs.Choices.{_also_}
 use Rattle.signals.proofs.Tidy.{gives-known}
-use Rattle.noted.specs.Noted.{Noted}
+use Rattle.held.proofs.All.{all-found}
+use Rattle.measures.specs.Book.{firstProcedure}
+use Rattle.heads.specs.Heads.{kindOf}
+use Rattle.noted.specs.Noted.{Stated, Noted}
 use Rattle.noted.specs.Known.{AllNoted, Knows}
+
+-- it is a macro or a procedure
+pub stated : (i : ℕ) → Stated (kindOf i)
+unfolding kindOf
+stated i = by (ltb i firstProcedure)
+  where
+    by : (b : Bool) → Stated (elim b [ true ↦ macro | false ↦ procedure ])
+    by true = tt
+    by false = tt
 
 module _ (tables : ℕ) (marks : List ℕ) where
   abbrev pub UsesNoted : Head → Type 0
@@ -26,20 +35,10 @@ module _ (tables : ℕ) (marks : List ℕ) where
   UsesNoted shifts = Unit {0}
   UsesNoted (uses k x t a) = Noted tables marks (x .body)
 
-  noted-found : (ds : Decls) → AllNoted tables marks ds → (w : List ℕ) (u : Decl) → find ds w ≡ some u → Noted tables marks (u .body)
-  unfolding find AllNoted
-  noted-found [] h w u e = let z : _≡_ {A = ℕ} 0 1 = cc in absurd (omega arith)
-  noted-found (x ∷ ds) h w u e = by (same (x .0 .word) w) e (noted-found ds (h .1) w u)
-    where
-      by : (b : Bool) → _≡_ {A = Option Decl} (elim b [ true ↦ some (x .1) | false ↦ find ds w ]) (some u) → (find ds w ≡ some u → Noted tables marks (u .body))
-          → Noted tables marks (u .body)
-      by true e r = let q : x .1 ≡ u = cc in subst (λ (u : Decl). Noted tables marks (u .body)) q (h .0)
-      by false e r = r e
-
   noted-old : (ds : Decls) → AllNoted tables marks ds → Gives (λ x. Noted tables marks (x .1 .body)) (oldName ds)
   unfolding oldName
   noted-old ds h =
-      gives-after P _ _ λ t. gives-bind (λ u. Noted tables marks (u .body)) P _ _ (gives-known _ _ _ _ (noted-found ds h (t .word))) λ u q. gives-give P (t, u) q
+      gives-after P _ _ λ t. gives-bind (λ u. Noted tables marks (u .body)) P _ _ (gives-known _ _ _ _ (λ u e. all-found P ds h (t .word) u e .1)) λ u q. gives-give P (t, u) q
     where
       P : Tok × Decl → Type 0
       P x = Noted tables marks (x .1 .body)

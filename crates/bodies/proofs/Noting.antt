@@ -1,11 +1,11 @@
 -- What was noted stays noted, and what is read behind it is noted too.
 use Prim.Native.Nat.{ℕ, _<_}
-use mathlib.Core.List.{List, [], _∷_, _++_}
-use Rattle.tokens.specs.Tokens.{Tok}
+use mathlib.Core.List.{List, [], _∷_}
 use Rattle.meaning.specs.Body.{Assigns, Args, Setting, assigning, choosing, Kind, Way, looped, shifted, entered, Body, done, vec, set′, inner}
-use Rattle.meaning.specs.Statements.{Decl, Decls, Env}
+use Rattle.meaning.specs.Statements.{Decls, Env}
+use Rattle.held.specs.Held.{All}
 use Rattle.measures.specs.Measures.{joined}
-use Rattle.noted.specs.Noted.{Grows, Gives, Supplies, Sets, Enters, Noted}
+use Rattle.noted.specs.Noted.{Grows, Gives, Supplies, Sets, Stated, Enters, Noted}
 use Rattle.noted.specs.Known.{AllNoted, Knows}
 use Rattle.bodies.specs.Bodies.{Notes}
 
@@ -26,7 +26,7 @@ module _ {used used′ : List ℕ} (g : Grows used used′) where
   unfolding Enters
   enters-grow (looped n) h = tt
   enters-grow shifted h = tt
-  enters-grow (entered k t a) h = supplies-grow a h
+  enters-grow (entered k t a) h = (h .0, supplies-grow a (h .1))
 
   module _ (tables : ℕ) where
     sets-grow : (x : Setting) → Sets tables used x → Sets tables used′ x
@@ -42,27 +42,20 @@ module _ {used used′ : List ℕ} (g : Grows used used′) where
     noted-grow (inner w b r) h = (enters-grow w (h .0), noted-grow b (h .1), noted-grow r (h .2))
 
     pub all-grow : (ds : Decls) → AllNoted tables used ds → AllNoted tables used′ ds
-    unfolding AllNoted
+    unfolding All
     all-grow [] h = tt
     all-grow (x ∷ xs) h = (noted-grow (x .1 .body) (h .0), all-grow xs (h .1))
 
   pub knows-grow : {tables : ℕ} {e : Env} → Knows tables used e → Knows tables used′ e
   knows-grow {tables} {e} h = record { macros = all-grow tables (e .macros) (h .macros); procs = all-grow tables (e .procs) (h .procs) }
 
--- ---- one more behind others
-
+-- statements behind others
 noted-joined : (tables : ℕ) (used : List ℕ) (a b : Body) → Noted tables used a → Noted tables used b → Noted tables used (joined a b)
 unfolding Noted joined
 noted-joined tables used done b h k = k
 noted-joined tables used (vec p x r) b h k = (h .0, noted-joined tables used r b (h .1) k)
 noted-joined tables used (set′ x r) b h k = (h .0, noted-joined tables used r b (h .1) k)
 noted-joined tables used (inner w c r) b h k = (h .0, h .1, noted-joined tables used r b (h .2) k)
-
-pub all-more : (tables : ℕ) (used : List ℕ) (ds : Decls) (x : Tok × Decl) → AllNoted tables used ds → Noted tables used (x .1 .body)
-    → AllNoted tables used (ds ++ x ∷ [])
-unfolding AllNoted
-all-more tables used [] x h k = (k, tt)
-all-more tables used (y ∷ ds) x h k = (h .0, all-more tables used ds x (h .1) k)
 
 -- ---- one statement
 
@@ -89,10 +82,10 @@ module _ {tables : ℕ} {e : Env} {used used′ : List ℕ} where
 
   module _ (g : Grows used used′) where
     -- one that enters a body which was noted
-    pub notes-entered : {k : Kind} {t : ℕ} {a : Args} {b : Body} → (Knows tables used e → Noted tables used b) → Supplies used′ a
+    pub notes-entered : {k : Kind} {t : ℕ} {a : Args} {b : Body} → Stated k → (Knows tables used e → Noted tables used b) → Supplies used′ a
         → Notes tables e used used′ (inner (entered k t a) b done)
     unfolding Noted Enters
-    notes-entered {b = b} h s = record { noted = λ k. (s, noted-grow g tables b (h k), tt) }
+    notes-entered {b = b} i h s = record { noted = λ k. ((i, s), noted-grow g tables b (h k), tt) }
 
     module _ {used″ : List ℕ} where
       -- a Loop, behind its head

@@ -18,6 +18,8 @@ use Rattle.meaning.specs.Statements.{Decl, Decls, Env, statements, declared}
 use Rattle.meaning.specs.Meaning.{firsts}
 use Rattle.meaning.specs.Document.{besides, pattern, over}
 use Rattle.meaning.proofs.Takes.{Takes}
+use Rattle.held.specs.Held.{All}
+use Rattle.held.proofs.All.{all-more}
 use Rattle.held.proofs.Rest.{moves-takes}
 use Rattle.held.proofs.Grammar.{moves-pattern}
 use Rattle.words.specs.declared.Cursor.{Cursor}
@@ -34,9 +36,8 @@ use Rattle.measures.proofs.Book.{listed-map, entry-new, used-beside, entries-mo
 use Rattle.heads.specs.declared.Known.{Known}
 use Rattle.heads.specs.Known.{Describes}
 use Rattle.noted.specs.Noted.{Grows}
-use Rattle.noted.specs.Known.{AllNoted}
 use Rattle.bodies.specs.Bodies.{Notes, Summed}
-use Rattle.bodies.proofs.Noting.{knows-grow, all-grow, all-more}
+use Rattle.bodies.proofs.Noting.{knows-grow, all-grow}
 use Rattle.bodies.proofs.Callers.{declared-made}
 use Rattle.texts.specs.Patterns.{burstAs, Patterned}
 
@@ -79,7 +80,7 @@ module _ {text places lists tplaces book book′ rows : List ℕ} {known : Known
   -- the burst was kept: there is no pattern yet
   pub burst-kept : i ≡ burst → start ≡ 0 → Measures done x → Describes text places lists tplaces book rows known e
       → {used : List ℕ} → Patterned text places lists tplaces book′ rows known 0 e (ahead text c) used used []
-  unfolding Listed AllNoted
+  unfolding Listed All
   burst-kept h z m s =
       record {
         describes = describes-beside (omega arith) s;
@@ -141,5 +142,5 @@ module _ {text places lists tplaces book rows : List ℕ} {known : Known} {count
           few = omega arith;
           noted = λ n.
               let was = s .noted n in
-              (knows-grow grows (was .0), all-more (known .tables) used′ ps (ahead text o, body-made .it) (all-grow grows (known .tables) ps (was .1)) (h .1 .noted .noted (was .0)));
+              (knows-grow grows (was .0), all-more _ ps (ahead text o, body-made .it) (all-grow grows (known .tables) ps (was .1)) (h .1 .noted .noted (was .0)));
         })

@@ -12,6 +12,7 @@ use Rattle.meaning.specs.Reader.{ok, give}
 use Rattle.meaning.specs.Signals.{Names}
 use Rattle.meaning.specs.Document.{bodies, Read, document}
 use Rattle.meaning.specs.Meaning.{firsts, tableAt}
+use Rattle.held.specs.Held.{All}
 use Rattle.held.proofs.Parts.{firstEnv}
 use Rattle.held.proofs.Bodies.{bodies-stay}
 use Rattle.words.specs.Cursor.{stream, Stands, alive, from, Goes}
@@ -180,7 +181,7 @@ module _ {text places lists tplaces waves : List ℕ} {c a : Cursor} {signals na
             → Makes text b (ending (f .it)) (n .cursor) (Ends text places lists tplaces book′ rows′ list known n (f .it) used used′)
             → NotesRead text used′
             (record { cursor = n .cursor; signals = signals; known = known; listed = n .listed; patterns = n .patterns; found = found; place = place })
-        unfolding blocks AllNoted
+        unfolding blocks All
         notes-all g =
             notes-from s (then _ (d .goes) (then _ (f .goes) (then _ (g .goes) given)))
             (λ end. g .held end .patterned .noted (f .held (alive-before (g .goes) end) .knows (record { macros = tt; procs = tt })) .1)
