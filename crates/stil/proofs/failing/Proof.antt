@@ -1,5 +1,5 @@
--- `failing` meets its contract: a plain text's cycles all pass; any other text is summed up.
-use borrow.Author.Needs.{needs}
+-- `failing` meets its contract: no cycle of a plain text fails, and any other is summed up.
+use Rattle.assigns.proofs.Table.{is-true}
 use Rattle.plays.proofs.Texts.{decides-sound}
 use Rattle.stil.proofs.Found.{runs}
 use Rattle.stil.proofs.failing.Statement.{statement}
@@ -7,29 +7,30 @@ use Rattle.stil.proofs.failing.Tie as tie
 
 plain-requires : tie.Need-plain-requires
 plain-requires c κs =
-    let tabled = c .before .before .pre .found .tabled in
+    let start = c .before .before .before .before .before .before .before .before .before .before in
+    let tabled = start .pre .found .tabled in
     record {
       book-long = tabled .describes .book-long;
       waves-long = tabled .waves-long;
-      used-long = c .before .before .pre .long;
+      used-long = start .pre .long;
       few-tables = tabled .describes .few-tables;
       few-patterns = tabled .few-patterns;
     }
 
 summed-requires : tie.Need-summed-requires
-summed-requires c κs = (_, c .before .before .pre .found)
+summed-requires c κs = (_, c .before .before .before .before .before .before .before .before .before .before .before .before .pre .found)
 
 returns : tie.Need-returns
 returns c = c .summed .ensures
 
 returns-2 : tie.Need-returns-2
-returns-2 c = record { decides = λ f. decides-sound (c .before .plain .ensures (c .if1 .left) _ _ _ _ _ _ _ _ (runs f) (c .before .before .pre .notes .noted (f .it) (f .is))) }
+returns-2 c =
+    let start = c .before .before .before .before .before .before .before .before .before .before .before .before in
+    record {
+      decides = λ f.
+          decides-sound
+          (c .before .plain .ensures (is-true _ (c .if1 .left)) _ _ _ _ _ _ _ _ (runs f) (start .pre .notes .noted (f .it) (f .is)));
+    }
 
 pub failing-spec : {M : Type 1} → statement M
-failing-spec =
-    tie.close
-    (tie.spec
-    plain-requires
-    summed-requires
-    returns
-    returns-2)
+failing-spec = tie.close (tie.spec plain-requires summed-requires returns returns-2)

@@ -17,7 +17,7 @@ slice-aggregate-granted-2 c = search needs
 
 granted-requires : tie.Need-granted-requires
 granted-requires c κs = (
-  record { parts = _; read = _; body = _; runs = runs (c .before .before .before .before .before .before .before .before .before .before .before .before .before .pre .1) },
+  record { parts = _; read = _; body = _; runs = runs (c .before .before .before .before .before .before .before .before .before .before .before .before .pre .1) },
   record { marks-long = length-replicate {A = ℕ} 64 0; sums-long = length-replicate {A = ℕ} 89_571 0; unmarked = zeros 64 },
 )
 
@@ -31,7 +31,7 @@ slice-aggregate-first-failing-2 : tie.Need-slice-aggregate-first-failing-2
 slice-aggregate-first-failing-2 c = search needs
 
 first-failing-requires : tie.Need-first-failing-requires
-first-failing-requires c κs = record { parts = _; read = _; body = _; runs = runs (c .before .before .before .before .before .before .before .before .before .before .before .before .before .before .before .before .before .before .before .pre .1) }
+first-failing-requires c κs = record { parts = _; read = _; body = _; runs = runs (c .before .before .before .before .before .before .before .before .before .before .before .before .before .before .before .before .before .before .pre .1) }
 
 returns-2 : tie.Need-returns-2
 returns-2 c = record { decides = λ f. c .first-failing .ensures _ _ _ (runs f) (c .before .before .before .before .before .before .granted .ensures .2 _ _ _ (runs f) .0) }
