@@ -34,18 +34,25 @@ slice-aggregate-decide-7 c = search needs
 nowhere-requires : tie.Need-nowhere-requires
 nowhere-requires c κs = search needs
 
+slice-aggregate-decide-8 : tie.Need-slice-aggregate-decide-8
+slice-aggregate-decide-8 c = search needs
+
 decide-requires : tie.Need-decide-requires
 decide-requires c κs = (record { sized = record { all = refl; rows = refl }; tables = refl; marks = refl; unset = zeros 65_536 }, refl, refl, refl, refl)
 
 refused-requires : tie.Need-refused-requires
-refused-requires c κs = c .before .before .before .before .before .before .before .before .before .before .before .before .before .before .before .before .before .before .before .if1 .left
+refused-requires c κs = c .before .before .before .before .before .before .before .before .before .before .before .before .before .before .before .before .before .before .before .before .before .if1 .left
 
 same-length : tie.Need-same-length
 same-length c = search needs
 
 returns-2 : tie.Need-returns-2
 returns-2 c =
-    begins-refused (c .if1 .left) (meaning-refused _ (c .decide .ensures .0 .refuses (c .if2 .taken))) (c .refused .ensures)
+    let called = c .before .before in
+    let test = called .before .before in
+    let decided = test .before .before .before .before .before .before .before .before .before .before in
+    let large = decided .before .before .before .before .before .before .before .before .before .before in
+    begins-refused (large .if1 .left) (meaning-refused _ (decided .decide .ensures .0 .refuses (test .if2 .taken))) (called .refused .ensures)
 
 slice-aggregate-shown : tie.Need-slice-aggregate-shown
 slice-aggregate-shown c = search needs
@@ -68,10 +75,15 @@ slice-aggregate-shown-6 c = search needs
 slice-aggregate-shown-7 : tie.Need-slice-aggregate-shown-7
 slice-aggregate-shown-7 c = search needs
 
+slice-aggregate-shown-8 : tie.Need-slice-aggregate-shown-8
+slice-aggregate-shown-8 c = search needs
+
 shown-requires : tie.Need-shown-requires
 shown-requires c κs =
-    let decide′ = c .decide in
-    (c .if1 .left, record { watch = _; found = decide′ .ensures .0 .finds (c .if2 .left); notes = decide′ .ensures .1; long = search needs })
+    let test = c .before .before .before .before .before .before .before .before .before in
+    let decided = test .before .before .before .before .before .before .before .before .before .before in
+    let large = decided .before .before .before .before .before .before .before .before .before .before in
+    (large .if1 .left, record { watch = _; found = decided .decide .ensures .0 .finds (test .if2 .left); notes = decided .decide .ensures .1; long = search needs })
 
 same-length-2 : tie.Need-same-length-2
 same-length-2 c = search needs
@@ -92,6 +104,7 @@ begin-spec =
     slice-aggregate-decide-6
     slice-aggregate-decide-7
     nowhere-requires
+    slice-aggregate-decide-8
     decide-requires
     refused-requires
     same-length
@@ -103,6 +116,7 @@ begin-spec =
     slice-aggregate-shown-5
     slice-aggregate-shown-6
     slice-aggregate-shown-7
+    slice-aggregate-shown-8
     shown-requires
     same-length-2
     returns-3)
