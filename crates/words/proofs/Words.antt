@@ -83,12 +83,13 @@ unfolding same
 same-self [] = refl
 same-self (a ∷ w) = rw (eq-eqb a a refl) (same-self w)
 
--- a word of the text of another length
-pub length-differs : (text w : List ℕ) (at end : ℕ) → at < end → end ≤ length text → (end - at ≡ length w → ⊥) → false ≡ same (span text at end) w
-length-differs text w at end h k differs =
+-- a word of the text of another length: it would begin elsewhere, or before the text
+pub length-differs : (text w : List ℕ) (at end : ℕ) {b : ℕ} → EndsWith w b → end ≤ length text → (length w ≤ end → at ≡ end - length w → ⊥)
+    → false ≡ same (span text at end) w
+length-differs text w at end ends k differs =
     let long : length (span text at end) ≡ min (end - at) (length text - at) =
     length-take (end - at) (drop at text) ∙ ap (min (end - at)) (length-drop at text) in
-    sym (same-long (span text at end) w (λ q. differs (omega (arith, long, q))))
+    sym (same-long (span text at end) w (λ q. differs (omega (arith, long, q, ends .some)) (omega (arith, long, q, ends .some))))
 
 -- a word of the text whose last byte is another one
 pub last-differs : (text w : List ℕ) (at end : ℕ) {b : ℕ} → EndsWith w b → 0 < end → end ≤ length text → (getD text (end - 1) 0 ≡ b → ⊥)

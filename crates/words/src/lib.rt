@@ -395,17 +395,20 @@ fn is_named<'a>(text: &'a [u8], w: &'a [u8], last: u8, places: &'a [usize], j: u
     requires { ⌜ (j + 1 < length (now places)) × EndsWith (now w) last ⌝ }
     ensures { λ r. ⌜ r ≡ same (span (now (text .entry)) (getD (now (places .entry)) j 0) (getD (now (places .entry)) (j + 1) 0)) (now (w .entry)) ⌝ }
 {
-    let at = places[j];
     let end = places[j + 1];
-    if (at < end) & (end <= text.len()) {
-        if end - at != w.len() {
+    let n = w.len();
+    if end <= text.len() {
+        if end < n {
+            return false;
+        }
+        if places[j] != end - n {
             return false;
         }
         if text[end - 1] != last {
             return false;
         }
     }
-    equal_by_eights(bytes_of(text, at, end), w)
+    equal_by_eights(bytes_of(text, places[j], end), w)
 }
 
 // The number of the first of `count` names that is w; `count` where none is. The slow way, for words without a byte and tables cut short.
