@@ -55,6 +55,7 @@ helpLines = lines (
     ∷ "window FILE FIRST COUNT"
     ∷ "waveform FILE TABLE SIGNAL CHARACTER"
     ∷ "tokens FILE"
+    ∷ "intake FILE"
     ∷ "list FILE"
     ∷ "help"
     ∷ [])

@@ -178,7 +178,7 @@ pub fn help(page: &mut [u8], at: usize) -> usize
     pages::put(
         page,
         end,
-        b"waveform FILE TABLE SIGNAL CHARACTER\ntokens FILE\nlist FILE\nhelp\n",
+        b"waveform FILE TABLE SIGNAL CHARACTER\ntokens FILE\nintake FILE\nlist FILE\nhelp\n",
     )
 }
 

@@ -8,6 +8,7 @@ mod named;
 mod shaped;
 mod shown;
 mod split;
+mod stored;
 
 fn help() {
     if asked::no_more(2) {
@@ -15,10 +16,14 @@ fn help() {
     }
 }
 
-// The commands that ask for a listing or tokens, or for what the commands are.
+// The commands that ask for a listing, for tokens or for what is stored of a raw text, or for what the commands are.
 fn other(command: &[u8]) -> bool {
     if words::equal(command, b"tokens") {
         split::tokens();
+        return true;
+    }
+    if words::equal(command, b"intake") {
+        stored::intake();
         return true;
     }
     if words::equal(command, b"list") {

@@ -1,20 +1,29 @@
 // A text from a descriptor, and pages to standard output. No contract can say what is read or written: the work is done by functions on slices, which have theirs.
 ghost use mathlib.Core.Path.{_≡_};
 ghost use lib.ListN.{length};
-ghost use Rattle.streams.specs.Pages.{roomMost, rowsMost};
+ghost use Rattle.streams.specs.Pages.{roomMost, rawRoom, rowsMost};
 ghost use Rattle.io.specs.Counts.{Counts};
 
 // One byte more than a text may have, so that one that is too long is refused and never cut.
 const TEXT: usize = 65_537;
 
+// The same of a raw text.
+const RAW: usize = 1_048_577;
+
 // A page of rows.
 pub const ROWS: usize = 1_048_576;
 
-// Room for a text, and for a page of rows. They are made here alone: a caller's proof then sees the length, and not a million zeros.
+// Room for a text, for a raw text, and for a page of rows. They are made here alone: a caller's proof then sees the length, and not a million zeros.
 pub fn room() -> [u8; TEXT]
     ensures { λ r. ⌜ roomMost ≡ length r ⌝ }
 {
     [0; TEXT]
+}
+
+pub fn raw() -> [u8; RAW]
+    ensures { λ r. ⌜ rawRoom ≡ length r ⌝ }
+{
+    [0; RAW]
 }
 
 pub fn rows() -> [u8; ROWS]
