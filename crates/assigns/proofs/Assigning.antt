@@ -14,6 +14,7 @@ use Rattle.meaning.specs.Lists.{has, meets}
 use Rattle.meaning.specs.Reader.{due}
 use Rattle.meaning.specs.Names.{oldName}
 use Rattle.meaning.specs.Data.{dataRead, paired, assigned, assign}
+use Rattle.meaning.proofs.Gives.{no-not}
 use Rattle.sets.proofs.Tidy.{TidyBelow}
 use Rattle.words.specs.declared.Cursor.{Cursor}
 use Rattle.words.specs.Cursor.{ahead as aheadTok, alive, Goes, Checked}
@@ -28,7 +29,7 @@ use Rattle.data.proofs.Held.{held, told, length-due}
 use Rattle.data.proofs.Characters.{no-zero}
 use Rattle.assigns.specs.Given.{Gave, Gives, placed, Row, Ready}
 use Rattle.assigns.proofs.Rows.{row-most}
-use Rattle.assigns.proofs.Table.{is-true, gave-more, placed-take}
+use Rattle.assigns.proofs.Table.{gave-more, placed-take}
 use Rattle.assigns.proofs.Read.{tidy-name}
 
 off-on : (c : Cursor) → alive c ≡ false → alive c ≡ true → ⊥
@@ -103,7 +104,7 @@ module _ {text places lists : List ℕ} {count : ℕ} {may : Bool} {c r : Cursor
   right (assign-read {n = n} name once equals fills same size) live room =
       let read = alive-before (checked {text = text} same refl refl) live in
       let exact : n ≡ length (listAt lists i) =
-      eqb-true n (length (listAt lists i)) (is-true (eqb n (length (listAt lists i))) (sym size ∙ passed same refl live)) in
+      eqb-true n (length (listAt lists i)) (no-not (eqb n (length (listAt lists i))) (sym size ∙ passed same refl live)) in
       record {
         once = passed once refl (alive-before equals (alive-before (fills .goes) read));
         front =

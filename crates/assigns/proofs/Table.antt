@@ -18,10 +18,6 @@ use Rattle.assigns.specs.Given.{charOf, chars, Gave, placed}
 pub differ : true ≡ false → ⊥
 differ e = let z : _≡_ {A = ℕ} 0 1 = cc in omega arith
 
-pub is-true : (z : Bool) → not z ≡ false → z ≡ true
-is-true true h = refl
-is-true false h = absurd (differ h)
-
 pub or-false : (x y : Bool) → (x || y) ≡ false → (x ≡ false) × (y ≡ false)
 or-false true y h = absurd (differ h)
 or-false false y h = (refl, h)

@@ -12,19 +12,10 @@ use Rattle.meaning.specs.Reader.{ok, after, _>>=_, give, any, due, dueOf, oneOf
 use Rattle.meaning.specs.Names.{name, newName}
 use Rattle.meaning.specs.Data.{assigns}
 use Rattle.meaning.specs.Statements.{Env, ends, vecs, head}
+use Rattle.meaning.proofs.Gives.{no-not}
+use Rattle.meaning.proofs.Others.{same-is}
 use Rattle.held.specs.Held.{freeHead}
 use Rattle.held.proofs.Leads.{Leads, leads-bind, leads-give, leads-if}
-
-pub same-is : (s t : List ℕ) → same s t ≡ true → s ≡ t
-unfolding same
-same-is [] [] e = refl
-same-is [] (b ∷ t) e = let z : _≡_ {A = ℕ} 0 1 = cc in absurd (omega arith)
-same-is (a ∷ s) [] e = let z : _≡_ {A = ℕ} 0 1 = cc in absurd (omega arith)
-same-is (a ∷ s) (b ∷ t) e = by (eqb a b) refl e (same-is s t)
-  where
-    by : (x : Bool) → eqb a b ≡ x → (x && same s t) ≡ true → (same s t ≡ true → s ≡ t) → _≡_ {A = List ℕ} (a ∷ s) (b ∷ t)
-    by true q e ih = let x = ih e in let y = eqb-true a b q in cc
-    by false q e ih = let z : _≡_ {A = ℕ} 0 1 = cc in absurd (omega arith)
 
 -- ---- a token that was read is the one that stood there
 
@@ -44,10 +35,6 @@ name-is ts = leads-bind _ _ λ t us q. leads-if _ _ _ _ λ c. leads-give t (word
 pub new-is : {A : Type 0} (used : List (Tok × A)) (ts : Toks) → Leads (newName used) ts (λ t us. ts ≡ tok t us)
 unfolding newName
 new-is used ts = leads-bind _ _ λ t us q. leads-if _ _ _ _ λ c. leads-give t (name-is ts .all t us q)
-
-no-not : (b : Bool) → not b ≡ false → b ≡ true
-no-not true e = refl
-no-not false e = let z : _≡_ {A = ℕ} 0 1 = cc in absurd (omega arith)
 
 pub due-is : (w : List ℕ) (ts : Toks) → Leads (dueOf w) ts (λ p us. ts ≡ tok (record { at = p; word = w }) us)
 unfolding dueOf

@@ -15,7 +15,7 @@ use Rattle.meaning.specs.Names.{reserved, among, isName, name, newName}
 use Rattle.meaning.specs.Signals.{Names, signal, signals}
 use Rattle.meaning.specs.Timing.{Tables, table, timing}
 use Rattle.meaning.specs.Meaning.{firsts}
-use Rattle.meaning.proofs.Gives.{Gives, gives-bind, gives-after, gives-give, gives-if, gives-until}
+use Rattle.meaning.proofs.Gives.{no-not, Gives, gives-bind, gives-after, gives-give, gives-if, gives-until}
 use Rattle.arguments.proofs.Lists.{both}
 use Rattle.sections.specs.Listing.{Short}
 
@@ -23,10 +23,6 @@ use Rattle.sections.specs.Listing.{Short}
 
 abbrev Few : Tok → Type 0
 Few t = length (t .word) ≤ nameMost
-
-yes : (b : Bool) → not b ≡ false → b ≡ true
-yes true e = cc
-yes false e = let z : _≡_ {A = ℕ} 0 1 = cc in absurd (omega arith)
 
 name-few : (w : List ℕ) → isName w ≡ true → length w ≤ nameMost
 unfolding isName
@@ -40,7 +36,7 @@ name-few (b ∷ s) e =
 
 names-few : Gives Few name
 unfolding name
-names-few = gives-after Few _ _ λ t. gives-bind (λ u. not (isName (t .word)) ≡ false) Few _ _ (gives-if _ _ _) λ u h. gives-give Few t (name-few (t .word) (yes (isName (t .word)) h))
+names-few = gives-after Few _ _ λ t. gives-bind (λ u. not (isName (t .word)) ≡ false) Few _ _ (gives-if _ _ _) λ u h. gives-give Few t (name-few (t .word) (no-not (isName (t .word)) h))
 
 -- ---- and so all of them
 

@@ -19,7 +19,7 @@ use Rattle.meaning.specs.Body.{Assigns, Args, mark, Kind, Body}
 use Rattle.meaning.specs.Data.{charsOf, repeatOf, times, repeated, piece, part, dataRead, assign, assigns, argument, arguments}
 use Rattle.meaning.specs.Statements.{Decl, Decls, Env, Head, ends, vecs, sets, loops, shifts, uses, used, chosen, looping, shiftHead, head, inShift, behind, statementsF, statements, declared}
 use Rattle.meaning.specs.Edited.{fromBrace}
-use Rattle.meaning.proofs.Gives.{bind-ok, give-ok, if-ok, gives-if}
+use Rattle.meaning.proofs.Gives.{bind-ok, give-ok, if-ok, no-not, gives-if}
 use Rattle.meaning.proofs.Choices.{_also_}
 use Rattle.meaning.proofs.Others.{same-is}
 use Rattle.meaning.proofs.Alike.{within-ok}
@@ -129,10 +129,6 @@ module _ {A : Type 0} {k : A → ℕ → ℕ} {g : Tok → Reader A} where
       by : (d : ℕ) (ts : Toks) (a : A) (us : Toks) → (any >>= g) ts ≡ ok a us → shut (suc d) ts ≡ shut (k a d) us
       by d (stop n p) a us e = let z : _≡_ {A = ℕ} 0 1 = cc in absurd (omega arith)
       by d (tok t ts) a us e = h t .goes d ts a us e
-
-no-not : (b : Bool) → not b ≡ false → b ≡ true
-no-not true e = refl
-no-not false e = let z : _≡_ {A = ℕ} 0 1 = cc in absurd (omega arith)
 
 levels-due : (w : List ℕ) → Levels suc (λ p. levelBehind w) (dueOf w)
 unfolding dueOf

@@ -39,6 +39,11 @@ pub bind-go : {A B : Type 0} (m : Reader A) (f : A → Reader B) (ts : Toks) (a 
 unfolding _>>=_ after
 bind-go {A} m f ts a vs e = ap (λ (r : Res A). after r f) e
 
+-- a test that refuses what is not so has passed
+pub no-not : (b : Bool) → not b ≡ false → b ≡ true
+no-not true e = refl
+no-not false e = let z : _≡_ {A = ℕ} 0 1 = cc in absurd (omega arith)
+
 -- whatever it answers has P
 pub record Gives {A : Type 0} (P : A → Type 0) (m : Reader A) : Type 0 where
   pub all : (ts : Toks) (a : A) (us : Toks) → m ts ≡ ok a us → P a
