@@ -5,7 +5,6 @@ use mathlib.Core.Path.{_≡_, refl, sym, ap, _∙_}
 use mathlib.Core.Bool.{Bool, true, false, not, _&&_, _||_}
 use mathlib.Core.Option.{Option, none, some}
 use mathlib.Core.List.{List, [], _∷_, _++_}
-use lib.ListN.{replicate}
 use lib.Dec.{eqb}
 use borrow.Author.Tests.{eqb-true}
 use Rattle.tokens.specs.Bytes.{between, digit, letter}
@@ -81,15 +80,10 @@ module _ (b : ℕ) where
   without-++ [] ds h k = k
   without-++ (c ∷ cs) ds h k = let p = without-parts c cs h in without-cons c (cs ++ ds) (p .0) (without-++ cs ds (p .1) k)
 
-  without-replicate : (n c : ℕ) → eqb c b ≡ false → Without (replicate n c)
-  unfolding has
-  without-replicate zero c h = refl
-  without-replicate (suc n) c h = without-cons c (replicate n c) h (without-replicate n c h)
-
-  without-stretched : (n : ℕ) (cs : List ℕ) → Without cs → Without (stretched n cs)
-  unfolding stretched
-  without-stretched n [] h = h
-  without-stretched n (c ∷ cs) h = let p = without-parts c cs h in without-++ (replicate n c) cs (without-replicate n c (p .0)) (p .1)
+  pub without-stretched : (n : ℕ) (cs : List ℕ) → Without cs → Without (stretched n cs)
+  unfolding stretched has
+  without-stretched zero cs h = refl
+  without-stretched (suc n) cs h = without-++ cs (stretched n cs) h (without-stretched n cs h)
 
   -- it is no letter and no digit
   module _ (other : waveChar b ≡ false) where

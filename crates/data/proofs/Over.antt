@@ -99,6 +99,24 @@ module _ {before : List ℕ} {n : ℕ} where
         adds = λ entry cs z. subst (Holds entry behind k) (append-assoc cs ds es) (b .adds entry (cs ++ ds) (a .adds entry cs z));
       }
 
+-- characters that have no room change nothing, and are counted
+pub adds-past : {before : List ℕ} {n : ℕ} {ds behind : List ℕ} {m k : ℕ} (es : List ℕ) → Adds before n ds behind m → (0 < length es → length behind ≤ m)
+    → length before < countMost → k ≡ min countMost (m + length es) → Adds before n (ds ++ es) behind k
+adds-past {before} {n} {ds} {behind} {m} {k} es a full b e =
+    record {
+      kept = a .kept;
+      adds = λ entry cs z. subst (Holds entry behind k) (append-assoc cs ds es) (one entry (cs ++ ds) es (a .adds entry cs z) e full);
+    }
+  where
+    one : (entry cs es : List ℕ) → Holds entry behind m cs → k ≡ min countMost (m + length es) → (0 < length es → length behind ≤ m) → Holds entry behind k (cs ++ es)
+    one entry cs [] z e full = rw append-nil (record { count = omega (arith, z .count); front = z .front })
+    one entry cs (x ∷ es) z e full =
+        let l : length behind ≡ length entry = ap length (z .front) ∙ over-length cs entry in
+        record {
+          count = omega (arith, length-append cs (x ∷ es), z .count);
+          front = z .front ∙ sym (over-past cs (x ∷ es) entry (omega (arith, z .count, full (omega arith))));
+        }
+
 pub holds-none : (entry : List ℕ) → Holds entry entry 0 []
 unfolding over
 holds-none entry = record { count = refl; front = refl }

@@ -3,7 +3,7 @@ use words::Cursor;
 use words::Numbered;
 ghost use mathlib.Core.Path.{_≡_};
 ghost use mathlib.Core.Bool.{true};
-ghost use Prim.Native.Nat.{_+_, _-_, min};
+ghost use Prim.Native.Nat.{_+_, _*_, _-_, min};
 ghost use lib.ListN.{replicate};
 ghost use Rattle.meaning.specs.Data.{stretched, repeated, dataRead};
 ghost use Rattle.words.specs.Cursor.{Goes};
@@ -38,6 +38,19 @@ fn counted(n: usize, k: usize) -> usize
         return COUNT_MOST;
     }
     n + k
+}
+
+// n and k times len more, as far as they are counted.
+fn counted_times(n: usize, k: usize, len: usize) -> usize
+    ensures { λ r. ⌜ r ≡ min countMost (n + k * len) ⌝ }
+{
+    if len == 0 {
+        return counted(n, 0);
+    }
+    if COUNT_MOST / len < k {
+        return COUNT_MOST;
+    }
+    counted(n, k * len)
 }
 
 // How many of k more have room behind n, where there is room for `len`.
@@ -81,15 +94,27 @@ fn fill(buffer: &mut [u8], n: usize, k: usize, x: u8) -> usize
     counted(n, k)
 }
 
-// A repeat spelled out: the word w, its first character k times, behind the first n.
+// The word w, k times behind the first n. What has no room is counted and not copied.
+fn copies(buffer: &mut [u8], n: usize, k: usize, w: &[u8]) -> usize
+    ensures { λ r. ⌜ Adds (now (buffer .entry)) n (stretched k (now (w .entry))) (now (buffer .exit)) r ⌝ }
+{
+    let mut m = n;
+    let mut i = 0;
+    while (i < k) & (m < buffer.len()) & (0 < w.len()) {
+        m = copy(buffer, m, w);
+        i += 1;
+    }
+    counted_times(m, k - i, w.len())
+}
+
+// A repeat spelled out: one character is the usual word.
 fn stretch(buffer: &mut [u8], n: usize, k: usize, w: &[u8]) -> usize
     ensures { λ r. ⌜ Adds (now (buffer .entry)) n (stretched k (now (w .entry))) (now (buffer .exit)) r ⌝ }
 {
-    if w.len() == 0 {
-        return n;
+    if w.len() == 1 {
+        return fill(buffer, n, k, w[0]);
     }
-    let m = fill(buffer, n, k, w[0]);
-    copy(buffer, m, &w[1..])
+    copies(buffer, n, k, w)
 }
 
 // ---- pieces of DATA
@@ -111,7 +136,7 @@ fn times(text: &[u8], c: Cursor) -> Numbered
     Numbered { cursor, n: 0 }
 }
 
-// What stands behind `\`: `r`, how many times, and the word whose first character is repeated.
+// What stands behind `\`: `r`, how many times, and the word that is repeated.
 fn repeat(text: &[u8], c: Cursor, buffer: &mut [u8], n: usize) -> Put
     ensures { λ r. ⌜ Puts (now (text .entry)) c repeated (r .cursor) (now (buffer .entry)) n (now (buffer .exit)) (r .n) ⌝ }
 {

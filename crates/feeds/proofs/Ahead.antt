@@ -1,10 +1,10 @@
 -- The words of DATA that was read, as the code finds them: by the token ahead of its cursor, without testing again what reading has tested.
-use Prim.Native.Nat.{ℕ, _-_, _≤_, _<_, min}
+use Prim.Native.Nat.{ℕ, suc, _-_, _≤_, _<_, min}
 use native.Mathlib.Omega.{arith}
 use mathlib.Core.Path.{_≡_, refl, sym, ap, _∙_}
 use mathlib.Core.Bool.{Bool, true, false, _&&_}
 use mathlib.Core.Option.{Option, some}
-use mathlib.Core.List.{List, [], _++_}
+use mathlib.Core.List.{List, [], _++_, append-assoc}
 use lib.Dec.{ltb, eqb}
 use lib.ListN.{length, take, drop}
 use borrow.Author.Tests.{lt-ltb, ltb-true}
@@ -22,7 +22,8 @@ use Rattle.words.proofs.Words.{rest}
 use Rattle.words.proofs.Flow.{from-on, from-stop, read, stream-on, stream-stop}
 use Rattle.feeds.specs.declared.Feed.{Feed}
 use Rattle.feeds.specs.Feeds.{Feeds, Times, Spells, Repeats, NextWord}
-use Rattle.feeds.proofs.Spans.{span-none, stretched-one}
+use Rattle.data.proofs.Stretched.{stretched-one}
+use Rattle.feeds.proofs.Spans.{span-none}
 use Rattle.feeds.proofs.Pieces.{data-more, data-done, data-some, piece-repeat, piece-word, Repeat, times-ok, repeated-ok}
 
 -- ---- a cursor
@@ -74,8 +75,8 @@ went {A} {text} {c} {r} {m} {a} {b} {us} g h e = by (alive r) refl
 -- ---- a repeat
 
 -- the code's number is the definition's: that is below the largest that the code holds
-pub times-read : (w : List ℕ) (v : Value) → valueOf v ≡ capped (number (take (length w - 1) (drop 1 w))) → Times w (v .n)
-times-read w v e = record { is = λ t n ts us f. by (v .right) n (times-ok t w ts f .0) e }
+pub times-read : (w : List ℕ) (v : Value) → valueOf v ≡ capped (number (take (length w - 1) (drop 1 w))) → Times w (v .n - 1)
+times-read w v e = record { is = λ t n ts us f. (let r = times-ok t w ts f .0 in omega (arith, by (v .right) n r e, r .least)) }
   where
     by : (b : Bool) (n : ℕ) → Repeat w n → told b (v .n) ≡ capped (number (take (length w - 1) (drop 1 w))) → v .n ≡ n
     by true n x e =
@@ -89,7 +90,7 @@ times-read w v e = record { is = λ t n ts us f. by (v .right) n (times-ok t w t
 
 module _ {text : List ℕ} {c d : Cursor} {w : List ℕ} {k : ℕ} (e : w ≡ span text (c .at) (c .end)) (g : Goes text c any d (ahead text c)) (x : Times w k) where
   -- the word behind how often it is said
-  pub repeat-read : alive d ≡ true → Repeats text c (record { at = d .at; end = d .end; left = k })
+  pub repeat-read : alive d ≡ true → Repeats text c (record { at = d .at; end = d .end; left = k; from = d .at })
   unfolding any left
   repeat-read h =
       record {
@@ -98,20 +99,21 @@ module _ {text : List ℕ} {c d : Cursor} {w : List ℕ} {k : ℕ} (e : w ≡ sp
             let t = went g on (ap any (y .there)) in
             let u = token text d (t .behind) in
             let o : repeatOf w ≡ repeatOf (y .t .word) = ap repeatOf e ∙ ap (λ (s : Tok). repeatOf (s .word)) (t .is) in
-            let n : k ≡ y .n = x .is (y .t) (y .n) (y .ss) (y .us) (ap (λ (s : Option (List ℕ)). times (y .t) s (y .ss)) o ∙ y .often) in
+            let n : y .n ≡ suc k = x .is (y .t) (y .n) (y .ss) (y .us) (ap (λ (s : Option (List ℕ)). times (y .t) s (y .ss)) o ∙ y .often) in
             record {
               word = u .word;
-              some = omega (arith, times-ok (y .t) (y .t .word) (y .ss) (y .often) .0 .least);
-              is = y .is ∙ sym (ap (λ (s : Tok). stretched (y .n) (s .word)) (u .is)) ∙ sym (ap (λ (m : ℕ). stretched m (span text (d .at) (d .end))) n);
+              whole = refl;
+              is = y .is ∙ sym (ap (λ (s : Tok). stretched (y .n) (s .word)) (u .is)) ∙ ap (λ (m : ℕ). stretched m (span text (d .at) (d .end))) n;
               behind = sym (u .behind);
             });
+        whole = refl;
         fewer = λ b. (
             let y = read g h in
             (y .on, omega (arith, token-fewer text d b, takes-any .falls (stream text c) (ahead text c) (stream text d) (y .gave))));
       }
 
   -- nothing stands there
-  pub repeat-none : alive d ≡ false → Repeats text c (record { at = 0; end = 0; left = k })
+  pub repeat-none : alive d ≡ false → Repeats text c (record { at = 0; end = 0; left = k; from = 0 })
   unfolding any
   repeat-none h =
       record {
@@ -120,17 +122,27 @@ module _ {text : List ℕ} {c d : Cursor} {w : List ℕ} {k : ℕ} (e : w ≡ sp
             let q : true ≡ false = sym (t .on) ∙ h in
             let z : _≡_ {A = ℕ} 0 1 = cc in
             absurd (omega arith));
+        whole = refl;
         fewer = λ b. absurd (omega arith);
       }
 
 -- ---- the next word
 
 -- at a place with no word there is all of its DATA
-pub feeds-data : {text cs : List ℕ} (f : Feed) {q : ℕ} {us : Toks} → f .end ≤ f .at → 0 < f .left
+pub feeds-data : {text cs : List ℕ} (f : Feed) {q : ℕ} {us : Toks} → f .end ≤ f .at → f .left ≡ 0
     → dataRead false (toks text (f .end)) ≡ ok (cs, q) us → Feeds text f cs
 unfolding stretched
 feeds-data {text} {cs} f {q} {us} h k e =
-    record { rest = cs; last = q; others = us; read = e; some = k; is = rw (span-none text (f .at) (f .end) h) }
+    record { rest = cs; last = q; others = us; read = e; again = λ l. absurd (omega arith); is = rw (span-none text (f .at) (f .end) h, k) }
+
+-- all times of a word are this one and the others
+said : (text : List ℕ) (r : Feed) → r .from ≡ r .at → (es : List ℕ)
+    → stretched (suc (r .left)) (span text (r .from) (r .end)) ++ es
+    ≡ span text (r .at) (r .end) ++ (stretched (r .left) (span text (r .from) (r .end)) ++ es)
+unfolding stretched
+said text r e es =
+    let w = span text (r .from) (r .end) in
+    append-assoc w (stretched (r .left) w) es ∙ ap (λ (p : ℕ). span text p (r .end) ++ (stretched (r .left) w ++ es)) e
 
 -- what a test on the token ahead says of it
 ahead-is : (text : List ℕ) (c : Cursor) (w : List ℕ) {b x : Bool} {t : Tok} {ts : Toks} → alive c ≡ true → b ≡ (alive c && aheadOf w (stream text c)) → b ≡ x
@@ -144,11 +156,12 @@ module _ {text : List ℕ} {place : ℕ} {c : Cursor} (s : Stands text place c) 
 
   module _ {b : Bool} (e : b ≡ (alive c && aheadOf (bytes ";") (stream text c))) where
     -- `;` is ahead
-    pub next-none : b ≡ true → NextWord text place (record { at = place; end = place; left = 1 })
+    pub next-none : b ≡ true → NextWord text place (record { at = place; end = place; left = 0; from = place })
     next-none h =
         record {
-          feeds = λ cs q us f. feeds-data (record { at = place; end = place; left = 1 }) (omega arith) (omega arith) f;
+          feeds = λ cs q us f. feeds-data (record { at = place; end = place; left = 0; from = place }) (omega arith) refl f;
           ends = λ cs q us f g. by cs q us (stream text c) refl (ap (dataRead false) (s .there) ∙ f);
+          whole = refl;
           fewer = λ g. absurd (omega arith);
         }
       where
@@ -159,7 +172,7 @@ module _ {text : List ℕ} {place : ℕ} {c : Cursor} (s : Stands text place c) 
     -- another token: a piece, and then the DATA behind it
     module _ {r : Feed} (h : b ≡ false)
         (spelled : (t : Tok) (ts : Toks) → stream text c ≡ tok t ts → (ds : List ℕ) (vs : Toks) → piece false t ts ≡ ok ds vs → Spells text r ds vs)
-        (fewer : r .at < r .end → left (toks text (r .end)) < left (stream text c)) where
+        (whole : r .from ≡ r .at) (fewer : r .at < r .end → left (toks text (r .end)) < left (stream text c)) where
       some-read : (cs : List ℕ) (q : ℕ) (us : Toks) → dataRead false (toks text place) ≡ ok (cs, q) us → Feeds text r cs × (r .at < r .end)
       some-read cs q us f = by (stream text c) refl (ap (dataRead false) (s .there) ∙ f)
         where
@@ -173,8 +186,8 @@ module _ {text : List ℕ} {place : ℕ} {c : Cursor} (s : Stands text place c) 
                   last = q;
                   others = us;
                   read = ap (dataRead false) (sym (y .behind)) ∙ x .rest-read;
-                  some = y .some;
-                  is = x .is ∙ ap (λ (ds : List ℕ). ds ++ x .es) (y .is);
+                  again = λ l. (y .word, omega (arith, y .word, whole));
+                  is = x .is ∙ ap (λ (ds : List ℕ). ds ++ x .es) (y .is) ∙ said text r whole (x .es);
                 },
                 y .word,
               )
@@ -184,6 +197,7 @@ module _ {text : List ℕ} {place : ℕ} {c : Cursor} (s : Stands text place c) 
           record {
             feeds = λ cs q us f. some-read cs q us f .0;
             ends = λ cs q us f g. absurd (let w = some-read cs q us f .1 in omega arith);
+            whole = whole;
             fewer = λ g. omega (arith, fewer g, ap left (s .there));
           }
 
@@ -195,17 +209,19 @@ module _ {text : List ℕ} {place : ℕ} {c : Cursor} (s : Stands text place c) 
           next-some h
           (λ t ts f ds vs p. let y = went g on (ap any f) in
           x .spells (y .on) ds vs (ap repeated (y .behind) ∙ piece-repeat t ts p (ahead-is text c (bytes "\\") on k l f)))
+          (x .whole)
           (λ n. let y = x .fewer n in omega (arith, y .1, takes-any .falls (stream text c) (ahead text c) (stream text d) (read g (y .0) .gave)))
 
       -- a word
-      pub next-plain : a ≡ false → NextWord text place (record { at = c .at; end = c .end; left = 1 })
+      pub next-plain : a ≡ false → NextWord text place (record { at = c .at; end = c .end; left = 0; from = c .at })
       next-plain l =
           next-some h
           (λ t ts f ds vs p. let y = piece-word t ts p (ahead-is text c (bytes "\\") on k l f) in let u = token text c f in
           record {
             word = u .word;
-            some = omega arith;
+            whole = refl;
             is = y .0 ∙ ap (λ (z : Tok). z .word) (sym (u .is)) ∙ sym (stretched-one (span text (c .at) (c .end)));
             behind = y .1 ∙ sym (u .behind);
           })
+          refl
           (token-fewer text c)

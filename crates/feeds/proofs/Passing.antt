@@ -1,128 +1,162 @@
--- The characters of a feed, one behind the other: those of its word, which is the text's, and then those of the next words.
-use Prim.Native.Nat.{ℕ, suc, _+_, _-_, _≤_, _<_}
+-- The characters of a feed, one behind the other: those of its word, which is the text's, as often as it is said, and then those of the next words.
+use Prim.Native.Nat.{ℕ, zero, suc, _+_, _*_, _-_, _≤_, _<_}
 use native.Mathlib.Omega.{arith}
+use native.Mathlib.Nat.{zero-mul}
 use mathlib.Core.Path.{_≡_, refl, sym, ap, _∙_, subst}
 use mathlib.Core.Bool.{Bool, true, false, _&&_}
 use mathlib.Core.List.{List, [], _∷_, _++_, append-assoc}
 use lib.Dec.{ltb}
 use lib.Seq.{drop-nil, drop-append-le}
-use lib.ListN.{length, getD, drop, replicate, length-replicate}
+use lib.ListN.{length, getD, drop}
 use borrow.Author.Tests.{ltb-true, ltb-false}
 use Rattle.tokens.specs.Tokens.{toks, left}
 use Rattle.meaning.specs.Data.{stretched}
 use Rattle.meaning.specs.Run.{next, behind}
 use Rattle.words.specs.Cursor.{span}
+use Rattle.data.proofs.Stretched.{stretched-parts, length-stretched}
 use Rattle.feeds.specs.declared.Feed.{Feed}
 use Rattle.feeds.specs.Feeds.{Feeds, Takes, Skips, BehindOne, Onward, Passes, NextWord, AtWord}
 use Rattle.feeds.proofs.Pieces.{data-within}
-use Rattle.feeds.proofs.Spans.{span-none, span-length, span-cut, span-drop, stretched-one, drop-alike, drop-past}
+use Rattle.feeds.proofs.Spans.{span-none, span-length, span-cut, span-drop, drop-past}
 use Rattle.feeds.proofs.Ahead.{feeds-data}
 
 -- ---- the characters of a word
 
+-- behind i times of a word and k characters of it, where it is said more often
+drop-times : (w rest : List ℕ) (i k m : ℕ) → k ≤ length w → drop (i * length w + k) (stretched (i + suc m) w ++ rest) ≡ drop k w ++ (stretched m w ++ rest)
+unfolding stretched
+drop-times w rest i k m h =
+    ap (λ (l : List ℕ). drop (i * length w + k) (l ++ rest)) (stretched-parts i (suc m) w)
+    ∙ ap (drop (i * length w + k)) (append-assoc (stretched i w) (stretched (suc m) w) rest)
+    ∙ drop-past (stretched i w) (stretched (suc m) w ++ rest) (i * length w) k (length-stretched i w)
+    ∙ ap (drop k) (append-assoc w (stretched m w) rest)
+    ∙ drop-append-le k w (stretched m w ++ rest) h
+
 module _ {text cs : List ℕ} {f : Feed} (x : Feeds text f cs) where
+  -- the word is not said again
+  once : f .left ≡ 0 → cs ≡ span text (f .at) (f .end) ++ x .rest
+  unfolding stretched
+  once e = x .is ∙ ap (λ (n : ℕ). span text (f .at) (f .end) ++ (stretched n (span text (f .from) (f .end)) ++ x .rest)) e
+
   -- where a feed has no word, the DATA behind it is all that is left
   pub feeds-rest : f .end ≤ f .at → cs ≡ x .rest
-  unfolding stretched
-  feeds-rest h = x .is ∙ (rw (span-none text (f .at) (f .end) h))
+  feeds-rest h = once (none (f .left) refl) ∙ (rw (span-none text (f .at) (f .end) h))
+    where
+      none : (n : ℕ) → f .left ≡ n → n ≡ 0
+      none zero e = refl
+      none (suc n) e = absurd (omega (arith, x .again (omega arith) .0))
 
-  feeds-within : f .end < length text
+  pub feeds-within : f .end < length text
   feeds-within = data-within false text (f .end) (x .read)
 
+  pub feeds-next : f .at < f .end → getD text (f .at) 0 ≡ next cs
+  unfolding next
+  feeds-next h =
+      let l = feeds-within in
+      sym (ap next (x .is ∙ ap (λ (w : List ℕ). w ++ (stretched (f .left) (span text (f .from) (f .end)) ++ x .rest)) (span-cut text (f .at) (f .end) h (omega arith))))
+
+  -- n on, within this time
+  pub feeds-here : (n at : ℕ) → at ≡ f .at + n → at ≤ f .end → (0 < f .left → at < f .end)
+      → Feeds text (record { at = at; end = f .end; left = f .left; from = f .from }) (drop n cs)
+  feeds-here n at e h k =
+      let l = feeds-within in
+      let more = stretched (f .left) (span text (f .from) (f .end)) ++ x .rest in
+      record {
+        rest = x .rest;
+        last = x .last;
+        others = x .others;
+        read = x .read;
+        again = λ s. (k s, x .again s .1);
+        is =
+            ap (drop n) (x .is)
+            ∙ drop-append-le n (span text (f .at) (f .end)) more (omega (arith, span-length text (f .at) (f .end) (omega arith)))
+            ∙ ap (λ (v : List ℕ). v ++ more) (span-drop text (f .at) (f .end) n (omega arith))
+            ∙ ap (λ (p : ℕ). span text p (f .end) ++ more) (sym e);
+      }
+
   module _ (h : f .at < f .end) where
-    -- the first one so many times, the others of the word, and the rest
-    feeds-cut : cs ≡ replicate (f .left) (getD text (f .at) 0) ++ (span text (f .at + 1) (f .end) ++ x .rest)
-    unfolding stretched
-    feeds-cut =
+    -- this time, and k characters more
+    behind-this : (n k : ℕ) → n ≡ f .end - f .at + k → drop n cs ≡ drop k (stretched (f .left) (span text (f .from) (f .end)) ++ x .rest)
+    behind-this n k e =
         let l = feeds-within in
-        x .is ∙ ap (λ (w : List ℕ). stretched (f .left) w ++ x .rest) (span-cut text (f .at) (f .end) h (omega arith))
-        ∙ append-assoc (replicate (f .left) (getD text (f .at) 0)) (span text (f .at + 1) (f .end)) (x .rest)
+        ap (λ (m : ℕ). drop m cs) e ∙ ap (drop (f .end - f .at + k)) (x .is)
+        ∙ drop-past (span text (f .at) (f .end)) (stretched (f .left) (span text (f .from) (f .end)) ++ x .rest) (f .end - f .at) k
+        (span-length text (f .at) (f .end) (omega arith))
 
-    pub feeds-next : getD text (f .at) 0 ≡ next cs
-    unfolding next
-    feeds-next =
-        let e : f .left ≡ suc (f .left - 1) = omega (arith, x .some) in
-        sym (ap next (feeds-cut ∙ ap (λ (n : ℕ). replicate n (getD text (f .at) 0) ++ (span text (f .at + 1) (f .end) ++ x .rest)) e))
-
-    -- behind n of the first
-    pub feeds-repeat : (n k : ℕ) → f .left ≡ n + k → 0 < k → Feeds text (record { at = f .at; end = f .end; left = k }) (drop n cs)
-    unfolding stretched
-    feeds-repeat n k e some =
+    -- i times more, and k characters of the next
+    pub feeds-again : (n i k m at : ℕ) → n ≡ f .end - f .at + (i * (f .end - f .from) + k) → f .left ≡ i + suc m → at ≡ f .from + k → at < f .end
+        → Feeds text (record { at = at; end = f .end; left = m; from = f .from }) (drop n cs)
+    feeds-again n i k m at e g p b =
         let l = feeds-within in
-        let c = getD text (f .at) 0 in
-        let w = span text (f .at + 1) (f .end) in
+        let w = span text (f .from) (f .end) in
+        let long : length w ≡ f .end - f .from = span-length text (f .from) (f .end) (omega arith) in
         record {
           rest = x .rest;
           last = x .last;
           others = x .others;
           read = x .read;
-          some = some;
+          again = λ s. (b, omega arith);
           is =
-              ap (drop n) (feeds-cut ∙ ap (λ (m : ℕ). replicate m c ++ (w ++ x .rest)) e) ∙ drop-alike n k c (w ++ x .rest)
-              ∙ sym (append-assoc (replicate k c) w (x .rest))
-              ∙ sym (ap (λ (v : List ℕ). stretched k v ++ x .rest) (span-cut text (f .at) (f .end) h (omega arith)));
+              behind-this n (i * (f .end - f .from) + k) e
+              ∙ ap (λ (z : ℕ). drop (i * (f .end - f .from) + k) (stretched z w ++ x .rest)) g
+              ∙ ap (λ (z : ℕ). drop (i * z + k) (stretched (i + suc m) w ++ x .rest)) (sym long)
+              ∙ drop-times w (x .rest) i k m (omega arith)
+              ∙ ap (λ (v : List ℕ). v ++ (stretched m w ++ x .rest)) (span-drop text (f .from) (f .end) k (omega arith))
+              ∙ ap (λ (q : ℕ). span text q (f .end) ++ (stretched m w ++ x .rest)) (sym p);
         }
 
-    -- n on: all of the first, and k others
-    feeds-first : (n k : ℕ) → n ≡ f .left + k → drop n cs ≡ drop k (span text (f .at + 1) (f .end) ++ x .rest)
-    feeds-first n k e =
-        let c = getD text (f .at) 0 in
-        ap (λ (m : ℕ). drop m cs) e ∙ ap (drop (f .left + k)) feeds-cut
-        ∙ drop-past (replicate (f .left) c) (span text (f .at + 1) (f .end) ++ x .rest) (f .left) k (length-replicate (f .left) c)
-
-    -- which end within the word
-    feeds-others : (n k at : ℕ) → n ≡ f .left + k → at ≡ f .at + 1 + k → at ≤ f .end
-        → Feeds text (record { at = at; end = f .end; left = 1 }) (drop n cs)
-    feeds-others n k at e g l =
-        let m = feeds-within in
-        record {
-          rest = x .rest;
-          last = x .last;
-          others = x .others;
-          read = x .read;
-          some = omega arith;
-          is =
-              feeds-first n k e
-              ∙ drop-append-le k (span text (f .at + 1) (f .end)) (x .rest) (omega (arith, span-length text (f .at + 1) (f .end) (omega arith)))
-              ∙ ap (λ (v : List ℕ). v ++ x .rest) (span-drop text (f .at + 1) (f .end) k (omega arith))
-              ∙ ap (λ (p : ℕ). span text p (f .end) ++ x .rest) (sym g)
-              ∙ sym (ap (λ (v : List ℕ). v ++ x .rest) (stretched-one (span text at (f .end))));
-        }
-
-    -- or with it, and m more
-    feeds-past : (n m : ℕ) → n ≡ f .left + (f .end - (f .at + 1) + m) → Onward text n cs (record { at = f .end; end = f .end; left = 1 }) m
+    -- all times, and m more
+    feeds-past : (n m : ℕ) → n ≡ f .end - f .at + (f .left * (f .end - f .from) + m)
+        → Onward text n cs (record { at = f .end; end = f .end; left = 0; from = f .end }) m
     feeds-past n m e =
         let l = feeds-within in
+        let w = span text (f .from) (f .end) in
+        let long : length w ≡ f .end - f .from = span-length text (f .from) (f .end) (omega arith) in
         record {
           ds = x .rest;
-          feeds = feeds-data (record { at = f .end; end = f .end; left = 1 }) (omega arith) (omega arith) (x .read);
+          feeds = feeds-data (record { at = f .end; end = f .end; left = 0; from = f .end }) (omega arith) refl (x .read);
           same =
-              sym (feeds-first n (f .end - (f .at + 1) + m) e
-              ∙ drop-past (span text (f .at + 1) (f .end)) (x .rest) (f .end - (f .at + 1)) m (span-length text (f .at + 1) (f .end) (omega arith)));
+              sym (behind-this n (f .left * (f .end - f .from) + m) e
+              ∙ drop-past (stretched (f .left) w) (x .rest) (f .left * (f .end - f .from)) m
+              (length-stretched (f .left) w ∙ ap (λ (z : ℕ). f .left * z) long));
         }
 
 -- ---- characters of a word passed
 
 module _ {f : Feed} {n : ℕ} (h : f .at < f .end) where
-  pub passes-repeat : {k : ℕ} → f .left ≡ n + k → 0 < k → Passes f n (record { at = f .at; end = f .end; left = k }) 0
-  passes-repeat {k} e l =
+  pub passes-here : {at : ℕ} → at ≡ f .at + n → at ≤ f .end → (0 < f .left → at < f .end)
+      → Passes f n (record { at = at; end = f .end; left = f .left; from = f .from }) 0
+  passes-here {at} e l k =
       record {
-        onward = λ text cs x. record { ds = drop n cs; feeds = feeds-repeat x h n k e l; same = refl };
+        onward = λ text cs x. record { ds = drop n cs; feeds = feeds-here x n at e l k; same = refl };
         end = refl;
         word = λ z. absurd (omega arith);
       }
 
-  pub passes-others : {at : ℕ} (k : ℕ) → (0 < f .left → n ≡ f .left + k) → at ≡ f .at + 1 + k → at ≤ f .end
-      → Passes f n (record { at = at; end = f .end; left = 1 }) 0
-  passes-others {at} k e g l =
+  pub passes-again : {at m : ℕ} (i k : ℕ) → n ≡ f .end - f .at + (i * (f .end - f .from) + k) → f .left ≡ i + suc m → at ≡ f .from + k
+      → (f .from < f .end → at < f .end) → Passes f n (record { at = at; end = f .end; left = m; from = f .from }) 0
+  passes-again {at} {m} i k e g p b =
       record {
-        onward = λ text cs x. record { ds = drop n cs; feeds = feeds-others x h n k at (e (x .some)) g l; same = refl };
+        onward = λ text cs x. record { ds = drop n cs; feeds = feeds-again x h n i k m at e g p (b (x .again (omega arith) .1)); same = refl };
         end = refl;
         word = λ z. absurd (omega arith);
       }
 
-  pub passes-all : {m : ℕ} → n ≡ f .left + (f .end - (f .at + 1) + m) → Passes f n (record { at = f .end; end = f .end; left = 1 }) m
+  pub passes-all : {m : ℕ} → n ≡ f .end - f .at + (f .left * (f .end - f .from) + m)
+      → Passes f n (record { at = f .end; end = f .end; left = 0; from = f .end }) m
   passes-all {m} e = record { onward = λ text cs x. feeds-past x h n m e; end = refl; word = λ z. omega arith }
+
+  pub passes-once : {m : ℕ} → f .left ≡ 0 → n ≡ f .end - f .at + m → Passes f n (record { at = f .end; end = f .end; left = 0; from = f .end }) m
+  passes-once e g =
+      let none = ap (λ (z : ℕ). z * (f .end - f .from)) e ∙ zero-mul (f .end - f .from) in
+      passes-all (omega (arith, none))
+
+pub passes-same : {f r : Feed} {n k m : ℕ} → Passes f n r m → n ≡ k → Passes f k r m
+passes-same {f} {r} {n} {k} {m} p e = subst (λ (n : ℕ). Passes f n r m) e p
+
+-- a word that is said again has bytes
+pub passes-never : {f : Feed} {n m : ℕ} → (f .left ≡ 0 → ⊥) → f .end ≤ f .from → Passes f n (record { at = f .end; end = f .end; left = 0; from = f .end }) m
+passes-never {f} e b = record { onward = λ text cs x. absurd (omega (arith, x .again (omega arith) .1)); end = refl; word = λ z. omega arith }
 
 -- one of them
 pub passes-one : {f r : Feed} → Passes f 1 r 0 → BehindOne f r

@@ -1,11 +1,10 @@
--- A word as bytes of the text from a place up to an end: its first byte and the others, what is left of it behind some, and its characters.
+-- A word as bytes of the text from a place up to an end: its first byte and the others, and what is left of it behind some.
 use Prim.Native.Nat.{ℕ, zero, suc, _+_, _-_, _≤_, _<_}
 use native.Mathlib.Omega.{arith}
 use mathlib.Core.Path.{_≡_, refl, sym, ap, _∙_}
-use mathlib.Core.List.{List, [], _∷_, _++_, append-assoc}
-use lib.Seq.{take-nil, drop-at, drop-append-add, drop-drop, length-take-le}
-use lib.ListN.{length, getD, take, drop, replicate, length-drop, length-replicate, replicate-append-replicate}
-use Rattle.meaning.specs.Data.{stretched}
+use mathlib.Core.List.{List, [], _∷_, _++_}
+use lib.Seq.{take-nil, drop-append-add, drop-drop, length-take-le}
+use lib.ListN.{length, getD, take, drop, length-drop}
 use Rattle.words.specs.Cursor.{span}
 use Rattle.words.proofs.Words.{cut}
 
@@ -30,18 +29,6 @@ pub span-drop : (text : List ℕ) (at end n : ℕ) → at + n ≤ end → drop n
 span-drop text at end n h =
     let e : end - at - n ≡ end - (at + n) = omega arith in
     drop-take n (end - at) (drop at text) (omega arith) ∙ (rw (e, drop-drop n at text))
-
-pub stretched-one : (w : List ℕ) → stretched 1 w ≡ w
-unfolding stretched
-stretched-one [] = refl
-stretched-one (c ∷ cs) = refl
-
--- behind some of many alike
-pub drop-alike : (n k : ℕ) (c : ℕ) (l : List ℕ) → drop n (replicate (n + k) c ++ l) ≡ replicate k c ++ l
-drop-alike n k c l =
-    ap (λ (r : List ℕ). drop n (r ++ l)) (sym (replicate-append-replicate n k c))
-    ∙ ap (drop n) (append-assoc (replicate n c) (replicate k c) l)
-    ∙ drop-at (replicate n c) (replicate k c ++ l) n (length-replicate n c)
 
 -- behind all of some, and n more
 pub drop-past : (l r : List ℕ) (k n : ℕ) → length l ≡ k → drop (k + n) (l ++ r) ≡ drop n r

@@ -1,7 +1,7 @@
 -- What is left of an argument's characters, read from the text as they are needed: repeats are spelled out one by one.
-use Prim.Native.Nat.{ℕ, _-_, _≤_, _<_, min}
+use Prim.Native.Nat.{ℕ, suc, _-_, _≤_, _<_, min}
 use mathlib.Core.Path.{_≡_}
-use mathlib.Core.Bool.{true, false, _&&_}
+use mathlib.Core.Bool.{true, false, not, _&&_, _||_}
 use mathlib.Core.List.{List, [], _++_}
 use lib.Dec.{ltb, eqb}
 use lib.ListN.{length, getD, drop}
@@ -14,14 +14,14 @@ use Rattle.words.specs.declared.Cursor.{Cursor}
 use Rattle.feeds.specs.declared.Feed.{Feed}
 use Rattle.feeds.specs.declared.Fed.{Fed}
 
--- the characters cs are left: those of the word from `at` to `end`, its first one `left` times, and then those of the DATA behind `end`
+-- the characters cs are left: those of the word from `at` to `end`, the whole word `left` times more, and then those of the DATA behind `end`
 pub record Feeds (text : List ℕ) (f : Feed) (cs : List ℕ) : Type 0 where
   pub rest : List ℕ
   pub last : ℕ
   pub others : Toks
   pub read : dataRead false (toks text (f .end)) ≡ ok (rest, last) others
-  pub some : 0 < f .left
-  pub is : cs ≡ stretched (f .left) (span text (f .at) (f .end)) ++ rest
+  pub again : 0 < f .left → (f .at < f .end) × (f .from < f .end)
+  pub is : cs ≡ span text (f .at) (f .end) ++ (stretched (f .left) (span text (f .from) (f .end)) ++ rest)
 
 -- the next character was taken; 0 where none was left
 pub record Takes (text : List ℕ) (f : Feed) (r : Fed) : Type 0 where
@@ -32,11 +32,11 @@ pub record Takes (text : List ℕ) (f : Feed) (r : Fed) : Type 0 where
 pub record Skips (text : List ℕ) (f : Feed) (n : ℕ) (r : Feed) : Type 0 where
   pub left : (cs : List ℕ) → Feeds text f cs → Feeds text r (drop n cs)
 
--- how often the repeat in which the feed f stands says c before its last time
+-- how often the repeat of one character in which the feed f stands says c before its last time
 unfoldable pub repeating : List ℕ → Feed → ℕ → ℕ
 repeating text f c =
     elim (ltb (f .at) (f .end) && ltb (f .at) (length text)) [
-      | true ↦ elim (eqb (getD text (f .at) 0) c) [ true ↦ f .left - 1 | false ↦ 0 ]
+      | true ↦ elim ((not (eqb (f .from) (f .at)) || not (eqb (f .end - f .at) 1)) || not (eqb (getD text (f .at) 0) c)) [ true ↦ 0 | false ↦ f .left ]
       | false ↦ 0
     ]
 
@@ -65,26 +65,28 @@ pub record Passes (f : Feed) (n : ℕ) (r : Feed) (m : ℕ) : Type 0 where
 
 -- ---- the next word
 
--- how often a repeat says
+-- how often a repeat says its word behind the first time
 pub record Times (w : List ℕ) (k : ℕ) : Type 0 where
-  pub is : (t : Tok) (n : ℕ) (ts us : Toks) → times t (repeatOf w) ts ≡ ok n us → k ≡ n
+  pub is : (t : Tok) (n : ℕ) (ts us : Toks) → times t (repeatOf w) ts ≡ ok n us → n ≡ suc k
 
 -- a word that stands for the characters ds, and the tokens vs behind it
 pub record Spells (text : List ℕ) (r : Feed) (ds : List ℕ) (vs : Toks) : Type 0 where
   pub word : r .at < r .end
-  pub some : 0 < r .left
-  pub is : ds ≡ stretched (r .left) (span text (r .at) (r .end))
+  pub whole : r .from ≡ r .at
+  pub is : ds ≡ stretched (suc (r .left)) (span text (r .from) (r .end))
   pub behind : vs ≡ toks text (r .end)
 
 -- what is read behind `\` is r; in any text a word that is found leaves fewer tokens
 pub record Repeats (text : List ℕ) (c : Cursor) (r : Feed) : Type 0 where
   pub spells : alive c ≡ true → (ds : List ℕ) (vs : Toks) → repeated (stream text c) ≡ ok ds vs → Spells text r ds vs
+  pub whole : r .from ≡ r .at
   pub fewer : r .at < r .end → (alive c ≡ true) × (left (toks text (r .end)) < left (stream text c))
 
--- the next word of the DATA at a place; there is none only where the DATA ends
+-- the next word of the DATA at a place, from its first byte on; there is none only where the DATA ends
 pub record NextWord (text : List ℕ) (place : ℕ) (r : Feed) : Type 0 where
   pub feeds : (cs : List ℕ) (q : ℕ) (us : Toks) → dataRead false (toks text place) ≡ ok (cs, q) us → Feeds text r cs
   pub ends : (cs : List ℕ) (q : ℕ) (us : Toks) → dataRead false (toks text place) ≡ ok (cs, q) us → r .end ≤ r .at → cs ≡ []
+  pub whole : r .from ≡ r .at
   pub fewer : r .at < r .end → left (toks text (r .end)) < left (toks text place)
 
 -- the same characters, with a word where there is one

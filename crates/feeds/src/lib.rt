@@ -1,7 +1,7 @@
 // The characters of an argument, one after the other, read from the text where its DATA stands.
 ghost use mathlib.Core.Path.{_≡_};
 ghost use mathlib.Core.List.{List};
-ghost use Prim.Native.Nat.{ℕ};
+ghost use Prim.Native.Nat.{ℕ, _+_, _-_, _<_};
 ghost use Rattle.tokens.specs.Tokens.{Toks, toks};
 ghost use Rattle.meaning.specs.Reader.{ok};
 ghost use Rattle.meaning.specs.Data.{dataRead};
@@ -9,11 +9,13 @@ ghost use mathlib.Core.Bool.{false};
 ghost use Rattle.feeds.specs.Feeds.{Feeds, Takes, Skips, Alike, BehindOne, Passes, Times, Repeats, NextWord, AtWord};
 use words::Cursor;
 
-// Where the next character stands: in the word from `at` to `end`, whose first one stands for `left` of the same. With no word there, the DATA goes on at `end`.
+// Where the next character stands: in the word up to `end`, at `at`. Behind its end the word is said `left` times more, each time from its first byte `from` on.
+// With no word there, the DATA goes on at `end`.
 pub struct Feed {
     pub at: usize,
     pub end: usize,
     pub left: usize,
+    pub from: usize,
 }
 
 // The feed behind the next character, and that character, 0 where none is left.
@@ -35,35 +37,83 @@ pub fn start(place: usize) -> Feed
     Feed {
         at: place,
         end: place,
-        left: 1,
+        left: 0,
+        from: place,
     }
 }
 
 // ---- within a word
 
-// The feed behind the first character of its word.
+// The feed behind the next character of its word: behind its end the word is said again.
 fn behind_one(feed: Feed) -> Feed
     ensures { λ r. ⌜ BehindOne feed r ⌝ }
 {
     let at = feed.at;
     let end = feed.end;
     let left = feed.left;
+    let from = feed.from;
     if end <= at {
         return feed;
     }
-    if 1 < left {
+    let second = at + 1;
+    if second < end {
         return Feed {
-            at,
+            at: second,
             end,
-            left: left - 1,
+            left,
+            from,
         };
     }
-    let second = at + 1;
-    Feed {
-        at: second,
-        end,
-        left: 1,
+    if left == 0 {
+        return Feed {
+            at: end,
+            end,
+            left: 0,
+            from: end,
+        };
     }
+    Feed {
+        at: from,
+        end,
+        left: left - 1,
+        from,
+    }
+}
+
+// The feed behind this time of its word and n characters more, as far as its word has them.
+fn pass_times(feed: Feed, n: usize) -> Passed
+    ensures { λ r. ⌜ (feed .at < feed .end → Passes feed (feed .end - feed .at + n) (r .feed) (r .n)) ⌝ }
+{
+    let end = feed.end;
+    let left = feed.left;
+    let from = feed.from;
+    let behind = Feed {
+        at: end,
+        end,
+        left: 0,
+        from: end,
+    };
+    if left == 0 {
+        return Passed { feed: behind, n };
+    }
+    if end <= from {
+        return Passed { feed: behind, n };
+    }
+    let width = end - from;
+    let times = n / width;
+    if left <= times {
+        return Passed {
+            feed: behind,
+            n: n - left * width,
+        };
+    }
+    let here = Feed {
+        at: from + n % width,
+        end,
+        left: left - 1 - times,
+        from,
+    };
+    Passed { feed: here, n: 0 }
 }
 
 // The feed behind n characters, as far as its word has them.
@@ -72,47 +122,33 @@ fn pass(feed: Feed, n: usize) -> Passed
 {
     let at = feed.at;
     let end = feed.end;
-    let left = feed.left;
     if end <= at {
         return Passed { feed, n };
     }
-    if n < left {
+    let this = end - at;
+    if n < this {
         let here = Feed {
-            at,
+            at: at + n,
             end,
-            left: left - n,
+            left: feed.left,
+            from: feed.from,
         };
         return Passed { feed: here, n: 0 };
     }
-    let more = n - left;
-    let others = end - at - 1;
-    if more < others {
-        let here = Feed {
-            at: at + 1 + more,
-            end,
-            left: 1,
-        };
-        return Passed { feed: here, n: 0 };
-    }
-    let here = Feed {
-        at: end,
-        end,
-        left: 1,
-    };
-    Passed {
-        feed: here,
-        n: more - others,
-    }
+    pass_times(feed, n - this)
 }
 
 // ---- the next word
 
-// How often a repeat says: the number behind its `r`.
+// How often a repeat says its word behind the first time: the number behind its `r`, less one.
 fn times(w: &[u8]) -> usize
     ensures { λ r. ⌜ Times (now (w .entry)) r ⌝ }
 {
     let v = words::number(words::bytes_of(w, 1, w.len()));
-    v.n as usize
+    if v.n == 0 {
+        return 0;
+    }
+    v.n as usize - 1
 }
 
 // The word that a repeat says, behind its `\`.
@@ -126,12 +162,14 @@ fn repeat(text: &[u8], c: Cursor) -> Feed
             at: 0,
             end: 0,
             left,
+            from: 0,
         };
     }
     Feed {
         at: d.at,
         end: d.end,
         left,
+        from: d.at,
     }
 }
 
@@ -144,7 +182,8 @@ pub fn next_word(text: &[u8], place: usize) -> Feed
         return Feed {
             at: place,
             end: place,
-            left: 1,
+            left: 0,
+            from: place,
         };
     }
     if words::is(text, c, b"\\") {
@@ -153,7 +192,8 @@ pub fn next_word(text: &[u8], place: usize) -> Feed
     Feed {
         at: c.at,
         end: c.end,
-        left: 1,
+        left: 0,
+        from: c.at,
     }
 }
 
@@ -188,23 +228,20 @@ pub fn next(text: &[u8], feed: Feed) -> Fed
     }
 }
 
-// How many of the next characters are c for certain, at most so many: those of a repeat, but for its last.
+// How many of the next characters are c for certain, at most so many: those of a repeated character, but for its last.
 pub fn alike(text: &[u8], feed: Feed, c: u8, most: usize) -> usize
     ensures { λ r. ⌜ Alike (now (text .entry)) feed c most r ⌝ }
 {
     let at = feed.at;
     let left = feed.left;
-    if left <= 1 {
-        return 0;
-    }
     if (at < feed.end) & (at < text.len()) {
-        if text[at] != c {
+        if (feed.from != at) | (feed.end - at != 1) | (text[at] != c) {
             return 0;
         }
         if most < left {
             return most;
         }
-        return left - 1;
+        return left;
     }
     0
 }

@@ -5,7 +5,6 @@ use Prim.Native.Nat.{ℕ, zero, suc}
 use native.Mathlib.Omega.{arith}
 use mathlib.Core.Bool.{Bool, true, false, not, _&&_}
 use mathlib.Core.List.{List, [], _∷_, _++_}
-use lib.ListN.{replicate}
 use lib.Dec.{eqb}
 use borrow.Author.Tests.{eqb-true}
 use Rattle.tokens.specs.Bytes.{between, digit, letter}
@@ -32,14 +31,10 @@ free-++ : (a b : List ℕ) → Free a → Free b → Free (a ++ b)
 free-++ [] b h k = k
 free-++ (c ∷ a) b h k = (h .0, free-++ a b (h .1) k)
 
-free-replicate : (n c : ℕ) → eqb c mark ≡ false → Free (replicate n c)
-free-replicate zero c h = tt
-free-replicate (suc n) c h = (h, free-replicate n c h)
-
 free-stretched : (n : ℕ) (cs : List ℕ) → Free cs → Free (stretched n cs)
 unfolding stretched
-free-stretched n [] h = tt
-free-stretched n (c ∷ cs) h = free-++ (replicate n c) cs (free-replicate n c (h .0)) (h .1)
+free-stretched zero cs h = tt
+free-stretched (suc n) cs h = free-++ cs (stretched n cs) h (free-stretched n cs h)
 
 -- a letter or a digit is no `#`
 free-char : (c : ℕ) → waveChar c ≡ true → eqb c mark ≡ false

@@ -1,9 +1,9 @@
 -- DATA, and what it is given to: assignments and arguments (document 01, "Statements", "Shift").
-use Prim.Native.Nat.{ℕ, suc}
+use Prim.Native.Nat.{ℕ, zero, suc}
 use mathlib.Core.Bool.{Bool, true, false, not, _||_}
 use mathlib.Core.Option.{Option, none, some}
 use mathlib.Core.List.{List, [], _∷_, _++_}
-use lib.ListN.{length, replicate}
+use lib.ListN.{length}
 use lib.Dec.{leb, eqb}
 use Rattle.tokens.specs.Refusals.{notHere}
 use Rattle.tokens.specs.Tokens.{Tok}
@@ -22,10 +22,10 @@ charsOf t = do
   refuseIf (not (allChars (t .word))) badData (t .at)
   give (t .word)
 
--- the first character n times, and the others
+-- all the characters, n times
 unfoldable pub stretched : ℕ → List ℕ → List ℕ
-stretched n [] = []
-stretched n (c ∷ cs) = replicate n c ++ cs
+stretched zero cs = []
+stretched (suc n) cs = cs ++ stretched n cs
 
 -- behind `\`: a word of `r` and a number
 unfoldable pub repeatOf : List ℕ → Option (List ℕ)
@@ -36,7 +36,7 @@ unfoldable pub times : Tok → Option (List ℕ) → Reader ℕ
 times t none ts = refuse notHere (t .at)
 times t (some s) ts = within 1 repeatMost (number s) (t .at) ts
 
--- then a word whose first character is repeated
+-- then the word that is repeated
 unfoldable pub repeated : Reader (List ℕ)
 repeated = do
   t ← any

@@ -145,7 +145,7 @@ edges =
     -- (f)
     ∷ (windows (playing ("Pattern p { W t0; C { B = X; } Loop 2 { V { A = 1; } V { ab = 0H; } }" ∷ " Macro m { A = 1; B = ; } }" ∷ [])) 4 9 4, given (1 ∷ 22 ∷ bytes "1H0\n"))
     -- (g)
-    ∷ (windows (playing ("Pattern p { W t0; C { B = X; } Loop 2 { V { A = 1; } V { ab = 0H; } }" ∷ " Macro m { A = \\r4 01; B = \\r4 L; } }" ∷ [])) 4 9 20, given (5 ∷ 22 ∷ bytes "0L0\n0L0\n0L0\n0L0\n1L0\n"))
+    ∷ (windows (playing ("Pattern p { W t0; C { B = X; } Loop 2 { V { A = 1; } V { ab = 0H; } }" ∷ " Macro m { A = \\r4 01; B = \\r7 L; } }" ∷ [])) 4 9 32, given (8 ∷ 22 ∷ bytes "0L0\n1L0\n0L0\n1L0\n0L0\n1L0\n0L0\n1L0\n"))
     -- (h)
     ∷ (checks (grouping "SignalGroups { ab = 'A-A'; }" ([])), refused 10 59)
     -- (h)
@@ -176,6 +176,8 @@ between =
     ∷ (checks (listing "PatternBurst b { PatList { } }" ("Pattern p { }" ∷ [])), given (2 ∷ 1 ∷ 0 ∷ 0 ∷ 0 ∷ []))
     -- groups in the order of their terms; brackets; minus
     ∷ (windows (grouping "SignalGroups { ba = 'B+A'; ab = 'ba-B+B'; a = '(A+B)-(B)'; c = 'A-A+B'; }" ("Pattern p { W t0; V { ba = L1; } V { a = 0; c = H; } }" ∷ [])) 0 9 8, given (2 ∷ 6 ∷ bytes "1L0\n0H0\n"))
+    -- a repeat says its whole word, between words that stand once
+    ∷ (windows (playing ("Pattern p { W t0; Macro m { A = 1 \\r2 01 10; B = \\r3 LH; } }" ∷ [])) 0 9 28, given (7 ∷ 14 ∷ bytes "1L0\n0H0\n1L0\n0H0\n1L0\n1H0\n0H0\n"))
     -- a Shift is entered at its turn
     ∷ (windows worked 5 1 4, given (1 ∷ 22 ∷ bytes "0H0\n"))
     ∷ []

@@ -54,7 +54,7 @@ module _ {text cs : List ℕ} {at : ℕ} {f : Feed} {P : ℕ → Type 0} {K : Li
   -- one word more, behind which the properties may be others; a repeat says characters of it in front of it
   pub unread-word : {w : List ℕ} {Q : ℕ → Type 0} {L : List ℕ → Type 0} → w ≡ span text (f .at) (f .end) → ((c : ℕ) → P c → Q c) → ((c : ℕ) → has c w ≡ true → Q c)
       → ((front rest : List ℕ) → ((c : ℕ) → has c front ≡ true → has c w ≡ true) → K (front ++ (w ++ rest)) → L rest) → Unread text cs (f .end) Q L
-  unread-word {w} {Q} {L} e k q l = by (worded (n .feeds (u .rest) (u .read .0) (u .read .1) (u .read .2)))
+  unread-word {w} {Q} {L} e k q l = by (worded (n .whole) (n .feeds (u .rest) (u .read .0) (u .read .1) (u .read .2)))
     where
       by : Worded text f (u .rest) → Unread text cs (f .end) Q L
       by x =

@@ -1,6 +1,7 @@
--- Three numbers written in a row of a list: what stands there, and everywhere else.
+-- Four numbers written in a row of a list: what stands there, and everywhere else.
 use Prim.Native.Nat.{ℕ, _+_, _*_, _<_}
 use native.Mathlib.Omega.{arith}
+use native.Mathlib.Nat.{add-zero}
 use mathlib.Core.Path.{_≡_, _∙_}
 use mathlib.Core.List.{List}
 use lib.ListN.{length, getD, set, length-set}
@@ -9,46 +10,70 @@ use Rattle.meaning.specs.Bounds.{signalsMost}
 use Rattle.feeds.specs.declared.Feed.{Feed}
 use Rattle.pins.specs.Shown.{Fills}
 
-abbrev pub three : List ℕ → ℕ → ℕ → ℕ → ℕ → List ℕ
-three l i a b c = set (set (set l i a) (i + 1) b) (i + 2) c
+abbrev pub four : List ℕ → ℕ → ℕ → ℕ → ℕ → ℕ → List ℕ
+four l i a b c d = set (set (set (set l i a) (i + 1) b) (i + 2) c) (i + 3) d
 
-module _ (l : List ℕ) (i a b c : ℕ) where
-  three-length : length (three l i a b c) ≡ length l
+module _ (l : List ℕ) (i a b c d : ℕ) where
+  abbrev one : List ℕ
+  one = set l i a
+
+  abbrev two : List ℕ
+  two = set one (i + 1) b
+
+  abbrev three : List ℕ
+  three = set two (i + 2) c
+
+  three-length : length three ≡ length l
   three-length = simp length-set
 
-  three-other : (j : ℕ) → (j ≡ i → ⊥) → (j ≡ i + 1 → ⊥) → (j ≡ i + 2 → ⊥) → getD (three l i a b c) j 0 ≡ getD l j 0
-  three-other j x y z =
-      getD-set-other (set (set l i a) (i + 1) b) (i + 2) j c 0 z ∙ getD-set-other (set l i a) (i + 1) j b 0 y ∙ getD-set-other l i j a 0 x
+  four-length : length (four l i a b c d) ≡ length l
+  four-length = simp length-set
 
-  module _ (h : i + 2 < length l) where
-    three-first : getD (three l i a b c) i 0 ≡ a
-    three-first =
-        getD-set-other (set (set l i a) (i + 1) b) (i + 2) i c 0 (λ z. omega arith) ∙ getD-set-other (set l i a) (i + 1) i b 0 (λ z. omega arith)
-        ∙ getD-set-same l i a 0 (omega arith)
+  four-other : (j : ℕ) → (j ≡ i → ⊥) → (j ≡ i + 1 → ⊥) → (j ≡ i + 2 → ⊥) → (j ≡ i + 3 → ⊥) → getD (four l i a b c d) j 0 ≡ getD l j 0
+  four-other j x y z w =
+      getD-set-other three (i + 3) j d 0 w ∙ getD-set-other two (i + 2) j c 0 z ∙ getD-set-other one (i + 1) j b 0 y ∙ getD-set-other l i j a 0 x
 
-    three-second : getD (three l i a b c) (i + 1) 0 ≡ b
-    three-second =
-        getD-set-other (set (set l i a) (i + 1) b) (i + 2) (i + 1) c 0 (λ z. omega arith)
-        ∙ getD-set-same (set l i a) (i + 1) b 0 (omega (arith, length-set l i a))
+  module _ (h : i + 3 < length l) where
+    four-first : getD (four l i a b c d) i 0 ≡ a
+    four-first =
+        getD-set-other three (i + 3) i d 0 (λ z. omega arith) ∙ getD-set-other two (i + 2) i c 0 (λ z. omega arith)
+        ∙ getD-set-other one (i + 1) i b 0 (λ z. omega arith) ∙ getD-set-same l i a 0 (omega arith)
 
-    three-third : getD (three l i a b c) (i + 2) 0 ≡ c
-    three-third = getD-set-same (set (set l i a) (i + 1) b) (i + 2) c 0 (omega (arith, length-set (set l i a) (i + 1) b, length-set l i a))
+    four-second : getD (four l i a b c d) (i + 1) 0 ≡ b
+    four-second =
+        getD-set-other three (i + 3) (i + 1) d 0 (λ z. omega arith) ∙ getD-set-other two (i + 2) (i + 1) c 0 (λ z. omega arith)
+        ∙ getD-set-same one (i + 1) b 0 (omega (arith, length-set l i a))
 
-same-feed : {a b c x y z : ℕ} → a ≡ x → b ≡ y → c ≡ z → _≡_ {A = Feed} (record { at = a; end = b; left = c }) (record { at = x; end = y; left = z })
-same-feed p q r = rw (p, q, r)
+    four-third : getD (four l i a b c d) (i + 2) 0 ≡ c
+    four-third =
+        getD-set-other three (i + 3) (i + 2) d 0 (λ z. omega arith)
+        ∙ getD-set-same two (i + 2) c 0 (omega (arith, length-set one (i + 1) b, length-set l i a))
 
--- a feed's three numbers lie apart from every other's
-pub fills : (feeds : List ℕ) (level s : ℕ) (f : Feed) → (level * signalsMost + s) * 3 + 2 < length feeds
-    → Fills feeds level s f (three feeds ((level * signalsMost + s) * 3) (f .at) (f .end) (f .left))
-fills feeds level s f h =
-    let i = (level * signalsMost + s) * 3 in
-    record {
-      long = three-length feeds i (f .at) (f .end) (f .left);
-      here = same-feed (three-first feeds i (f .at) (f .end) (f .left) h) (three-second feeds i (f .at) (f .end) (f .left) h)
-          (three-third feeds i (f .at) (f .end) (f .left) h);
-      others = λ l t o.
-          let j = (l * signalsMost + t) * 3 in
-          same-feed (three-other feeds i (f .at) (f .end) (f .left) j (λ z. o (omega arith)) (λ z. o (omega arith)) (λ z. o (omega arith)))
-          (three-other feeds i (f .at) (f .end) (f .left) (j + 1) (λ z. o (omega arith)) (λ z. o (omega arith)) (λ z. o (omega arith)))
-          (three-other feeds i (f .at) (f .end) (f .left) (j + 2) (λ z. o (omega arith)) (λ z. o (omega arith)) (λ z. o (omega arith)));
-    }
+    four-fourth : getD (four l i a b c d) (i + 3) 0 ≡ d
+    four-fourth = getD-set-same three (i + 3) d 0 (omega (arith, three-length))
+
+same-feed : {a b c d x y z w : ℕ} → a ≡ x → b ≡ y → c ≡ z → d ≡ w
+    → _≡_ {A = Feed} (record { at = a; end = b; left = c; from = d }) (record { at = x; end = y; left = z; from = w })
+same-feed p q r s = rw (p, q, r, s)
+
+-- a feed's four numbers lie apart from every other's
+module _ (feeds : List ℕ) (level s : ℕ) (f : Feed) where
+  abbrev written : List ℕ
+  written = four feeds ((level * signalsMost + s) * 4) (f .at) (f .end) (f .left) (f .from)
+
+  apart : (l t k : ℕ) → (l * signalsMost + t ≡ level * signalsMost + s → ⊥) → k < 4
+      → getD written ((l * signalsMost + t) * 4 + k) 0 ≡ getD feeds ((l * signalsMost + t) * 4 + k) 0
+  apart l t k o h =
+      four-other feeds ((level * signalsMost + s) * 4) (f .at) (f .end) (f .left) (f .from) ((l * signalsMost + t) * 4 + k)
+      (λ z. o (omega arith)) (λ z. o (omega arith)) (λ z. o (omega arith)) (λ z. o (omega arith))
+
+  pub fills : (level * signalsMost + s) * 4 + 3 < length feeds → Fills feeds level s f written
+  fills h =
+      let i = (level * signalsMost + s) * 4 in
+      record {
+        long = four-length feeds i (f .at) (f .end) (f .left) (f .from);
+        here = same-feed (four-first feeds i (f .at) (f .end) (f .left) (f .from) h) (four-second feeds i (f .at) (f .end) (f .left) (f .from) h)
+            (four-third feeds i (f .at) (f .end) (f .left) (f .from) h) (four-fourth feeds i (f .at) (f .end) (f .left) (f .from) h);
+        others = λ l t o.
+            same-feed (rw add-zero at (apart l t 0 o (omega arith))) (apart l t 1 o (omega arith)) (apart l t 2 o (omega arith)) (apart l t 3 o (omega arith));
+      }

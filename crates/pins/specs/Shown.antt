@@ -28,15 +28,16 @@ levels = depthMost + 1
 abbrev pub valuesLength : ℕ
 valuesLength = (levels + 1) * signalsMost
 
--- three numbers for each level and signal: what is left of its argument
+-- four numbers for each level and signal: what is left of its argument
 abbrev pub feedsLength : ℕ
-feedsLength = levels * signalsMost * 3
+feedsLength = levels * signalsMost * 4
 
 abbrev pub feedAt : List ℕ → ℕ → ℕ → Feed
 feedAt feeds level s = record {
-  at = getD feeds ((level * signalsMost + s) * 3) 0;
-  end = getD feeds ((level * signalsMost + s) * 3 + 1) 0;
-  left = getD feeds ((level * signalsMost + s) * 3 + 2) 0;
+  at = getD feeds ((level * signalsMost + s) * 4) 0;
+  end = getD feeds ((level * signalsMost + s) * 4 + 1) 0;
+  left = getD feeds ((level * signalsMost + s) * 4 + 2) 0;
+  from = getD feeds ((level * signalsMost + s) * 4 + 3) 0;
 }
 
 -- a feed was written: all others are as they were

@@ -28,7 +28,7 @@ pub const LEVELS: usize = 9;
 
 pub const VALUES: usize = (LEVELS + 1) * sets::MOST;
 
-pub const FEEDS: usize = LEVELS * sets::MOST * 3;
+pub const FEEDS: usize = LEVELS * sets::MOST * 4;
 // No table.
 pub const NONE: usize = TABLES;
 
@@ -39,11 +39,12 @@ pub fn feed_at(feeds: &[usize], level: usize, s: usize) -> Feed
     requires { ⌜ (length (now feeds) ≡ feedsLength) × (level < levels) × (s < signalsMost) ⌝ }
     ensures { λ r. ⌜ r ≡ feedAt (now (feeds .entry)) level s ⌝ }
 {
-    let i = (level * sets::MOST + s) * 3;
+    let i = (level * sets::MOST + s) * 4;
     Feed {
         at: feeds[i],
         end: feeds[i + 1],
         left: feeds[i + 2],
+        from: feeds[i + 3],
     }
 }
 
@@ -51,10 +52,11 @@ pub fn put_feed(feeds: &mut [usize], level: usize, s: usize, f: Feed)
     requires { ⌜ (length (now feeds) ≡ feedsLength) × (level < levels) × (s < signalsMost) ⌝ }
     ensures { λ _. ⌜ Fills (now (feeds .entry)) level s f (now (feeds .exit)) ⌝ }
 {
-    let i = (level * sets::MOST + s) * 3;
+    let i = (level * sets::MOST + s) * 4;
     feeds[i] = f.at;
     feeds[i + 1] = f.end;
     feeds[i + 2] = f.left;
+    feeds[i + 3] = f.from;
 }
 
 // A body's arguments, all of each left.

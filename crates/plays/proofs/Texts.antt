@@ -129,12 +129,12 @@ module _ (text places lists tplaces waves book rows list : List ℕ) (known : Kn
           run-left e = next-left upcoming (s .sound env (d .patterns) (upcoming .decl) listed-next m (start signals) (opening-long signals) e)
 
   -- before the first pattern
-  pub opening-sized : SomeRun text places lists tplaces waves book rows list known signals listed patterns → Sized all 0 (arrays (replicate 640 0) (replicate 1_728 0) (replicate 128 0))
+  pub opening-sized : SomeRun text places lists tplaces waves book rows list known signals listed patterns → Sized all 0 (arrays (replicate 640 0) (replicate 2_304 0) (replicate 128 0))
   opening-sized s = record {
     roomy = record {
       few = rw (s .runs .signals-is) at (s .runs .tabled .few-signals);
       values-long = length-replicate {A = ℕ} 640 0;
-      feeds-long = length-replicate {A = ℕ} 1_728 0;
+      feeds-long = length-replicate {A = ℕ} 2_304 0;
       inside-levels = omega arith;
     };
     args-long = length-replicate {A = ℕ} 128 0;
@@ -149,5 +149,5 @@ module _ (text places lists tplaces waves book rows list : List ℕ) (known : Kn
         → Left (h .tabled .parts .env .tables) signals (h .tabled .parts .env) (d .patterns) run (listFrom text list listed k)
 
   pub unplayed : {marks sums : List ℕ} → SomeRun text places lists tplaces waves book rows list known signals listed patterns
-      → Unplayed marks sums 0 (arrays (replicate 640 0) (replicate 1_728 0) (replicate 128 0))
+      → Unplayed marks sums 0 (arrays (replicate 640 0) (replicate 2_304 0) (replicate 128 0))
   unplayed s = record { sized = opening-sized s; left = λ p d run h m. run-begins h }

@@ -149,7 +149,7 @@ module _ (text places lists tplaces waves book rows list : List ℕ) (known : Kn
 
   -- before the first
   pub unseen : SomeText text places lists tplaces waves book rows list known signals listed patterns sized first due before → 10 * sized ≤ budget
-      → Unseen 0 (arrays (replicate 640 0) (replicate 1_728 0) (replicate 128 0)) (outset budget first due) before
+      → Unseen 0 (arrays (replicate 640 0) (replicate 2_304 0) (replicate 128 0)) (outset budget first due) before
   unseen s enough = record {
     arrays-sized = opening-sized text places lists tplaces waves book rows list known signals listed patterns
         (record { parts = s .parts; read = s .read; body = s .it .run; runs = s .accepts .runs });

@@ -1,4 +1,4 @@
--- Three numbers, one after the other.
+-- Four numbers, one after the other.
 use native.Mathlib.Omega.{arith}
 use lib.ListN.{length-set}
 use Rattle.pins.proofs.Written.{fills}
@@ -39,6 +39,15 @@ mul-feeds-3 c = search needs
 slice-write-feeds-3 : tie.Need-slice-write-feeds-3
 slice-write-feeds-3 c = simp length-set (omega arith)
 
+add-feeds-3 : tie.Need-add-feeds-3
+add-feeds-3 c = search needs
+
+mul-feeds-4 : tie.Need-mul-feeds-4
+mul-feeds-4 c = search needs
+
+slice-write-feeds-4 : tie.Need-slice-write-feeds-4
+slice-write-feeds-4 c = simp length-set (omega arith)
+
 same-length : tie.Need-same-length
 same-length c = search needs
 
@@ -60,5 +69,8 @@ put-feed-spec =
     add-feeds-2
     mul-feeds-3
     slice-write-feeds-3
+    add-feeds-3
+    mul-feeds-4
+    slice-write-feeds-4
     same-length
     returns)
