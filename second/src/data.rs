@@ -6,7 +6,7 @@ use crate::reader::Reader;
 use crate::refusal::*;
 use crate::tokens::Token;
 
-/// A word of data whose first character stands `repeat` times, the rest once.
+/// A word of data that stands `repeat` times, one after another; it is spelled out only where its characters are due.
 #[derive(Clone, Copy, Debug)]
 pub struct Piece {
     repeat: u32,
@@ -15,28 +15,26 @@ pub struct Piece {
 }
 
 impl Piece {
+    /// The largest repeat of a word as long as a text is far below the largest u32.
     pub fn count(&self) -> u32 {
-        self.repeat - 1 + self.length
+        self.repeat * self.length
     }
 
     /// Spells out its first characters, `most` at most.
     pub fn spell(&self, text: &[u8], most: u64, chars: &mut Vec<u8>) {
         let most = u64::from(self.count()).min(most) as usize;
-        let extra = (self.repeat as usize - 1).min(most);
-        let word = &text[self.place as usize..];
-        if extra > 0 {
-            chars.resize(chars.len() + extra, word[0]);
+        let start = chars.len();
+        let once = most.min(self.length as usize);
+        chars.extend_from_slice(&text[self.place as usize..][..once]);
+        // What stands there is whole words, so it can be copied in ever longer parts.
+        while chars.len() < start + most {
+            let part = (chars.len() - start).min(start + most - chars.len());
+            chars.extend_from_within(start..start + part);
         }
-        chars.extend_from_slice(&word[..most - extra]);
     }
 
     pub fn character(&self, text: &[u8], offset: u32) -> u8 {
-        text[(self.place + offset.saturating_sub(self.repeat - 1)) as usize]
-    }
-
-    /// How many characters from `offset` on are the same one by the repeat alone.
-    fn run_from(&self, offset: u32) -> u32 {
-        self.repeat.saturating_sub(offset).max(1)
+        text[(self.place + offset % self.length) as usize]
     }
 }
 
@@ -111,15 +109,17 @@ impl Cursor {
         }
     }
 
-    /// Goes past `count` characters and shows each run of a repeat once.
-    pub fn take_runs(&mut self, text: &[u8], pieces: &[Piece], count: u32, mut show: impl FnMut(u8)) {
+    /// Goes past `count` characters. Of each piece the last ones are shown, one word's length at most: they hold all that were
+    /// passed, and the last comes last.
+    pub fn take_once(&mut self, text: &[u8], pieces: &[Piece], count: u32, mut show: impl FnMut(u8)) {
         let mut left = count;
         while left > 0 {
             let piece = &pieces[self.piece as usize];
-            let run = piece.run_from(self.offset).min(left);
-            show(piece.character(text, self.offset));
-            self.step(piece, run);
-            left -= run;
+            let part = (piece.count() - self.offset).min(left);
+            let end = self.offset + part;
+            (end - part.min(piece.length)..end).for_each(|offset| show(piece.character(text, offset)));
+            self.step(piece, part);
+            left -= part;
         }
     }
 }

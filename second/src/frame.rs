@@ -35,8 +35,8 @@ impl Frame {
         self.cursors[pin as usize].skip(&document.program.pieces, count);
     }
 
-    pub fn take_runs(&mut self, document: &Document, pin: u8, count: u32, show: impl FnMut(u8)) {
-        self.cursors[pin as usize].take_runs(document.text, &document.program.pieces, count, show);
+    pub fn take_once(&mut self, document: &Document, pin: u8, count: u32, show: impl FnMut(u8)) {
+        self.cursors[pin as usize].take_once(document.text, &document.program.pieces, count, show);
     }
 
     /// A Shift's cycles are said by the use, all others by the statement.

@@ -247,7 +247,7 @@ impl<'d> Judge<'d, '_> {
             for (pin, character) in document.assigned(assign) {
                 let (mut any, mut last) = (0, document.timing.lacks(pin, character));
                 if character == b'#' {
-                    frame.take_runs(document, pin, frame.shifts, |shifted| {
+                    frame.take_once(document, pin, frame.shifts, |shifted| {
                         last = document.timing.lacks(pin, shifted);
                         any |= last;
                     });

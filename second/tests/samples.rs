@@ -61,8 +61,8 @@ fn f_no_turn() {
 
 #[test]
 fn g_repeat_mark() {
-    let text = sample_with("A = 101; B = LH;", "A = \\r4 01; B = LHLH;");
-    assert_eq!(rows(&text), "1X0 0H0 1H0 0H0 0L0 0H0 0L0 0H0 1H0");
+    let text = sample_with("A = 101; B = LH;", "A = \\r4 01; B = LHLHLHL;");
+    assert_eq!(rows(&text), "1X0 0H0 1H0 0H0 0L0 1H0 0L0 1H0 0L0 1H0 0L0 1L0");
 }
 
 #[test]

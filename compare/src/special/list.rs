@@ -3,7 +3,7 @@
 use super::Due::{Accepted, Refused};
 use super::Special;
 
-pub(super) const SPECIAL: [Special; 49] = [
+pub(super) const SPECIAL: [Special; 61] = [
     Special {
         why: "a value of the first turn's end fails in the second",
         bodies: "",
@@ -264,6 +264,90 @@ pub(super) const SPECIAL: [Special; 49] = [
         bodies: "MacroDefs { m { Shift { «V { A = #; } } } }",
         list: "p;",
         patterns: "Pattern p { W t1; Macro m { A = \\r4000 0 x; } }",
+        due: Refused(17),
+    },
+    Special {
+        why: "a repeated word's last character, in the first turns already",
+        bodies: "MacroDefs { m { Shift { «V { A = #; } } } }",
+        list: "p;",
+        patterns: "Pattern p { W t1; Macro m { A = \\r2000 0x; } }",
+        due: Refused(17),
+    },
+    Special {
+        why: "the value that a Shift leaves within a repeated word",
+        bodies: "MacroDefs { m { Shift { V { A = #; } } W t1; V { } W t0; V { A = #; } } }",
+        list: "p;",
+        patterns: "Pattern p { W t0; Macro m { A = \\r2 0x; } }",
+        due: Accepted(1, 5, 9),
+    },
+    Special {
+        why: "such a value that fails",
+        bodies: "MacroDefs { m { Shift { V { A = #; } } W t1; «V { } W t0; V { A = #; } } }",
+        list: "p;",
+        patterns: "Pattern p { W t0; Macro m { A = \\r2 x0; } }",
+        due: Refused(17),
+    },
+    Special {
+        why: "a Shift that begins within a repeated word",
+        bodies: "MacroDefs { m { V { A = #; } Shift { V { A = #; } } W t1; «V { } } }",
+        list: "p;",
+        patterns: "Pattern p { W t0; Macro m { A = \\r3 00x; } }",
+        due: Refused(17),
+    },
+    Special {
+        why: "the whole word repeats, for windows at each cycle",
+        bodies: "MacroDefs { m { Shift { V { A = #; B = #; } } V { A = #; } } }",
+        list: "p;",
+        patterns: "Pattern p { W t0; Macro m { A = \\r4 01; B = \\r2 0x1 1; } Macro m { A = 1 \\r2 01x 0; B = \\r1 01 \\r5 x; } }",
+        due: Accepted(1, 16, 10),
+    },
+    Special {
+        why: "a repeated word in V and C, on a group",
+        bodies: "MacroDefs { m { V { ab = \\r1 0#; } } }",
+        list: "p;",
+        patterns: "Pattern p { W t0; C { ab = \\r1 1x; } V { ab = \\r2 0; } Macro m { B = \\r1 x; } V { ab = \\r1 0 \\r1 1; } }",
+        due: Accepted(1, 3, 7),
+    },
+    Special {
+        why: "a comment ends the word that repeats",
+        bodies: "MacroDefs { m { Shift { V { A = #; } } } }",
+        list: "p;",
+        patterns: "Pattern p { W t0; Macro m { A = \\r2 0/**/1; } }",
+        due: Accepted(1, 3, 5),
+    },
+    Special {
+        why: "a `#` behind the word that repeats stands once",
+        bodies: "MacroDefs { m { V { ab = \\r2 0#«; } } }",
+        list: "",
+        patterns: "Pattern p { }",
+        due: Refused(12),
+    },
+    Special {
+        why: "an argument of as many characters as are allowed, by words",
+        bodies: "MacroDefs { m { Shift { V { A = #; } } } }",
+        list: "p;",
+        patterns: "Pattern p { W t0; Macro m { A = \\r1365 01x 1; } }",
+        due: Accepted(1, 4096, 5),
+    },
+    Special {
+        why: "an argument of one character more, by words",
+        bodies: "MacroDefs { m { Shift { V { A = #; } } } }",
+        list: "p;",
+        patterns: "Pattern p { W t0; Macro m { A = \\r241 01x01x01x01x01x01«; } }",
+        due: Refused(12),
+    },
+    Special {
+        why: "what the data holds behind its surplus is refused first",
+        bodies: "MacroDefs { m { Shift { V { A = #; } } } }",
+        list: "p;",
+        patterns: "Pattern p { W t0; Macro m { A = \\r4096 01 \\r2 «0_; } }",
+        due: Refused(12),
+    },
+    Special {
+        why: "a repeated word's character behind the Shift",
+        bodies: "MacroDefs { m { Shift { V { A = #; } } «V { A = #; } } }",
+        list: "p;",
+        patterns: "Pattern p { W t1; Macro m { A = \\r1 010x; } }",
         due: Refused(17),
     },
     Special {

@@ -172,7 +172,7 @@ fn shifts(size: Size, random: &mut Random) -> String {
     let (long, short) = (4_096 / size.shorter, 1_500 / size.shorter);
     let body = fill(size.heavy, |number| {
         if number % 2 == 0 {
-            return format!("Macro load {{ pin_number_0 = \\r{} 01; pin_number_1 = \\r{long} H; }}\n", long - 1);
+            return format!("Macro load {{ pin_number_0 = \\r{} 01; pin_number_1 = \\r{long} H; }}\n", long / 2);
         }
         let bits: String = (0..short).map(|_| if random.percent(50) { '0' } else { '1' }).collect();
         format!("Macro load {{ pin_number_0 = {bits}; pin_number_1 = \\r{short} L; }}\n")

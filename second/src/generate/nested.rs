@@ -19,9 +19,18 @@ impl Nested {
         let m = self.body(1, &[]);
         let n = self.body(1, &["Macro m { A = 01y; B = 1; }"]);
         let q = self.body(0, &["Macro n;"]);
-        let p = self.body(3, &["Macro n;", "Call q;", "Macro m { A = 10; B = 0; }", "Macro m { A = x001; B = y; }"]);
+        let uses = [
+            "Macro n;",
+            "Call q;",
+            "Macro m { A = 10; B = 0; }",
+            "Macro m { A = \\r2 x0 01; B = y; }",
+            "Macro m { A = \\r3 0y; B = 1; }",
+        ];
+        let p = self.body(3, &uses);
         let start = self.0.pick(&["W t0;", "W t1;", "W t2;", "W t0;", "W t1;", "W t2;", ""]);
-        let macros = format!("m {{ {m} Shift {{ V {{ A = #; }} }} V {{ ab = ##; }} }} n {{ {n} }}");
+        // What a Shift leaves shows in a cycle of its own, also by another table.
+        let left = self.0.pick(&["", "", "V { }", "W t1; V { }", "W t2; V { B = 0; }"]);
+        let macros = format!("m {{ {m} Shift {{ V {{ A = #; }} }} {left} V {{ ab = ##; }} }} n {{ {n} }}");
         text(&tables, &macros, &format!("q {{ {q} }}"), &format!("{start} {p}"))
     }
 

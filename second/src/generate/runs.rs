@@ -10,7 +10,7 @@ pub fn run(kind: &str, signals: usize) -> Option<Vec<u8>> {
     let (zero, one) = ("V { pin_number_0 = 0; } ", "V { pin_number_0 = 1; } ");
     let text = match kind {
         "turns" => pattern(signals, "", &format!("Loop 1000000 {{ {zero}{one}{zero}}}\n")),
-        "shifted" => pattern(signals, load, &"Macro load { pin_number_0 = \\r3999 01; }\n".repeat(2)),
+        "shifted" => pattern(signals, load, &"Macro load { pin_number_0 = \\r2000 01; }\n".repeat(2)),
         "nests" => pattern(signals, "", &nested("Loop 4 { ", 7, &format!("{zero}{one}"))),
         "far" => pattern(signals, "", &nested("Loop 65536 { ", 1, &nested("Loop 16777215 { ", 1, zero))),
         _ => return None,

@@ -2,11 +2,14 @@
 
 use super::plan::Slip;
 use super::{Body, Writer};
-use crate::bounds::MAX_DEPTH;
+use crate::bounds::{MAX_DEPTH, MAX_REPEAT};
 use crate::statements::Extent;
 
 /// A use of this many bodies of this size stays well within the bound on the run.
 const LARGEST_USE: u64 = 400;
+/// The longest word that is looked for to be repeated; what it says is spelled out all the same up to this length, here and there.
+const LONGEST_WORD: usize = 17;
+const LONGEST_SPELLED: usize = 40;
 /// One use of the padding macro costs 64.
 const PADDING: usize = 63;
 
@@ -110,7 +113,9 @@ impl Writer {
         if self.plan.argument > 0 {
             let signal = self.signals[0].clone();
             self.out.put(&format!("Macro arg_ {{ {signal} ="));
-            self.data(&vec![self.base[0]; self.plan.argument]);
+            let word = self.random.pick(&[&b"0"[..], b"01", b"001", b"0110100110010110", b"01101001100101101"]);
+            let chars: Vec<u8> = word.iter().map(|bit| self.base[usize::from(bit & 1)]).collect();
+            self.data(&chars.iter().copied().cycle().take(self.plan.argument).collect::<Vec<u8>>());
             self.out.put("; }");
         }
         if let Some(size) = self.plan.size {
@@ -222,7 +227,7 @@ impl Writer {
             let name = self.argument_name(pin);
             self.put_name(&name);
             self.out.put("=");
-            let chars: Vec<u8> = (0..length).map(|_| self.character()).collect();
+            let chars = self.argument_data(length);
             self.data(&chars);
             self.out.put(";");
         }
@@ -314,30 +319,62 @@ impl Writer {
         }
     }
 
-    /// DATA: runs spelled out or by `\r`, cut into words here and there.
+    /// DATA: what stands there several times by `\r`, if it is short now and then only; all else cut into words.
     fn data(&mut self, chars: &[u8]) {
         let mut word = String::new();
         let mut at = 0;
         while at < chars.len() {
-            let byte = chars[at];
-            let run = chars[at..].iter().take_while(|&&other| other == byte).count();
-            if byte == b'#' || (run > 1 && (run > 40 || self.random.percent(30))) || self.random.percent(8) {
+            let rest = &chars[at..];
+            let (length, times) = longest_repeat(rest);
+            let repeats = length * times > LONGEST_SPELLED || self.random.percent(if times > 1 { 30 } else { 2 });
+            if rest[0] == b'#' || repeats || self.random.percent(8) {
                 self.out.put(&std::mem::take(&mut word));
             }
-            if byte == b'#' {
+            if rest[0] == b'#' {
                 self.out.put("#");
                 at += 1;
-            } else if word.is_empty() && (run > 40 || self.random.percent(15)) {
-                let digits = self.digits(run.min(4097) as u64);
-                self.out.put("\\");
-                self.out.word(format!("r{digits}"));
-                word.push(byte as char);
-                at += run.min(4097);
+            } else if repeats {
+                at += self.repeated(rest, length, times);
             } else {
-                word.push(byte as char);
+                word.push(rest[0] as char);
                 at += 1;
             }
         }
         self.out.put(&word);
     }
+
+    /// A word by `\r`, also once, one more than is allowed, or the same word twice in a longer one; gives the characters it stands for.
+    fn repeated(&mut self, rest: &[u8], length: usize, times: usize) -> usize {
+        let times = times.min(MAX_REPEAT as usize + 1);
+        let twice = times % 2 == 0 && self.random.percent(20);
+        let (length, times) = if twice { (2 * length, times / 2) } else { (length, times) };
+        let digits = self.digits(times as u64);
+        self.out.put("\\");
+        self.out.word(format!("r{digits}"));
+        self.out.word(String::from_utf8_lossy(&rest[..length]));
+        length * times
+    }
+
+    /// An argument's characters: any, or one word again and again and the beginning of it.
+    fn argument_data(&mut self, length: usize) -> Vec<u8> {
+        let word = if self.random.percent(40) { self.random.between(1, LONGEST_WORD) } else { length };
+        let word: Vec<u8> = (0..word.min(length)).map(|_| self.character()).collect();
+        word.iter().copied().cycle().take(length).collect()
+    }
+}
+
+/// The word that begins here and stands there again so often that most is said by it, and how often; one of no `#`.
+fn longest_repeat(rest: &[u8]) -> (usize, usize) {
+    let plain = rest.iter().take_while(|&&byte| byte != b'#').count();
+    let times = |length: usize| {
+        let (word, rest) = rest[..plain].split_at(length);
+        1 + rest.chunks(length).take_while(|&other| other == word).count()
+    };
+    let repeats = (1..=LONGEST_WORD.min(plain)).map(|length| (length, times(length)));
+    // Of several the shortest word, which stands there most often.
+    repeats
+        .rev()
+        .filter(|&(length, times)| length == 1 || times > 1)
+        .max_by_key(|&(length, times)| length * times)
+        .unwrap_or((1, 1))
 }
