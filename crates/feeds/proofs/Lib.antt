@@ -3,4 +3,4 @@ mod Spans
 mod Ahead
 mod Passing
 pub mod Worded
-mod Within
+pub mod Front

@@ -1,10 +1,10 @@
 -- What is left of an argument's characters, read from the text as they are needed: repeats are spelled out one by one.
-use Prim.Native.Nat.{ℕ, suc, _-_, _≤_, _<_, min}
+use Prim.Native.Nat.{ℕ, suc, _≤_, _<_, min}
 use mathlib.Core.Path.{_≡_}
-use mathlib.Core.Bool.{true, false, not, _&&_, _||_}
-use mathlib.Core.List.{List, [], _++_}
-use lib.Dec.{ltb, eqb}
-use lib.ListN.{length, getD, drop}
+use mathlib.Core.Bool.{true, false}
+use mathlib.Core.List.{List, [], _∷_, _++_}
+use lib.Dec.{eqb}
+use lib.ListN.{getD, drop}
 use Rattle.tokens.specs.Tokens.{Tok, Toks, toks, left}
 use Rattle.meaning.specs.Reader.{ok}
 use Rattle.meaning.specs.Data.{stretched, repeatOf, times, repeated, dataRead}
@@ -32,18 +32,15 @@ pub record Takes (text : List ℕ) (f : Feed) (r : Fed) : Type 0 where
 pub record Skips (text : List ℕ) (f : Feed) (n : ℕ) (r : Feed) : Type 0 where
   pub left : (cs : List ℕ) → Feeds text f cs → Feeds text r (drop n cs)
 
--- how often the repeat of one character in which the feed f stands says c before its last time
-unfoldable pub repeating : List ℕ → Feed → ℕ → ℕ
-repeating text f c =
-    elim (ltb (f .at) (f .end) && ltb (f .at) (length text)) [
-      | true ↦ elim ((not (eqb (f .from) (f .at)) || not (eqb (f .end - f .at) 1)) || not (eqb (getD text (f .at) 0) c)) [ true ↦ 0 | false ↦ f .left ]
-      | false ↦ 0
-    ]
+-- how many of these characters have the mark 1, before the first that has another
+unfoldable pub front : List ℕ → List ℕ → ℕ
+front marks [] = 0
+front marks (c ∷ cs) = elim (eqb (getD marks c 0) 1) [ true ↦ suc (front marks cs) | false ↦ 0 ]
 
--- at most so many of these: the next n characters are c
-pub record Alike (text : List ℕ) (f : Feed) (c most n : ℕ) : Type 0 where
-  pub is : n ≡ min most (repeating text f c)
-  pub each : (cs : List ℕ) → Feeds text f cs → (i : ℕ) → i < n → next (drop i cs) ≡ c
+-- n are these, at most so many, of the characters of the feed f's word, as often as it is still said
+pub record Fine (text : List ℕ) (f : Feed) (marks : List ℕ) (most n : ℕ) : Type 0 where
+  pub few : n ≤ most
+  pub is : (cs : List ℕ) → Feeds text f cs → n ≡ min most (front marks (span text (f .at) (f .end) ++ stretched (f .left) (span text (f .from) (f .end))))
 
 -- ---- within a word
 

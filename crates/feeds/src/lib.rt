@@ -1,12 +1,14 @@
 // The characters of an argument, one after the other, read from the text where its DATA stands.
 ghost use mathlib.Core.Path.{_≡_};
 ghost use mathlib.Core.List.{List};
-ghost use Prim.Native.Nat.{ℕ, _+_, _-_, _<_};
+ghost use Prim.Native.Nat.{ℕ, _+_, _-_, _≤_, _<_, min};
+ghost use lib.ListN.{length};
 ghost use Rattle.tokens.specs.Tokens.{Toks, toks};
 ghost use Rattle.meaning.specs.Reader.{ok};
-ghost use Rattle.meaning.specs.Data.{dataRead};
+ghost use Rattle.meaning.specs.Data.{stretched, dataRead};
+ghost use Rattle.words.specs.Cursor.{span};
 ghost use mathlib.Core.Bool.{false};
-ghost use Rattle.feeds.specs.Feeds.{Feeds, Takes, Skips, Alike, BehindOne, Passes, Times, Repeats, NextWord, AtWord};
+ghost use Rattle.feeds.specs.Feeds.{Feeds, Takes, Skips, front, Fine, BehindOne, Passes, Times, Repeats, NextWord, AtWord};
 use words::Cursor;
 
 // Where the next character stands: in the word up to `end`, at `at`. Behind its end the word is said `left` times more, each time from its first byte `from` on.
@@ -40,6 +42,12 @@ pub fn start(place: usize) -> Feed
         left: 0,
         from: place,
     }
+}
+
+fn least(a: usize, b: usize) -> usize
+    ensures { λ r. ⌜ r ≡ min b a ⌝ }
+{
+    if a < b { a } else { b }
 }
 
 // ---- within a word
@@ -207,6 +215,79 @@ fn at_word(text: &[u8], feed: Feed) -> Feed
     next_word(text, feed.end)
 }
 
+// ---- characters that are marked
+
+// Where the first byte from `at` to `end` stands whose mark is not 1.
+fn marked(text: &[u8], at: usize, end: usize, marks: &[u8]) -> usize
+    requires { ⌜ (at ≤ end) × (end ≤ length (now text)) ⌝ }
+    ensures { λ r. ⌜ r ≡ at + front (now (marks .entry)) (span (now (text .entry)) at end) ⌝ }
+{
+    let mut i = at;
+    while i < end {
+        let b = text[i] as usize;
+        if marks.len() <= b {
+            return i;
+        }
+        if marks[b] != 1 {
+            return i;
+        }
+        i += 1;
+    }
+    i
+}
+
+// How many characters of a word that is said so many times are marked before the first that is not, at most so many.
+fn fine_times(
+    text: &[u8],
+    from: usize,
+    end: usize,
+    times: usize,
+    marks: &[u8],
+    most: usize,
+) -> usize
+    requires { ⌜ (from < end) × (end ≤ length (now text)) ⌝ }
+    ensures { λ r. ⌜ r ≡ min most (front (now (marks .entry)) (stretched times (span (now (text .entry)) from end))) ⌝ }
+{
+    if times == 0 {
+        return 0;
+    }
+    let width = end - from;
+    let n = marked(text, from, end, marks) - from;
+    if n < width {
+        return least(n, most);
+    }
+    if most / width < times {
+        return most;
+    }
+    times * width
+}
+
+// How many of the next characters are marked before the first that is not, as far as the word says them, at most so many.
+pub fn fine(text: &[u8], feed: Feed, marks: &[u8], most: usize) -> usize
+    ensures { λ r. ⌜ Fine (now (text .entry)) feed (now (marks .entry)) most r ⌝ }
+{
+    let at = feed.at;
+    let end = feed.end;
+    let from = feed.from;
+    if end <= at {
+        return 0;
+    }
+    if text.len() < end {
+        return 0;
+    }
+    let n = marked(text, at, end, marks) - at;
+    if n < end - at {
+        return least(n, most);
+    }
+    if most <= n {
+        return most;
+    }
+    if end <= from {
+        return n;
+    }
+    n + fine_times(text, from, end, feed.left, marks, most - n)
+}
+
 // ---- the next character, and those behind some
 
 // The next character.
@@ -226,24 +307,6 @@ pub fn next(text: &[u8], feed: Feed) -> Fed
         feed: here,
         char: 0,
     }
-}
-
-// How many of the next characters are c for certain, at most so many: those of a repeated character, but for its last.
-pub fn alike(text: &[u8], feed: Feed, c: u8, most: usize) -> usize
-    ensures { λ r. ⌜ Alike (now (text .entry)) feed c most r ⌝ }
-{
-    let at = feed.at;
-    let left = feed.left;
-    if (at < feed.end) & (at < text.len()) {
-        if (feed.from != at) | (feed.end - at != 1) | (text[at] != c) {
-            return 0;
-        }
-        if most < left {
-            return most;
-        }
-        return left;
-    }
-    0
 }
 
 // The feed behind n characters, one word after the other.

@@ -7,7 +7,7 @@ use mathlib.Core.List.{List}
 use lib.ListN.{length, getD, take, drop, length-take}
 use lib.Seq.{getD-take}
 use borrow.Author.Tests.{not-true, not-false}
-use Rattle.meaning.specs.Bounds.{tablesMost}
+use Rattle.meaning.specs.Bounds.{signalsMost, tablesMost}
 use Rattle.meaning.specs.Timing.{Tables}
 use Rattle.meaning.specs.Body.{Assigns}
 use Rattle.meaning.specs.Run.{State, Played, puts, cycleAt, again}
@@ -15,10 +15,10 @@ use Rattle.meaning.specs.Meaning.{allWaves, tableAt, playable, firstFailing}
 use Rattle.timing.specs.Held.{Held}
 use Rattle.measures.specs.Uses.{Given}
 use Rattle.arguments.proofs.Lists.{differ}
-use Rattle.pins.specs.Shown.{Shows, Playable, Told, vector, Repeats, PassesOver}
-use Rattle.pins.proofs.Search.{fine, waves-here, waves-next, waves-end, turn-fails, turn-passes, turn-state, turns-end, no-table, a-table}
+use Rattle.pins.specs.Shown.{Shows, Playable, Told, vector, Advances}
+use Rattle.pins.proofs.Search.{fine, waves-here, waves-next, waves-end, turn-fails, turn-passes, turn-state, turns-pass, turns-state, turns-end, no-table, a-table}
 use Rattle.pins.proofs.Callers.{table-some, table-none, playable-puts, playable-turns}
-use Rattle.pins.proofs.Steady.{Repeated, turns-repeat, repeats-state, repeats-pass, shows-later, shows-steady}
+use Rattle.pins.proofs.Advancing.{ahead-playable}
 
 -- ---- the signals of a cycle
 
@@ -83,18 +83,19 @@ pub record Midway (text : List ℕ) (signals : ℕ) (values : List ℕ) (table :
   pub ends-as : whole .0 ≡ again n (vector p a) state .0
 
 module _ {text : List ℕ} {signals : ℕ} {values : List ℕ} {table : ℕ} {feeds : List ℕ} {level : ℕ} {tabs : Tables} {p : ℕ} {a : Assigns} {whole : Played} where
-  -- a turn is played, and k that repeat it are passed over
+  -- a turn is played, and k more that can be played
   midway-more : (k : ℕ) {n : ℕ} (m : Midway text signals values table feeds level tabs p a (suc (k + n)) whole) → {values′ feeds′ : List ℕ}
       → Shows text signals values′ table feeds′ level (again k (vector p a) (puts a (m .state)) .0)
-      → Repeated p a k (puts a (m .state)) (again k (vector p a) (puts a (m .state))) → playable tabs (cycleAt p (puts a (m .state))) ≡ true
+      → playable tabs (cycleAt p (puts a (m .state))) ≡ true
+      → ((i : ℕ) → i < k → playable tabs (cycleAt p (puts a (again i (vector p a) (puts a (m .state)) .0))) ≡ true)
       → Midway text signals values′ table feeds′ level tabs p a n whole
-  midway-more k {n} m h r e =
+  midway-more k {n} m h e more =
       record {
         state = again k (vector p a) (puts a (m .state)) .0;
         shows = h;
         playable-as = playable-turns k p a (puts a (m .state)) (playable-puts a (m .state) (m .playable-as));
-        fails-as = m .fails-as ∙ turn-passes tabs p a (k + n) (m .state) e ∙ repeats-pass tabs p a k n (puts a (m .state)) r e;
-        ends-as = m .ends-as ∙ turn-state tabs p a (k + n) (m .state) ∙ repeats-state tabs p a k n (puts a (m .state));
+        fails-as = m .fails-as ∙ turn-passes tabs p a (k + n) (m .state) e ∙ turns-pass tabs p a k n (puts a (m .state)) more;
+        ends-as = m .ends-as ∙ turn-state tabs p a (k + n) (m .state) ∙ turns-state tabs p a k n (puts a (m .state));
       }
 
   midway-fails : {n : ℕ} (m : Midway text signals values table feeds level tabs p a (suc n) whole) → {values′ feeds′ : List ℕ}
@@ -166,20 +167,6 @@ module _ {text given waves values feeds : List ℕ} {level signals table t i : �
     next-and : (k : ℕ) → k ≤ t - i - 1 → t - i ≡ suc (k + (t - (i + (1 + k))))
     next-and k h = omega arith
 
-    -- it and k turns that repeat it
-    after-more : Cycles true → {k : ℕ} {feeds‴ : List ℕ} → Repeats text given values″ feeds″ level signals (t - i - 1) k
-        → PassesOver text given feeds″ level signals k feeds‴ → After text given waves values feeds level signals table t (i + (1 + k)) values″ feeds‴
-    after-more c {k} x w =
-        record {
-          midway = λ a s tplaces tables p tabs d g q h.
-              let m = turn (next-and k (x .few)) a s tplaces tables p tabs d g q h in
-              let l = put a (m .state) table g (m .playable-as) (m .shows) in
-              let e = c tplaces tables p tabs _ d l in
-              let u = playable-puts a (m .state) (m .playable-as) in
-              let r = turns-repeat p (g .once) (g .gave .real) k (puts a (m .state)) (shows-steady g (m .state) u l x) in
-              midway-more k m (shows-later g u l w r) r e;
-        }
-
     after-fails : Cycles false → Whatever text given waves values feeds level signals table t (λ tabs p a y. Told tabs text signals values″ table feeds″ level true p y)
     after-fails c a s tplaces tables p tabs d g k h =
         let m = turn next a s tplaces tables p tabs d g k h in
@@ -197,9 +184,20 @@ module _ {text given waves values feeds : List ℕ} {level signals table t i : �
           a-table tabs p s table (l .table-is ∙ table-some table h) ∙ ap (λ (pins : List ℕ). allWaves 0 pins (tableAt tabs table)) (l .pins-are)
           ∙ w .is text tplaces tables tabs d
 
-      pub after-searched : Waved waves values″ signals table true → {k : ℕ} {feeds‴ : List ℕ} → Repeats text given values″ feeds″ level signals (t - i - 1) k
-          → PassesOver text given feeds″ level signals k feeds‴ → After text given waves values feeds level signals table t (i + (1 + k)) values″ feeds‴
-      after-searched w = after-more (cycles w)
+      -- it and k turns more
+      pub after-searched : Waved waves values″ signals table true → signals ≤ signalsMost → signals ≤ length values″ → {k : ℕ} {values‴ feeds‴ : List ℕ}
+          → Advances text given values″ feeds″ waves level signals table (t - i - 1) k values‴ feeds‴
+          → After text given waves values feeds level signals table t (i + (1 + k)) values‴ feeds‴
+      after-searched w few room {k} y =
+          record {
+            midway = λ a s tplaces tables p tabs d g q z.
+                let m = turn (next-and k (y .ahead .few)) a s tplaces tables p tabs d g q z in
+                let l = put a (m .state) table g (m .playable-as) (m .shows) in
+                let u = playable-puts a (m .state) (m .playable-as) in
+                let all = ap (λ (pins : List ℕ). allWaves 0 pins (tableAt tabs table)) (l .pins-are) ∙ w .is text tplaces tables tabs d in
+                midway-more k m (y .shows a (puts a (m .state)) table p g u l) (cycles w tplaces tables p tabs _ d l)
+                (ahead-playable h few d g (m .state) u l room all (y .ahead) p);
+          }
 
       pub after-lacks : Waved waves values″ signals table false
           → Whatever text given waves values feeds level signals table t (λ tabs p a y. Told tabs text signals values″ table feeds″ level true p y)

@@ -4,8 +4,8 @@ mod Rows
 pub mod Puts
 mod Putting
 mod Supplying
-mod Repeating
-mod Steady
+mod Skipping
 pub mod Search
 pub mod Callers
+mod Advancing
 mod Cycles

@@ -1,7 +1,9 @@
 -- The search for a missing waveform: signal by signal in a cycle, turn by turn in a V that is played t times.
-use Prim.Native.Nat.{ℕ, suc, _+_, _≤_, _<_}
+use Prim.Native.Nat.{ℕ, zero, suc, _+_, _≤_, _<_}
+use native.Mathlib.Omega.{arith}
+use native.Mathlib.Nat.{zero-add, suc-add}
 use native.Mathlib.Numerals.{add-one}
-use mathlib.Core.Path.{_≡_, refl}
+use mathlib.Core.Path.{_≡_, refl, sym, ap, _∙_, subst}
 use mathlib.Core.Bool.{Bool, true, false, _||_}
 use mathlib.Core.Option.{none, some}
 use mathlib.Core.List.{List, _∷_}
@@ -12,6 +14,8 @@ use Rattle.meaning.specs.Timing.{Wave, Tables}
 use Rattle.meaning.specs.Body.{Assigns}
 use Rattle.meaning.specs.Run.{State, unassigned, Played, puts, cycleAt, again, follow}
 use Rattle.meaning.specs.Meaning.{hasWave, allWaves, tableAt, playable, firstFailing}
+use Rattle.walks.proofs.Loops.{again-add}
+use Rattle.arguments.proofs.Lists.{differ}
 use Rattle.pins.specs.Shown.{vector}
 
 -- ---- a cycle's signals
@@ -37,6 +41,32 @@ module _ (pins : List ℕ) (ws : List Wave) (s : ℕ) where
   unfolding allWaves
   waves-end h = rw (drop-of-length-le pins h)
 
+module _ (pins : List ℕ) (ws : List Wave) where
+  -- every signal has its own: all have theirs
+  pub waves-all : ((s : ℕ) → s < length pins → fine s (getD pins s 0) ws ≡ true) → allWaves 0 pins ws ≡ true
+  waves-all h = from (length pins) 0 (omega arith)
+    where
+      from : (d s : ℕ) → s + d ≡ length pins → allWaves s (drop s pins) ws ≡ true
+      from zero s e = waves-end pins ws s (omega arith)
+      from (suc d) s e = waves-next pins ws s (omega arith) (h s (omega arith)) ∙ from d (s + 1) (omega arith)
+
+  waves-first : (s : ℕ) → s < length pins → allWaves s (drop s pins) ws ≡ true → fine s (getD pins s 0) ws ≡ true
+  waves-first s b h = by (fine s (getD pins s 0) ws) refl
+    where
+      by : (z : Bool) → fine s (getD pins s 0) ws ≡ z → z ≡ true
+      by true e = refl
+      by false e = absurd (differ (sym h ∙ waves-here pins ws s b e))
+
+  -- and the other way round
+  pub waves-each : allWaves 0 pins ws ≡ true → (s : ℕ) → s < length pins → fine s (getD pins s 0) ws ≡ true
+  waves-each h s b = from s 0 (omega arith) h
+    where
+      from : (d i : ℕ) → i + d ≡ s → allWaves i (drop i pins) ws ≡ true → fine s (getD pins s 0) ws ≡ true
+      from zero i e h = let o : i ≡ s = omega arith in subst (λ (k : ℕ). fine k (getD pins k 0) ws ≡ true) o (waves-first i (omega arith) h)
+      from (suc d) i e h =
+          let l : i < length pins = omega arith in
+          from d (i + 1) (omega arith) (sym (waves-next pins ws i l (waves-first i l h)) ∙ h)
+
 -- ---- a V's turns
 
 module _ (tabs : Tables) (p : ℕ) (a : Assigns) where
@@ -56,6 +86,17 @@ module _ (tabs : Tables) (p : ℕ) (a : Assigns) where
   pub turn-state : (n : ℕ) (s : State) → rest (suc n) s .0 ≡ rest n (puts a s) .0
   unfolding again follow
   turn-state n s = refl
+
+  -- k turns that can be played, and n more
+  pub turns-pass : (k n : ℕ) (s : State) → ((i : ℕ) → i < k → playable tabs (cycleAt p (puts a (rest i s .0))) ≡ true)
+      → firstFailing tabs (rest (k + n) s .1) ≡ firstFailing tabs (rest n (rest k s .0) .1)
+  unfolding again follow
+  turns-pass zero n s h = rw zero-add
+  turns-pass (suc k) n s h = rw suc-add (turn-passes (k + n) s (h 0 (omega arith)) ∙ turns-pass k n (puts a s) (λ i l. h (suc i) (omega arith)))
+
+  pub turns-state : (k n : ℕ) (s : State) → rest (k + n) s .0 ≡ rest n (rest k s .0) .0
+  unfolding follow
+  turns-state k n s = ap (λ (y : Played). y .0) (again-add (vector p a) k n s)
 
   pub turns-end : (s : State) → (firstFailing tabs (rest 0 s .1) ≡ none) × (rest 0 s .0 ≡ s)
   unfolding again firstFailing

@@ -11,10 +11,13 @@ use Rattle.meaning.specs.Lists.{has, inside}
 use Rattle.meaning.specs.Body.{Assigns, Args, mark, argOf, supplied, marked}
 use Rattle.meaning.specs.Data.{assigned}
 use Rattle.meaning.specs.Timing.{Tables}
-use Rattle.meaning.specs.Run.{State, Played, unassigned, next, puts, cycleAt}
+use Rattle.meaning.specs.Run.{State, Played, unassigned, next, puts, cycleAt, again}
 use Rattle.meaning.specs.Meaning.{firstFailing}
 use Rattle.feeds.specs.declared.Feed.{Feed}
-use Rattle.feeds.specs.Feeds.{Feeds, Skips}
+use Rattle.feeds.specs.Feeds.{Feeds}
+use Rattle.walks.specs.Turns.{skipped}
+use Rattle.timing.specs.Marks.{charsMost}
+use Rattle.measures.specs.Uses.{Given}
 
 -- a table's number; any other stands for none
 unfoldable pub tableOf : ℕ → Option ℕ
@@ -85,18 +88,34 @@ pub record Told (tabs : Tables) (text : List ℕ) (signals : ℕ) (values : List
   pub sound : failed ≡ false → firstFailing tabs (y .1) ≡ none
   pub shows : failed ≡ false → Shows text signals values table feeds level (y .0)
 
--- the next k turns of a V, at most so many, show what the pins show: every `#` has k characters like its signal's pin ahead
-pub record Repeats (text given values feeds : List ℕ) (level signals most k : ℕ) : Type 0 where
+-- n characters of each `#` of the assignments `given` were passed
+pub record Skips (text given : List ℕ) (signals level n : ℕ) (values feeds feeds′ : List ℕ) : Type 0 where
+  pub shows : (a : Assigns) (s : State) (table : ℕ) → Given a given → Playable signals a (s .args) → Shows text signals values table feeds level s
+      → Shows text signals values table feeds′ level (skipped n a s)
+
+-- ---- turns that are gone on at once
+
+-- signal s has a waveform for c in the table, by its mark
+abbrev pub HasMark : List ℕ → ℕ → ℕ → ℕ → Type 0
+HasMark waves table s c = (c < charsMost) × (getD waves ((table * signalsMost + s) * charsMost + c) 0 ≡ 1)
+
+-- it has one for each of the next n characters of the feed f, at most so many
+pub record Having (text : List ℕ) (f : Feed) (waves : List ℕ) (table s most n : ℕ) : Type 0 where
+  pub few : n ≤ most
+  pub each : (cs : List ℕ) → Feeds text f cs → (i : ℕ) → i < n → HasMark waves table s (next (drop i cs))
+
+-- in each of the next k turns of a V, at most so many, every `#` takes a character that has a waveform
+pub record Ahead (text given feeds waves : List ℕ) (level signals table most k : ℕ) : Type 0 where
   pub few : k ≤ most
   pub each : (s : ℕ) → s < signals → getD given s 0 ≡ mark → (cs : List ℕ) → Feeds text (feedAt feeds level s) cs
-      → (i : ℕ) → i < k → next (drop i cs) ≡ getD values s 0
+      → (i : ℕ) → i < k → HasMark waves table s (next (drop i cs))
 
--- k turns of a V take k characters of every `#`, and nothing else
-pub record PassesOver (text given feeds : List ℕ) (level signals k : ℕ) (feeds′ : List ℕ) : Type 0 where
-  pub long : length feeds′ ≡ length feeds
-  pub each : (s : ℕ) → s < signals → getD given s 0 ≡ mark → Skips text (feedAt feeds level s) k (feedAt feeds′ level s)
-  pub kept : (s : ℕ) → s < signalsMost → (s < signals → getD given s 0 ≡ mark → ⊥) → feedAt feeds′ level s ≡ feedAt feeds level s
-  pub others : (l s : ℕ) → s < signalsMost → (l ≡ level → ⊥) → feedAt feeds′ l s ≡ feedAt feeds l s
+-- k such turns on
+pub record Advances (text given values feeds waves : List ℕ) (level signals table most k : ℕ) (values′ feeds′ : List ℕ) : Type 0 where
+  pub ahead : Ahead text given feeds waves level signals table most k
+  pub others : Others level values values′ feeds feeds′
+  pub shows : (a : Assigns) (s : State) (table p : ℕ) → Given a given → Playable signals a (s .args) → Shows text signals values table feeds level s
+      → Shows text signals values′ table feeds′ level (again k (vector p a) s .0)
 
 -- ---- a procedure's caller
 

@@ -14,7 +14,7 @@ ghost use Rattle.timing.specs.Marks.{tableSize};
 ghost use Rattle.timing.specs.Held.{Held};
 ghost use Rattle.measures.specs.Uses.{Given};
 ghost use Rattle.arguments.specs.Supplied.{Supplied};
-ghost use Rattle.pins.specs.Shown.{Shows, Roomy, Playable, Others, Feeding, Fills, Told, Repeats, PassesOver, Leaves, Returns, vector, feedAt, valuesLength, feedsLength, levels};
+ghost use Rattle.pins.specs.Shown.{Shows, Roomy, Playable, Others, Feeding, Fills, Told, Skips, Having, Ahead, Advances, Leaves, Returns, vector, feedAt, valuesLength, feedsLength, levels};
 use feeds::Feed;
 
 const MARK: u8 = 35;
@@ -101,6 +101,29 @@ pub fn put(
     }
 }
 
+// The next n characters of each `#` are passed.
+pub fn skip(
+    text: &[u8],
+    given: &[u8],
+    values: &[u8],
+    feeds: &mut [usize],
+    level: usize,
+    signals: usize,
+    n: usize,
+)
+    requires { ⌜ Roomy signals (now values) (now feeds) level × (length (now given) ≡ signalsMost) ⌝ }
+    ensures { λ _. ⌜ Others level (now (values .entry)) (now (values .entry)) (now (feeds .entry)) (now (feeds .exit)) × Skips (now (text .entry)) (now (given .entry)) signals level n (now (values .entry)) (now (feeds .entry)) (now (feeds .exit)) ⌝ }
+{
+    let mut s = 0;
+    while s < signals {
+        if given[s] == MARK {
+            let f = feeds::skip(text, feed_at(feeds, level, s), n);
+            put_feed(feeds, level, s, f);
+        }
+        s += 1;
+    }
+}
+
 // ---- a V
 
 // Has signal s an assigned character without a waveform in the table?
@@ -118,18 +141,29 @@ fn lacks(values: &[u8], waves: &[u8], table: usize, s: usize) -> bool
     waves[(table * sets::MOST + s) * CHARS + b] != 1
 }
 
-// How many of the turns to come, at most so many, repeat the one just played: every `#` takes its last character again.
-fn repeats(
+// How many of the next characters of signal s's argument have a waveform in the table, as far as its word says them, at most so many.
+fn having(text: &[u8], feed: Feed, waves: &[u8], table: usize, s: usize, most: usize) -> usize
+    requires { ⌜ (length (now waves) ≡ tablesMost * tableSize) × (table < tablesMost) × (s < signalsMost) ⌝ }
+    ensures { λ r. ⌜ Having (now (text .entry)) feed (now (waves .entry)) table s most r ⌝ }
+{
+    let at = (table * sets::MOST + s) * CHARS;
+    let end = at + CHARS;
+    feeds::fine(text, feed, &waves[at..end], most)
+}
+
+// How many of the turns to come, at most so many, take characters that have a waveform in the table at every `#`.
+fn ahead(
     text: &[u8],
     given: &[u8],
-    values: &[u8],
     feeds: &[usize],
+    waves: &[u8],
     level: usize,
     signals: usize,
+    table: usize,
     most: usize,
 ) -> usize
-    requires { ⌜ Roomy signals (now values) (now feeds) level × (length (now given) ≡ signalsMost) ⌝ }
-    ensures { λ r. ⌜ Repeats (now (text .entry)) (now (given .entry)) (now (values .entry)) (now (feeds .entry)) level signals most r ⌝ }
+    requires { ⌜ (signals ≤ signalsMost) × (length (now feeds) ≡ feedsLength) × (level < levels) × (length (now given) ≡ signalsMost) × (length (now waves) ≡ tablesMost * tableSize) × (table < tablesMost) ⌝ }
+    ensures { λ r. ⌜ Ahead (now (text .entry)) (now (given .entry)) (now (feeds .entry)) (now (waves .entry)) level signals table most r ⌝ }
 {
     let mut k = most;
     let mut s = signals;
@@ -140,32 +174,34 @@ fn repeats(
         }
         s -= 1;
         if given[s] == MARK {
-            k = feeds::alike(text, feed_at(feeds, level, s), values[s], k);
+            k = having(text, feed_at(feeds, level, s), waves, table, s, k);
         }
     }
     k
 }
 
-// k turns that repeat are not played: every `#` has k characters less.
-fn pass_over(text: &[u8], given: &[u8], feeds: &mut [usize], level: usize, signals: usize, k: usize)
-    requires { ⌜ (signals ≤ signalsMost) × (length (now feeds) ≡ feedsLength) × (level < levels) × (length (now given) ≡ signalsMost) ⌝ }
-    ensures { λ _. ⌜ PassesOver (now (text .entry)) (now (given .entry)) (now (feeds .entry)) level signals k (now (feeds .exit)) ⌝ }
+// As many turns on as fail at no `#`, at most so many. The characters of all but the last are passed, and only that one is played.
+fn advance(
+    text: &[u8],
+    given: &[u8],
+    values: &mut [u8],
+    feeds: &mut [usize],
+    waves: &[u8],
+    level: usize,
+    signals: usize,
+    table: usize,
+    most: usize,
+) -> usize
+    requires { ⌜ Roomy signals (now values) (now feeds) level × (length (now given) ≡ signalsMost) × (length (now waves) ≡ tablesMost * tableSize) × (table < tablesMost) ⌝ }
+    ensures { λ r. ⌜ Advances (now (text .entry)) (now (given .entry)) (now (values .entry)) (now (feeds .entry)) (now (waves .entry)) level signals table most r (now (values .exit)) (now (feeds .exit)) ⌝ }
 {
+    let k = ahead(text, given, feeds, waves, level, signals, table, most);
     if k == 0 {
-        return;
+        return k;
     }
-    let mut s = 0;
-    while s < signals {
-        if given[s] == MARK {
-            put_feed(
-                feeds,
-                level,
-                s,
-                feeds::skip(text, feed_at(feeds, level, s), k),
-            );
-        }
-        s += 1;
-    }
+    skip(text, given, values, feeds, level, signals, k - 1);
+    put(text, given, values, feeds, level, signals);
+    k
 }
 
 // A V, t times: is there a cycle without a table, or with an assigned character that has no waveform in it?
@@ -199,8 +235,17 @@ pub fn vectors(
             }
             s += 1;
         }
-        let k = repeats(text, given, values, feeds, level, signals, t - i - 1);
-        pass_over(text, given, feeds, level, signals, k);
+        let k = advance(
+            text,
+            given,
+            values,
+            feeds,
+            waves,
+            level,
+            signals,
+            table,
+            t - i - 1,
+        );
         i += 1 + k;
     }
     failed

@@ -1,2 +1,1 @@
-mod Skipping
 mod Turning

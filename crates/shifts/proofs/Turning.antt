@@ -16,12 +16,12 @@ use Rattle.walks.proofs.Loops.{again-add}
 use Rattle.walks.proofs.Shifts.{turns-skipped, shift-left, skipped-supplied}
 use Rattle.measures.specs.Uses.{Given}
 use Rattle.arguments.proofs.Lists.{differ}
-use Rattle.pins.specs.Shown.{tableOf, Shows, Playable, Others, vector}
+use Rattle.pins.specs.Shown.{tableOf, Shows, Playable, Others, Skips, vector}
 use Rattle.pins.proofs.Callers.{playable-puts, others-none, others-then}
 use Rattle.rows.specs.declared.Walk.{Walk}
 use Rattle.rows.specs.Went.{over, spends, past, spent, Going, Went, Cycled}
 use Rattle.rows.proofs.Going.{went-spent, went-both, went-over, went-from, going-on, going-past}
-use Rattle.shifts.specs.Shifts.{Skips, Shifting}
+use Rattle.shifts.specs.Shifts.{Shifting}
 
 -- ---- the walk before a cycle that is not passed
 

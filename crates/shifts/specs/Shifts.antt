@@ -7,14 +7,8 @@ use Rattle.meaning.specs.Body.{Assigns}
 use Rattle.meaning.specs.Run.{State, again}
 use Rattle.measures.specs.Uses.{Given}
 use Rattle.pins.specs.Shown.{Shows, Playable, vector}
-use Rattle.walks.specs.Turns.{skipped}
 use Rattle.rows.specs.declared.Walk.{Walk}
 use Rattle.rows.specs.Went.{over, Went}
-
--- n characters of each `#` of the assignments `given` were passed
-pub record Skips (text given : List ℕ) (signals level n : ℕ) (values feeds feeds′ : List ℕ) : Type 0 where
-  pub shows : (a : Assigns) (s : State) (table : ℕ) → Given a given → Playable signals a (s .args) → Shows text signals values table feeds level s
-      → Shows text signals values table feeds′ level (skipped n a s)
 
 -- THE PROMISE: t turns of the V with these assignments, the cycle looked for among them, were gone through
 pub record Shifting (text given : List ℕ) (signals level table t : ℕ) (values values′ feeds feeds′ : List ℕ) (w w′ : Walk) (before after : List ℕ) : Type 0 where

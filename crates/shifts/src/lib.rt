@@ -6,33 +6,8 @@ ghost use lib.ListN.{length};
 ghost use Rattle.meaning.specs.Bounds.{signalsMost};
 ghost use Rattle.pins.specs.Shown.{Roomy, Others};
 ghost use Rattle.rows.specs.Went.{Going};
-ghost use Rattle.shifts.specs.Shifts.{Skips, Shifting};
+ghost use Rattle.shifts.specs.Shifts.{Shifting};
 use rows::Walk;
-
-const MARK: u8 = 35;
-
-// The next n characters of each `#` are passed.
-fn skip(
-    text: &[u8],
-    given: &[u8],
-    values: &[u8],
-    feeds: &mut [usize],
-    level: usize,
-    signals: usize,
-    n: usize,
-)
-    requires { ⌜ Roomy signals (now values) (now feeds) level × (length (now given) ≡ signalsMost) ⌝ }
-    ensures { λ _. ⌜ Others level (now (values .entry)) (now (values .entry)) (now (feeds .entry)) (now (feeds .exit)) × Skips (now (text .entry)) (now (given .entry)) signals level n (now (values .entry)) (now (feeds .entry)) (now (feeds .exit)) ⌝ }
-{
-    let mut s = 0;
-    while s < signals {
-        if given[s] == MARK {
-            let f = feeds::skip(text, pins::feed_at(feeds, level, s), n);
-            pins::put_feed(feeds, level, s, f);
-        }
-        s += 1;
-    }
-}
 
 // The turns of a Shift of t, those before the cycle looked for by their characters alone.
 pub fn turns(
@@ -50,7 +25,7 @@ pub fn turns(
     requires { ⌜ Roomy signals (now values) (now feeds) level × (length (now given) ≡ signalsMost) × Going signals walk (now buffer) × (walk .pass < t) × (walk .walking ≡ true → 1 ≤ walk .budget) ⌝ }
     ensures { λ r. ⌜ Others level (now (values .entry)) (now (values .exit)) (now (feeds .entry)) (now (feeds .exit)) × Shifting (now (text .entry)) (now (given .entry)) signals level table t (now (values .entry)) (now (values .exit)) (now (feeds .entry)) (now (feeds .exit)) walk r (now (buffer .entry)) (now (buffer .exit)) ⌝ }
 {
-    skip(text, given, values, feeds, level, signals, walk.pass);
+    pins::skip(text, given, values, feeds, level, signals, walk.pass);
     let mut i = walk.pass;
     let mut w = rows::past(walk, walk.pass);
     while i < t {

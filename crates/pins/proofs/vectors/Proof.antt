@@ -1,11 +1,10 @@
--- Each turn of the outer loop is a turn of the V, and those that repeat it; each of the inner one a signal of its cycle.
+-- Each turn of the outer loop is a turn of the V, and those that are gone on at once behind it; each of the inner one a signal of its cycle.
 use Prim.Native.Nat.{_-_, _≤_}
 use native.Mathlib.Omega.{arith}
 use mathlib.Core.Path.{_≡_, refl, _∙_}
 use mathlib.Core.Bool.{false}
 use Rattle.pins.specs.Shown.{Others}
 use Rattle.pins.proofs.Callers.{others-none, others-then, roomy-kept}
-use Rattle.pins.proofs.Repeating.{over-others}
 use Rattle.pins.proofs.Cycles.{Searched, searched-none, searched-next, searched-lacks, searched-all, After, after-none, after-all, after-no-table, after-searched, after-lacks}
 use Rattle.pins.proofs.vectors.Statement.{statement}
 use Rattle.pins.proofs.vectors.Tie as tie
@@ -59,40 +58,31 @@ loop-again c =
     let turn = c .before .before .before .before .loop in
     (turn .inv .0, omega arith, searched-next (turn .inv .2) (omega (arith, room .values-long, room .few)) (c .before .before .before .loop-test .taken) (c .before .lacks .ensures) (c .if2 .left))
 
-sub-repeats : tie.Need-sub-repeats Inv-loop μ-loop Inv-search μ-search
-sub-repeats c = omega (arith, c .before .before .before .before .before .before .before .before .before .before .before .before .search-test .taken)
+sub-advance : tie.Need-sub-advance Inv-loop μ-loop Inv-search μ-search
+sub-advance c = omega (arith, c .before .before .before .before .before .before .before .before .before .before .before .before .search-test .taken)
 
-sub-repeats-2 : tie.Need-sub-repeats-2 Inv-loop μ-loop Inv-search μ-search
-sub-repeats-2 c = omega (arith, c .before .before .before .before .before .before .before .before .before .before .before .before .search-test .taken)
+sub-advance-2 : tie.Need-sub-advance-2 Inv-loop μ-loop Inv-search μ-search
+sub-advance-2 c = omega (arith, c .before .before .before .before .before .before .before .before .before .before .before .before .search-test .taken)
 
-repeats-requires : tie.Need-repeats-requires Inv-loop μ-loop Inv-search μ-search
-repeats-requires c κs =
+advance-requires : tie.Need-advance-requires Inv-loop μ-loop Inv-search μ-search
+advance-requires c κs =
     let put = c .before .before .before .before .before .before .before .before .before in
     let search = put .before .before .before .before in
     let pre = search .before .before .before .before .before .before .pre in
-    (roomy-kept (pre .0) (others-then (search .search .inv .2) (put .put .ensures .0)), pre .1)
-
-pass-over-requires : tie.Need-pass-over-requires Inv-loop μ-loop Inv-search μ-search
-pass-over-requires c κs =
-    let put = c .before .before .before .before .before .before .before .before .before .before .before in
-    let search = put .before .before .before .before in
-    let pre = search .before .before .before .before .before .before .pre in
-    let room = roomy-kept (pre .0) (others-then (search .search .inv .2) (put .put .ensures .0)) in
-    (room .few, room .feeds-long, room .inside-levels, pre .1)
+    (roomy-kept (pre .0) (others-then (search .search .inv .2) (put .put .ensures .0)), pre .1, pre .2, c .before .before .before .before .if1 .left)
 
 add-i : tie.Need-add-i Inv-loop μ-loop Inv-search μ-search
-add-i c = omega (arith, c .before .before .before .before .before .before .before .before .before .before .before .before .before .before .before .before .before .search-test .taken, c .before .before .before .before .repeats .ensures .few)
+add-i c = omega (arith, c .before .before .before .before .before .before .before .before .before .before .before .before .before .before .before .before .before .search-test .taken, c .before .before .before .before .advance .ensures .ahead .few)
 
 add-i-2 : tie.Need-add-i-2 Inv-loop μ-loop Inv-search μ-search
-add-i-2 c = omega (arith, c .before .before .before .before .before .before .before .before .before .before .before .before .before .before .before .before .before .search-test .taken, c .before .before .before .before .repeats .ensures .few)
+add-i-2 c = omega (arith, c .before .before .before .before .before .before .before .before .before .before .before .before .before .before .before .before .before .search-test .taken, c .before .before .before .before .advance .ensures .ahead .few)
 
 search-less : tie.Need-search-less Inv-loop μ-loop Inv-search μ-search
-search-less c = omega (arith, c .before .before .before .before .before .before .before .before .before .before .before .before .before .before .before .before .before .search-test .taken, c .before .before .before .before .repeats .ensures .few)
+search-less c = omega (arith, c .before .before .before .before .before .before .before .before .before .before .before .before .before .before .before .before .before .search-test .taken, c .before .before .before .before .advance .ensures .ahead .few)
 
 search-again : tie.Need-search-again Inv-loop μ-loop Inv-search μ-search
 search-again c =
-    let repeats = c .before .before .before .before .repeats .ensures in
-    let over = c .before .before .pass-over .ensures in
+    let advance = c .before .before .before .before .advance .ensures in
     let put = c .before .before .before .before .before .before .before .before .before .before .before .before .before .before in
     let search = put .before .before .before .before in
     let others = others-then (search .search .inv .2) (put .put .ensures .0) in
@@ -100,10 +90,10 @@ search-again c =
     let turn = c .before .before .before .before .before .before .before .before .loop in
     let more = put .before .before .before .search-test .taken in
     let searched = searched-all (turn .inv .2) (omega (arith, room .values-long, room .few)) (c .before .before .before .before .before .before .before .loop-test .left) in (
-      omega (arith, more, repeats .few),
+      omega (arith, more, advance .ahead .few),
       turn .inv .0,
-      others-then others (over-others over),
-      after-searched (search .search .inv .3) more (put .put .ensures .1) (c .before .before .before .before .before .before .before .before .before .if1 .left) searched repeats over,
+      others-then others (advance .others),
+      after-searched (search .search .inv .3) more (put .put .ensures .1) (c .before .before .before .before .before .before .before .before .before .if1 .left) searched (room .few) (omega (arith, room .values-long, room .few)) advance,
     )
 
 same-length : tie.Need-same-length Inv-loop μ-loop Inv-search μ-search
@@ -171,10 +161,9 @@ vectors-spec =
     add-s
     loop-less
     loop-again
-    sub-repeats
-    sub-repeats-2
-    repeats-requires
-    pass-over-requires
+    sub-advance
+    sub-advance-2
+    advance-requires
     add-i
     add-i-2
     search-less

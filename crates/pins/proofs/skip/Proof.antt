@@ -3,9 +3,9 @@ use Prim.Native.Nat.{_-_, _≤_}
 use native.Mathlib.Omega.{arith}
 use mathlib.Core.Logic.{⊎-elim}
 use borrow.Author.Needs.{needs}
-use Rattle.shifts.proofs.Skipping.{Skipped, skipped-none, skipped-mark, skipped-other, skipped-others, skipped-shows}
-use Rattle.shifts.proofs.skip.Statement.{statement}
-use Rattle.shifts.proofs.skip.Tie as tie
+use Rattle.pins.proofs.Skipping.{Skipped, skipped-none, skipped-mark, skipped-other, skipped-others, skipped-shows}
+use Rattle.pins.proofs.skip.Statement.{statement}
+use Rattle.pins.proofs.skip.Tie as tie
 
 abbrev Inv-loop : tie.InvT-loop
 Inv-loop text given values feeds₀ level signals n s₀ feeds s = (s ≤ signals) × Skipped text given feeds₀ level n s feeds
