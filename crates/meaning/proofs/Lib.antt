@@ -13,6 +13,8 @@ pub mod TwoTurns
 pub mod Rows
 pub mod Visits
 pub mod Windows
+pub mod Charts
+pub mod ChartSamples
 pub mod Accepted
 pub mod Unplaced
 pub mod Listed

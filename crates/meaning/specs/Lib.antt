@@ -13,6 +13,7 @@ pub mod Document
 pub mod Run
 pub mod Meaning
 pub mod Services
+pub mod Charts
 pub mod Windows
 pub mod Edited
 pub mod Open

@@ -17,7 +17,7 @@ use Rattle.stil.specs.Answers.{afterwards}
 use Rattle.stil.specs.Interface.{withRoom, packed, fronted, Hands, Draws}
 use Rattle.stil.specs.Waveforms.{Outlines}
 use Rattle.stil.specs.declared.Outline.{Outline}
-use Rattle.stil.proofs.Fronts.{over-all}
+use Rattle.charts.proofs.Fronts.{over-all}
 use Rattle.stil.proofs.Shaping.{waveform-full, waveform-given}
 
 -- ---- a refusal as one number

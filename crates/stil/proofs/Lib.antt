@@ -4,10 +4,10 @@ mod Judging
 mod Viewing
 mod Answering
 mod Outlining
-mod Fronts
 mod Shaping
 mod Handing
 mod Opening
+mod Charting
 mod Carrying
 pub mod Chained
 pub mod Theorems

@@ -5,30 +5,17 @@ use mathlib.Core.Bool.{Bool, true, false, not, _&&_, _||_}
 use mathlib.Core.List.{List, _++_}
 use lib.Dec.{leb, ltb}
 use lib.ListN.{length, take, drop}
-use borrow.Author.Tests.{le-leb, lt-leb, ltb-true, ltb-false}
 use Rattle.meaning.specs.Refusals.{noRoom}
 use Rattle.meaning.specs.Bounds.{entryMost}
 use Rattle.meaning.specs.Timing.{Event}
 use Rattle.meaning.specs.Meaning.{Answer, given, refused, answering}
 use Rattle.meaning.specs.Services.{eventsOut, Waveform, waveform}
-use Rattle.assigns.proofs.Table.{or-false}
+use Rattle.charts.proofs.Rooms.{room}
 use Rattle.stil.specs.Answers.{afterwards}
 use Rattle.stil.specs.Waveforms.{Shows, Outlines, Shapes}
 use Rattle.stil.specs.declared.Outline.{Outline}
 use Rattle.stil.specs.declared.Shaped.the-variants.{Events, Refused}
 use Rattle.stil.proofs.Outlining.{waveform-events}
-
--- one of two buffers is too short, or none is
-room : (a b n : ℕ) {y : Bool} → (ltb a n || ltb b n) ≡ y → (leb n a && leb n b) ≡ not y
-room a b n {y} e = by (ltb a n) (ltb b n) refl refl ∙ ap not e
-  where
-    by : (x z : Bool) → ltb a n ≡ x → ltb b n ≡ z → (leb n a && leb n b) ≡ not (x || z)
-    by true z p q = rw (lt-leb n a (ltb-true a n p))
-    by false true p q = rw (le-leb n a (ltb-false a n p), lt-leb n b (ltb-true b n q))
-    by false false p q = rw (le-leb n a (ltb-false a n p), le-leb n b (ltb-false b n q))
-
-pub roomy : (a b n : ℕ) → (ltb a n || ltb b n) ≡ false → (n ≤ a) × (n ≤ b)
-roomy a b n e = let k = or-false (ltb a n) (ltb b n) e in (ltb-false a n (k .0), ltb-false b n (k .1))
 
 -- no more than an entry has
 pub outline-few : {text : List ℕ} {k s c : ℕ} {ts ls : List ℕ} {o : Outline} → Outlines text k s c ts ls o → o .no ≡ 0 → o .count ≤ entryMost

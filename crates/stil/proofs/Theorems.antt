@@ -3,6 +3,7 @@ use Prim.Native.Nat.{ℕ, _+_, _*_, _≤_}
 use native.Mathlib.Omega.{arith}
 use mathlib.Core.Path.{_≡_, refl, sym, ap, ap₂, _∙_}
 use mathlib.Core.Bool.{Bool, true, false}
+use mathlib.Core.Option.{Option, none, some}
 use mathlib.Core.List.{List, [], _∷_, _++_}
 use lib.Dec.{leb}
 use lib.ListN.{length, take, drop}
@@ -10,6 +11,7 @@ use Rattle.meaning.specs.Refusals.{noRoom}
 use Rattle.meaning.specs.Run.{Cycle, size, visits, cyclesOf}
 use Rattle.meaning.specs.Meaning.{Answer, given, refused, answering, Meaning, meaning}
 use Rattle.meaning.specs.Services.{Counts, rows, Window, rowsDue, widthOf, windowOf, window, Waveform}
+use Rattle.meaning.specs.Charts.{Chart}
 use Rattle.meaning.specs.Windows.{Lent, rowsGiven, joined, Roomy, reach}
 use Rattle.meaning.proofs.Accepted.{visits-bounded}
 use Rattle.meaning.proofs.Windows.{windows-join}
@@ -18,6 +20,7 @@ use Rattle.stil.specs.Calls.{Call, lent, Kept, fronts}
 use Rattle.stil.specs.Interface.{withRoom, packed, Hands, Opens, Draws}
 use Rattle.stil.specs.Views.{Views}
 use Rattle.stil.specs.Waveforms.{Shapes}
+use Rattle.stil.specs.Charts.{chartedOf, Plots, Sketches}
 use Rattle.stil.specs.declared.Checked.{Checked}
 use Rattle.stil.specs.declared.Checked.the-variants.{Counted, Refused as CheckRefused}
 use Rattle.stil.specs.declared.Located.{Located}
@@ -26,6 +29,8 @@ use Rattle.stil.specs.declared.Shown.{Shown}
 use Rattle.stil.specs.declared.Shown.the-variants.{Rows, Refused as WindowRefused}
 use Rattle.stil.specs.declared.Shaped.{Shaped}
 use Rattle.stil.specs.declared.Shaped.the-variants.{Events, Refused as WaveformRefused}
+use Rattle.stil.specs.declared.Charted.{Charted}
+use Rattle.stil.specs.declared.Charted.the-variants.{Drawn, Stopped, Refused as ListRefused}
 
 -- ---- Window: as many rows as are due, and the visits, at most ten times the run's size
 
@@ -114,7 +119,12 @@ waveform-determined {a} {times} {t} {u} {letters} {l} {k} {r} {s} h j =
     told (Events n) times letters e = ap back e
     told (WaveformRefused n p) times letters e = ap back e
 
--- for callers in C: Check, Name and the next token; Window; Waveform
+pub waveforms-determined : {a : Answer Chart} {times t u letters l k counts c d : List ℕ} {r s : Charted}
+    → Plots a times t letters l counts c r → Plots a times u letters k counts d s → (r ≡ s) × (t ≡ u) × (l ≡ k) × (c ≡ d)
+waveforms-determined h j =
+    (h .answers ∙ sym (j .answers), h .times-are ∙ sym (j .times-are), h .letters-are ∙ sym (j .letters-are), h .counts-are ∙ sym (j .counts-are))
+
+-- for callers in C: Check, Name and the next token; Window; Waveform; waveforms by the list
 pub hands-determined : {A : Type 0} {k : ℕ} {f : A → List ℕ} {a : Answer A} {before x y : List ℕ} {r s : ℕ}
     → Hands k f a before r x → Hands k f a before s y → (r ≡ s) × (x ≡ y)
 hands-determined h j = (h .number ∙ sym (j .number), h .buffer ∙ sym (j .buffer))
@@ -126,6 +136,11 @@ opens-determined h j = (hands-determined (h .counted) (j .counted), h .rows-are 
 pub draws-determined : {a : Answer Waveform} {times t u letters l k count n m : List ℕ} {r s : ℕ}
     → Draws a times t letters l count r n → Draws a times u letters k count s m → ((r ≡ s) × (n ≡ m)) × (t ≡ u) × (l ≡ k)
 draws-determined h j = (hands-determined (h .counted) (j .counted), h .times-are ∙ sym (j .times-are), h .letters-are ∙ sym (j .letters-are))
+
+pub sketches-determined : {a : Answer Chart} {times t u letters l k counts c d numbers n m : List ℕ} {r s : ℕ}
+    → Sketches a times t letters l counts c numbers r n → Sketches a times u letters k counts d numbers s m → ((r ≡ s) × (n ≡ m)) × (t ≡ u) × (l ≡ k) × (c ≡ d)
+sketches-determined h j =
+    ((h .number ∙ sym (j .number), h .told ∙ sym (j .told)), h .times-are ∙ sym (j .times-are), h .letters-are ∙ sym (j .letters-are), h .counts-are ∙ sym (j .counts-are))
 
 -- ---- a refused call leaves every buffer as it was
 
@@ -139,6 +154,21 @@ waveform-untouched {a} {times} {t} {letters} h = (
   h .times-are ∙ ap (λ (x : Answer Waveform). afterwards (λ w. w .times) x times) (sym (h .answers)),
   h .letters-are ∙ ap (λ (x : Answer Waveform). afterwards (λ w. w .letters) x letters) (sym (h .answers)),
 )
+
+-- of a list, one that is refused before any of its waveforms
+pub waveforms-untouched : {a : Answer Chart} {times t letters l counts c : List ℕ} {n p : ℕ} → Plots a times t letters l counts c (ListRefused n p)
+    → (t ≡ times) × (l ≡ letters) × (c ≡ counts)
+unfolding afterwards
+waveforms-untouched {a} {times} {t} {letters} {l} {counts} {c} {n} {p} h = by a (h .answers) (h .times-are) (h .letters-are) (h .counts-are)
+  where
+    on : {A : Type 0} (o : Option (ℕ × ℕ)) (e s : ℕ) → _≡_ {A = Charted} (ListRefused n p) (elim o [ none ↦ Drawn e | some q ↦ Stopped (q .0) (q .1) s ]) → A
+    on none e s q = let z : _≡_ {A = ℕ} 0 1 = cc in absurd (omega arith)
+    on (some x) e s q = let z : _≡_ {A = ℕ} 0 1 = cc in absurd (omega arith)
+
+    by : (a : Answer Chart) → ListRefused n p ≡ chartedOf a → t ≡ afterwards (λ x. x .times) a times → l ≡ afterwards (λ x. x .letters) a letters
+        → c ≡ afterwards (λ x. x .counts) a counts → (t ≡ times) × (l ≡ letters) × (c ≡ counts)
+    by (given x) e p q r = on (x .stopped) (x .events) (x .served) e
+    by (refused n p) e f g h = (f, g, h)
 
 -- for callers in C: any number but 0 is a refusal
 not-given : {A : Type 0} (a : Answer A) (f : A → List ℕ) (before : List ℕ) → (packed a ≡ 0 → ⊥) → afterwards f a before ≡ before

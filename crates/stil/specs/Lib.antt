@@ -5,4 +5,5 @@ pub mod Views
 pub mod Calls
 pub mod Waveforms
 pub mod Interface
+pub mod Charts
 pub mod Intakes

@@ -1,15 +1,16 @@
-// The services: Check, Name, Window and Waveform, for any text, any numbers and any buffers; and these, the next token and the intake for callers in C.
+// The services: Check, Name, Window, Waveform and waveforms by the list, for any text, any numbers and any buffers; and these, the next token and the intake for callers in C.
 ghost use mathlib.Core.Path.{_≡_};
-ghost use mathlib.Core.List.{_∷_, [], _++_};
+ghost use mathlib.Core.List.{_∷_, []};
 ghost use mathlib.Core.Bool.{false, not};
 ghost use Prim.Native.Nat.{_-_, _≤_, min};
-ghost use lib.ListN.{length, take, drop};
+ghost use lib.ListN.{length};
 ghost use lib.Dec.{eqb};
 ghost use Rattle.tokens.specs.Tokens.{nextToken};
 ghost use Rattle.intake.specs.Intake.{chunked, closed as closedOf};
 ghost use Rattle.meaning.specs.Bounds.{signalsMost, tablesMost, entryMost};
 ghost use Rattle.meaning.specs.Meaning.{given, firsts};
 ghost use Rattle.meaning.specs.Services.{check as checkOf, nameAt, nameOf, window as windowOf, waveform as waveformOf};
+ghost use Rattle.meaning.specs.Charts.{waveforms as waveformsOf};
 ghost use Rattle.words.specs.Table.{names};
 ghost use Rattle.timing.specs.Marks.{tableSize};
 ghost use Rattle.timing.specs.declared.Watch.{Watch};
@@ -20,6 +21,7 @@ ghost use Rattle.stil.specs.Judged.{namedOf, numbered, Judges, Copies};
 ghost use Rattle.stil.specs.Found.{noWaveform, SomeFound, Plays};
 ghost use Rattle.stil.specs.Views.{spared, Views};
 ghost use Rattle.stil.specs.Waveforms.{Outlines, Shapes};
+ghost use Rattle.stil.specs.Charts.{Plots, Sketches};
 ghost use Rattle.stil.specs.Interface.{Hands, fronted, fiveOf, twoOf, threeOf, tokenOf, Opens, Draws};
 ghost use Rattle.stil.specs.Intakes.{stateLeast, byteOf, progressIs, Tells, Carries, rawRefusal};
 use intake::Intake;
@@ -31,6 +33,8 @@ use timing::Watch;
 const TEXT_MOST: usize = 65_536;
 
 // Refusals.
+const TOO_MANY: u8 = 8;
+
 const NOT_PLAYABLE: u8 = 17;
 
 const NO_SUCH: u8 = 18;
@@ -95,6 +99,15 @@ pub enum Shown {
 pub enum Shaped {
     // how many events were written
     Events(usize),
+    Refused(u8, usize),
+}
+
+pub enum Charted {
+    // all were served: how many events were written
+    Drawn(usize),
+    // the first that is refused, its number and place; and how many were served before it
+    Stopped(u8, usize, usize),
+    // refused before any of them
     Refused(u8, usize),
 }
 
@@ -608,20 +621,6 @@ fn events(
     }
 }
 
-// The first n of two arrays, to the front of two others.
-fn put(ts: &[u64], ls: &[u8], n: usize, times: &mut [u64], letters: &mut [u8])
-    requires { ⌜ (n ≤ length (now ts)) × (n ≤ length (now ls)) ⌝ }
-    requires { ⌜ (n ≤ length (now times)) × (n ≤ length (now letters)) ⌝ }
-    ensures { λ _. ⌜ (now (times .exit) ≡ take n (now (ts .entry)) ++ drop n (now (times .entry))) × (now (letters .exit) ≡ take n (now (ls .entry)) ++ drop n (now (letters .entry))) ⌝ }
-{
-    let mut i = 0;
-    while i < n {
-        times[i] = ts[i];
-        letters[i] = ls[i];
-        i += 1;
-    }
-}
-
 // The waveform of a table, signal and character: its events' times in ps and their letters, to the front of both buffers.
 pub fn waveform(
     text: &[u8],
@@ -643,8 +642,61 @@ pub fn waveform(
     if (times.len() < n) | (letters.len() < n) {
         return Shaped::Refused(NO_ROOM, 0);
     }
-    put(&ts, &ls, n, times, letters);
+    charts::put(&ts, &ls, n, times, letters);
     Shaped::Events(n)
+}
+
+// ---- Waveforms by the list
+
+// Any text: 1 to 17, 8, 19, or what the single calls leave. There is room for what else is handed out (`spare`), or that is 19 too.
+fn plotted(
+    text: &[u8],
+    asked: &[u64],
+    spare: bool,
+    times: &mut [u64],
+    letters: &mut [u8],
+    counts: &mut [u64],
+) -> Charted
+    ensures { λ r. ⌜ Plots (spared spare (waveformsOf (now (text .entry)) (now (asked .entry)) (now (times .entry)) (now (letters .entry)) (now (counts .entry)))) (now (times .entry)) (now (times .exit)) (now (letters .entry)) (now (letters .exit)) (now (counts .entry)) (now (counts .exit)) r ⌝ }
+{
+    let watch = nowhere();
+    let j = judge(
+        text,
+        Wanted {
+            table: false,
+            number: 0,
+            watch,
+        },
+    );
+    if j.no != 0 {
+        return Charted::Refused(j.no, j.place);
+    }
+    if charts::too_many(asked) {
+        return Charted::Refused(TOO_MANY, 0);
+    }
+    let roomy = charts::within(asked, counts.len());
+    if !roomy | !spare {
+        return Charted::Refused(NO_ROOM, 0);
+    }
+    let s = charts::serve(text, asked, times, letters, counts);
+    if s.no != 0 {
+        return Charted::Stopped(s.no, 0, s.served);
+    }
+    Charted::Drawn(s.events)
+}
+
+// The waveforms that a list asks for, a table, a signal and a character for each, as single calls in order give them: their events one group behind the
+// other at the front of two buffers, and how many each has at the front of a third.
+pub fn waveforms(
+    text: &[u8],
+    asked: &[u64],
+    times: &mut [u64],
+    letters: &mut [u8],
+    counts: &mut [u64],
+) -> Charted
+    ensures { λ r. ⌜ Plots (waveformsOf (now (text .entry)) (now (asked .entry)) (now (times .entry)) (now (letters .entry)) (now (counts .entry))) (now (times .entry)) (now (times .exit)) (now (letters .entry)) (now (letters .exit)) (now (counts .entry)) (now (counts .exit)) r ⌝ }
+{
+    plotted(text, asked, true, times, letters, counts)
 }
 
 // ---- for callers in C or Rust: the answer is 0, with what it holds at the front of buffers, or a refusal, and all buffers are as they were
@@ -745,9 +797,35 @@ pub extern "C" fn lutemeteor_waveform(
     if (times.len() < due) | (letters.len() < due) {
         return pack(NO_ROOM, 0);
     }
-    put(&ts, &ls, due, times, letters);
+    charts::put(&ts, &ls, due, times, letters);
     count[0] = due as u64;
     0
+}
+
+// Waveforms by the list: what `waveforms` writes; and how many events there are, or where one was refused how many were served before it. A buffer without
+// room for that number is 19.
+#[no_mangle]
+pub extern "C" fn lutemeteor_waveforms(
+    text: &[u8],
+    asked: &[u64],
+    times: &mut [u64],
+    letters: &mut [u8],
+    counts: &mut [u64],
+    numbers: &mut [u64],
+) -> u64
+    ensures { λ r. ⌜ Sketches (waveformsOf (now (text .entry)) (now (asked .entry)) (now (times .entry)) (now (letters .entry)) (now (counts .entry))) (now (times .entry)) (now (times .exit)) (now (letters .entry)) (now (letters .exit)) (now (counts .entry)) (now (counts .exit)) (now (numbers .entry)) r (now (numbers .exit)) ⌝ }
+{
+    match plotted(text, asked, 1 <= numbers.len(), times, letters, counts) {
+        Charted::Refused(n, p) => pack(n, p),
+        Charted::Stopped(n, p, served) => {
+            numbers[0] = served as u64;
+            pack(n, p)
+        }
+        Charted::Drawn(events) => {
+            numbers[0] = events as u64;
+            0
+        }
+    }
 }
 
 // Three numbers, where there is room for them.

@@ -2,7 +2,8 @@
 use native.Mathlib.Omega.{arith}
 use mathlib.Core.Path.{refl}
 use borrow.Author.Needs.{needs}
-use Rattle.stil.proofs.Shaping.{roomy, outline-few, waveform-refused, waveform-full, waveform-given, shapes-refused, shapes-given}
+use Rattle.charts.proofs.Rooms.{roomy}
+use Rattle.stil.proofs.Shaping.{outline-few, waveform-refused, waveform-full, waveform-given, shapes-refused, shapes-given}
 use Rattle.stil.proofs.waveform.Statement.{statement}
 use Rattle.stil.proofs.waveform.Tie as tie
 

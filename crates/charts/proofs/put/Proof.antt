@@ -1,9 +1,9 @@
 -- `put` meets its contract. The invariant: the first i of both arrays stand at the front of both buffers.
 use Prim.Native.Nat.{_-_, _≤_}
 use native.Mathlib.Omega.{arith}
-use Rattle.stil.proofs.Fronts.{Fronted, fronted-none, fronted-more, fronted-length, fronted-all}
-use Rattle.stil.proofs.put.Statement.{statement}
-use Rattle.stil.proofs.put.Tie as tie
+use Rattle.charts.proofs.Fronts.{Fronted, fronted-none, fronted-more, fronted-length, fronted-all}
+use Rattle.charts.proofs.put.Statement.{statement}
+use Rattle.charts.proofs.put.Tie as tie
 
 abbrev Inv-loop : tie.InvT-loop
 Inv-loop ts ls n times₀ letters₀ i₀ times letters i = (i ≤ n) × Fronted ts times₀ i times × Fronted ls letters₀ i letters

@@ -1,0 +1,6 @@
+pub mod Fronts
+pub mod Rooms
+mod Lists
+mod Sighting
+mod Drawing
+mod Turns
