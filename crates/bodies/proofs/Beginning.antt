@@ -8,7 +8,7 @@ use Rattle.meaning.specs.Signals.{Names}
 use Rattle.meaning.specs.Body.{Assigns, Setting, assigning, choosing, Args, Kind, looped, shifted, entered, Body, done, vec, set′, inner}
 use Rattle.meaning.specs.Statements.{Env, head, inShift, statements}
 use Rattle.words.specs.declared.Cursor.{Cursor}
-use Rattle.words.specs.Cursor.{alive, Goes}
+use Rattle.words.specs.Cursor.{alive}
 use Rattle.timing.specs.Makes.{Makes}
 use Rattle.signals.proofs.Tidy.{gave}
 use Rattle.measures.specs.declared.Measure.{Measure}

@@ -11,10 +11,9 @@ use borrow.Author.Tests.{le-leb, lt-leb}
 use Rattle.meaning.specs.Refusals.{noSuch, noRoom}
 use Rattle.meaning.specs.Bounds.{entryMost}
 use Rattle.meaning.specs.Timing.{Event}
-use Rattle.meaning.specs.Meaning.{Answer, given, refused, answering, tableAt, Meaning, meaning}
+use Rattle.meaning.specs.Meaning.{Answer, given, refused, answering, tableAt}
 use Rattle.meaning.specs.Services.{waveOf, eventsOut, Waveform, waveform}
 use Rattle.meaning.specs.Charts.{charMost, Asked, asking, askedIn, called}
-use Rattle.timing.specs.Watch.{Found}
 use Rattle.timing.specs.declared.Watch.{Watch}
 use Rattle.waves.specs.Waves.{EntryAt, Reads}
 use Rattle.waves.proofs.Entries.{entry-found}

@@ -3,15 +3,12 @@ use Prim.Native.Nat.{ℕ, _+_, _-_, _≤_, _<_}
 use native.Mathlib.Omega.{arith}
 use native.Mathlib.Numerals.{add-one}
 use mathlib.Core.Path.{_≡_, refl, sym, ap, _∙_}
-use mathlib.Core.Bool.{true, false}
 use mathlib.Core.Option.{Option, none, some}
 use mathlib.Core.List.{List, [], _∷_, _++_, append-assoc, append-nil}
-use lib.ListN.{length, take, drop, set, length-append, length-drop, length-set, take-append-drop, drop-of-length-le}
+use lib.ListN.{length, take, drop, set, length-drop, length-set, take-append-drop, drop-of-length-le}
 use lib.Seq.{length-take-le, take-all, take-append-add, drop-append-add, drop-drop, take-suc-set, drop-set-lt}
 use borrow.Author.Tests.{ne-eqb}
 use borrow.Rule.Slice.PartMut.{same-len-mid}
-use Rattle.meaning.specs.Meaning.{given, refused}
-use Rattle.meaning.specs.Services.{Waveform}
 use Rattle.meaning.specs.Charts.{chartMost, Asked, askedIn, called, Chart, behind, over, chart}
 use Rattle.meaning.proofs.Charts.{chart-served, chart-stops, called-written}
 use Rattle.charts.specs.Serving.{Outlines, stoppedBy, Serves}

@@ -7,7 +7,7 @@ use mathlib.Core.Option.{none, some}
 use mathlib.Core.List.{List, [], _∷_, _++_}
 use lib.Dec.{ltb}
 use lib.Seq.{take-all}
-use lib.ListN.{length, getD, take, drop, replicate, drop-of-length-le}
+use lib.ListN.{length, getD, take, drop, replicate}
 use borrow.Author.Tests.{eq-eqb, ne-eqb, lt-ltb, ltb-true, ltb-false}
 use Rattle.tokens.specs.Written.{bytes, same}
 use Rattle.tokens.specs.Refusals.{notHere}
@@ -17,11 +17,10 @@ use Rattle.meaning.specs.Bounds.{repeatMost}
 use Rattle.meaning.specs.Body.{mark}
 use Rattle.meaning.specs.Reader.{Res, Reader, ok, refuse, after, _>>=_, give, refuseIf, isWord, oneOf, word}
 use Rattle.meaning.specs.Names.{number, within}
-use Rattle.meaning.specs.Timing.{waveChar, allChars}
+use Rattle.meaning.specs.Timing.{allChars}
 use Rattle.meaning.specs.Data.{charsOf, stretched, repeatOf, times, repeated, piece, part}
 use Rattle.words.specs.declared.Cursor.{Cursor}
 use Rattle.words.specs.Cursor.{Goes, Checked}
-use Rattle.words.proofs.Words.{cut}
 use Rattle.words.proofs.Flow.{then, given, checked, alike}
 use Rattle.data.specs.Filled.{countMost, Adds, timesDue, pieceDue}
 use Rattle.data.proofs.Over.{adds-none, adds-both, adds-same, adds-past}

@@ -1,15 +1,14 @@
 -- DATA of one character: what one turn of the loop over the pieces and its end make of it.
-use Prim.Native.Nat.{ℕ, _+_, _<_}
+use Prim.Native.Nat.{ℕ, _<_}
 use native.Mathlib.Omega.{arith}
 use mathlib.Core.Path.{_≡_, refl, sym, ap, _∙_}
 use mathlib.Core.Bool.{Bool, true, false, not, _&&_, _||_}
 use mathlib.Core.List.{List, [], _∷_}
 use lib.Dec.{eqb}
-use lib.ListN.{length, getD, take, drop, set, length-set}
+use lib.ListN.{length, getD, set, length-set}
 use borrow.Author.Tests.{eqb-true, lt-ltb}
 use Rattle.tokens.specs.Written.{bytes, same}
 use Rattle.tokens.specs.Bytes.{between, digit, letter, wordy}
-use Rattle.tokens.specs.Tokens.{toks}
 use Rattle.meaning.specs.Reader.{_>>=_, after, give, any, refuseIf, isWord, aheadOf, ahead, due}
 use Rattle.meaning.specs.Timing.{waveChar, allChars}
 use Rattle.meaning.specs.Data.{charsOf, dataRead}

@@ -1,10 +1,9 @@
 -- The signals of every name that was read lie below the bound, so that each has its marks.
-use Prim.Native.Nat.{ℕ, zero, suc, _≤_, _<_}
+use Prim.Native.Nat.{ℕ, zero, suc, _≤_}
 use native.Mathlib.Omega.{arith}
 use mathlib.Core.Path.{_≡_}
 use mathlib.Core.Bool.{true}
-use mathlib.Core.List.{List, [], _∷_}
-use lib.ListN.{length, getD}
+use mathlib.Core.List.{List}
 use Rattle.meaning.specs.Bounds.{signalsMost}
 use Rattle.meaning.specs.Signals.{Names}
 use Rattle.sets.proofs.Tidy.{TidyBelow, bare, next}

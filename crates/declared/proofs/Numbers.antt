@@ -1,18 +1,18 @@
 -- What is told of the declarations, from what reading them promises: a refusal as it is, or where the next token stands and how many there are.
 use Prim.Native.Nat.{ℕ, zero, suc, _≤_, _<_}
 use native.Mathlib.Omega.{arith}
-use mathlib.Core.Path.{_≡_, refl, sym, ap, ap₂, _∙_}
+use mathlib.Core.Path.{_≡_, refl, sym, ap, _∙_}
 use mathlib.Core.Bool.{Bool, true, false}
-use mathlib.Core.Option.{Option, none, some}
+use mathlib.Core.Option.{none, some}
 use mathlib.Core.List.{List, [], _∷_}
 use lib.ListN.{length, getD, replicate, set, drop}
-use lib.Dec.{ltb, eqb}
+use lib.Dec.{ltb}
 use borrow.Author.Tests.{eq-eqb, ne-eqb, le-leb, lt-leb}
-use Rattle.tokens.specs.Tokens.{Toks, stop, tok, toks, faultOf}
-use Rattle.meaning.specs.Reader.{Res, ok, refuse, give}
+use Rattle.tokens.specs.Tokens.{stop, tok, toks, faultOf}
+use Rattle.meaning.specs.Reader.{Res, give}
 use Rattle.meaning.specs.Signals.{Names}
 use Rattle.meaning.specs.Timing.{Tables}
-use Rattle.words.specs.Cursor.{ahead, stopNo, stream, alive, Stands, Goes}
+use Rattle.words.specs.Cursor.{ahead, stopNo, stream, Stands}
 use Rattle.words.specs.declared.Cursor.{Cursor}
 use Rattle.words.proofs.Flow.{from-on, from-stop}
 use Rattle.signals.specs.Names.{namesOf}

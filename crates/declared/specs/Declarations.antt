@@ -2,12 +2,10 @@
 use Prim.Native.Nat.{ℕ, _*_}
 use mathlib.Core.Path.{_≡_}
 use mathlib.Core.Bool.{Bool, true}
-use mathlib.Core.Option.{Option, none, some}
-use mathlib.Core.List.{List, [], _∷_}
+use mathlib.Core.List.{List}
 use lib.ListN.{length, getD}
-use Rattle.tokens.specs.Tokens.{Toks, stop, tok, toks, faultOf}
 use Rattle.meaning.specs.Bounds.{tablesMost}
-use Rattle.meaning.specs.Reader.{Res, ok, refuse, Reader, _>>=_, _>>_, give, due}
+use Rattle.meaning.specs.Reader.{Reader, _>>=_, _>>_, give, due}
 use Rattle.meaning.specs.Signals.{Names}
 use Rattle.meaning.specs.Timing.{Tables, timing}
 use Rattle.meaning.specs.Meaning.{tableAt}

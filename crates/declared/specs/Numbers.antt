@@ -1,8 +1,8 @@
 -- What is told of a text's declarations: the number of the refusal (0: none), its place or that of the token behind them, and how many
 -- signals, names and tables there are.
 use Prim.Native.Nat.{ℕ}
-use mathlib.Core.Option.{Option, none, some}
-use mathlib.Core.List.{List, [], _∷_}
+use mathlib.Core.Option.{none, some}
+use mathlib.Core.List.{List, _∷_}
 use mathlib.Core.Bool.{true, false}
 use lib.ListN.{length, drop}
 use lib.Dec.{leb}

@@ -1,7 +1,7 @@
 -- A word as bytes of the text from a place up to an end: its first byte and the others, and what is left of it behind some.
 use Prim.Native.Nat.{ℕ, zero, suc, _+_, _-_, _≤_, _<_}
 use native.Mathlib.Omega.{arith}
-use mathlib.Core.Path.{_≡_, refl, sym, ap, _∙_}
+use mathlib.Core.Path.{_≡_, sym, ap, _∙_}
 use mathlib.Core.List.{List, [], _∷_, _++_}
 use lib.Seq.{take-nil, drop-append-add, drop-drop, length-take-le}
 use lib.ListN.{length, getD, take, drop, length-drop}

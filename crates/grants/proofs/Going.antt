@@ -1,9 +1,9 @@
 -- Statements one after the other: the body is those summed up so far, and a rest that is held from the cursor on.
-use Prim.Native.Nat.{ℕ, _<_}
+use Prim.Native.Nat.{ℕ}
 use mathlib.Core.Path.{_≡_, refl, sym, ap, _∙_}
 use mathlib.Core.Bool.{Bool, true, false, _||_, _&&_}
 use mathlib.Core.List.{List}
-use Rattle.tokens.specs.Tokens.{Toks, left}
+use Rattle.tokens.specs.Tokens.{Toks}
 use Rattle.meaning.specs.Body.{Body, done}
 use Rattle.meaning.specs.Statements.{Env}
 use Rattle.words.specs.Cursor.{alive, stream}

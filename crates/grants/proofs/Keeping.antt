@@ -8,7 +8,7 @@ use lib.Seq.{getD-set-same, getD-set-other}
 use Rattle.meaning.specs.Bounds.{depthMost}
 use Rattle.measures.specs.Book.{bodies}
 use Rattle.plays.specs.Plays.{Ground}
-use Rattle.tallies.specs.Rows.{rowSize, byteAt, sumAt, Only}
+use Rattle.tallies.specs.Rows.{rowSize, sumAt, Only}
 use Rattle.tallies.proofs.Stored.{other-row}
 use Rattle.grants.specs.Grants.{loopRow, isBegun, Fixed, Open, Kept, Sized}
 use Rattle.grants.proofs.Same.{same-sum}

@@ -1,7 +1,7 @@
 -- A row of the same bytes holds the same sum.
 use Prim.Native.Nat.{ℕ, _+_, _*_, _<_, _≤_}
 use native.Mathlib.Omega.{arith}
-use mathlib.Core.Path.{_≡_, refl, ap, fun-ext}
+use mathlib.Core.Path.{_≡_, refl, ap}
 use mathlib.Core.Bool.{Bool, true, false, not, _&&_}
 use mathlib.Core.Option.{Option}
 use mathlib.Core.List.{List}
@@ -10,7 +10,6 @@ use borrow.Author.Tests.{ltb-true}
 use Rattle.meaning.specs.Bounds.{signalsMost, tablesMost}
 use Rattle.arguments.proofs.Lists.{both}
 use Rattle.pins.specs.Shown.{tableOf}
-use Rattle.sums.specs.Sums.{Sum}
 use Rattle.tallies.specs.Rows.{slots, givenFrom, pinsFrom, fineFrom, badPlace, rowSize, byteAt, flagAt, slotOf, isSlot, sumAt, Only}
 use Rattle.tallies.proofs.Stored.{other-row}
 use Rattle.tallies.proofs.Grown.{slot-below, pin-alike}

@@ -1,5 +1,4 @@
 -- A Shift of one V, where it plays at all, is as its V.
-use native.Mathlib.Omega.{arith}
 use mathlib.Core.Path.{_≡_, refl, subst}
 use mathlib.Core.Bool.{true, false}
 use mathlib.Core.List.{List}
@@ -8,7 +7,7 @@ use Rattle.tokens.specs.Written.{bytes}
 use Rattle.tokens.specs.Tokens.{Toks}
 use Rattle.meaning.specs.Reader.{dueOf}
 use Rattle.meaning.specs.Timing.{Tables}
-use Rattle.meaning.specs.Body.{Assigns, shifted, Body, done, vec, inner}
+use Rattle.meaning.specs.Body.{Assigns, shifted, done, vec, inner}
 use Rattle.meaning.specs.Statements.{Env, Head}
 use Rattle.held.specs.Held.{freeHead, Holds}
 use Rattle.words.specs.Cursor.{alive, stream, Goes}

@@ -2,9 +2,9 @@
 use Prim.Native.Nat.{ℕ, _-_, _<_, _≤_}
 use native.Mathlib.Omega.{arith}
 use mathlib.Core.Path.{_≡_, refl, sym, ap, _∙_, subst}
-use mathlib.Core.Bool.{Bool, true, false}
+use mathlib.Core.Bool.{true, false}
 use mathlib.Core.List.{List}
-use Rattle.tokens.specs.Tokens.{Toks, toks, left}
+use Rattle.tokens.specs.Tokens.{Toks, left}
 use Rattle.meaning.specs.Bounds.{tablesMost}
 use Rattle.meaning.specs.Timing.{Tables}
 use Rattle.meaning.specs.Signals.{Names}
@@ -31,7 +31,7 @@ use Rattle.sums.proofs.Statements.{assigned-sums, chosen-sums, vector-sums}
 use Rattle.sums.proofs.Exact.{fits-exact}
 use Rattle.tallies.specs.Rows.{sumAt, Only, Marked}
 use Rattle.grants.specs.declared.Tallied.{Tallied}
-use Rattle.grants.specs.Grants.{Open, Added, Once, Standing, Gone, Steps, Declared, Using}
+use Rattle.grants.specs.Grants.{Open, Added, Once, Standing, Gone, Steps, Using}
 use Rattle.grants.proofs.Adding.{added-none, added-one, once-done, once-vec, once-set, once-use}
 
 -- ---- a used body's Shift plays as often as its arguments say

@@ -1,11 +1,9 @@
 -- A token that was due stands there, and the head that it begins is read.
-use mathlib.Core.Path.{_≡_, refl}
+use mathlib.Core.Path.{_≡_}
 use Prim.Native.Nat.{ℕ}
 use native.Mathlib.Omega.{arith}
-use mathlib.Core.Bool.{Bool, true, false, not, _&&_}
-use mathlib.Core.List.{List, [], _∷_}
-use lib.Dec.{eqb}
-use borrow.Author.Tests.{eqb-true}
+use mathlib.Core.Bool.{true}
+use mathlib.Core.List.{List}
 use Rattle.tokens.specs.Written.{bytes, same}
 use Rattle.tokens.specs.Tokens.{Tok, Toks, stop, tok}
 use Rattle.meaning.specs.Reader.{ok, after, _>>=_, give, any, due, dueOf, oneOf, choose, word}

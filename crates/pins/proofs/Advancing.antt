@@ -23,7 +23,7 @@ use Rattle.feeds.specs.declared.Feed.{Feed}
 use Rattle.feeds.specs.Feeds.{Feeds, Fine}
 use Rattle.feeds.proofs.Front.{getD-past, fine-each}
 use Rattle.measures.specs.Uses.{Given}
-use Rattle.arguments.proofs.Lists.{differ, inside-each}
+use Rattle.arguments.proofs.Lists.{inside-each}
 use Rattle.pins.specs.Shown.{feedAt, Shows, Playable, Others, Skips, HasMark, Having, Ahead, Advances, vector}
 use Rattle.pins.proofs.Puts.{shown, puts-table, puts-long, puts-pin, char-marked, char-assigned}
 use Rattle.pins.proofs.Search.{fine, waves-all, waves-each, a-table}

@@ -1,5 +1,5 @@
 -- A signal's argument, one word after the other: the characters that were read are shown wherever the body shows the argument.
-use Prim.Native.Nat.{ℕ, _+_, _*_, _≤_, _<_}
+use Prim.Native.Nat.{ℕ, _+_, _≤_, _<_}
 use native.Mathlib.Omega.{arith}
 use mathlib.Core.Path.{_≡_, subst}
 use mathlib.Core.Option.{Option}
@@ -14,7 +14,7 @@ use Rattle.feeds.specs.Feeds.{NextWord}
 use Rattle.arguments.specs.Supplied.{DataAt, Supplied}
 use Rattle.sums.specs.Sums.{Shown, orTable}
 use Rattle.sums.specs.Parts.{Kept, Shows, lastOf}
-use Rattle.tallies.specs.Rows.{slots, givenFrom, rowSize, slotOf, shownOf, sumAt, Only, More, Marked, ShownWhere, FedWhere, ShownFed, bytes, SeenWord}
+use Rattle.tallies.specs.Rows.{slots, rowSize, slotOf, sumAt, Only, More, Marked, ShownWhere, FedWhere, ShownFed, bytes, SeenWord}
 use Rattle.tallies.proofs.Stored.{other-row}
 use Rattle.tallies.proofs.Grown.{slot-below, more-none, more-then, shows-kept}
 use Rattle.tallies.proofs.Reading.{Reading, reading-none, reading-word, reading-all, reading-unsupplied, Seen, seen-none, seen-word}

@@ -1,5 +1,5 @@
 -- A body entered from a state: what stands on a signal, and its argument, can be shown wherever the body's row shows them.
-use Prim.Native.Nat.{ℕ, _+_, _*_, _≤_, _<_}
+use Prim.Native.Nat.{ℕ, _+_, _≤_, _<_}
 use native.Mathlib.Omega.{arith}
 use mathlib.Core.Path.{_≡_, sym, _∙_, subst}
 use mathlib.Core.Bool.{Bool, true, false, not}
@@ -19,7 +19,7 @@ use Rattle.arguments.specs.Supplied.{Supplied}
 use Rattle.pins.specs.Shown.{tableOf}
 use Rattle.pins.proofs.Callers.{table-some, table-none}
 use Rattle.sums.specs.Sums.{okAt, orTable}
-use Rattle.tallies.specs.Rows.{slots, givenFrom, fineFrom, badPlace, byteAt, flagAt, slotOf, isSlot, sumAt, Marked, Suits, FitsWhere, OnPin, Grants, Holds}
+use Rattle.tallies.specs.Rows.{fineFrom, badPlace, byteAt, flagAt, slotOf, isSlot, sumAt, Marked, Suits, FitsWhere, OnPin, Grants, Holds}
 use Rattle.tallies.proofs.Stored.{flag-is, flag-off, only-none}
 use Rattle.tallies.proofs.Grown.{fine-read, under-slot, given-slot}
 

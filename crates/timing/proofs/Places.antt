@@ -11,8 +11,8 @@ use lib.Dec.{eqb, ltb}
 use Rattle.tokens.specs.Written.{starts, cases, same}
 use Rattle.tokens.specs.Bytes.{allowed, blank, wordy}
 use Rattle.tokens.specs.Refusals.{notHere}
-use Rattle.tokens.specs.Tokens.{Tok, Toks, stop, tok, Mode, plain, inword, line, closing, opened, block, Act, go, token, bad, run, outside, inMode, act, ended, done, lex, toks}
-use Rattle.meaning.specs.Reader.{Res, Reader, ok, refuse, after, _>>=_, give, refuseIf, any, dueOf}
+use Rattle.tokens.specs.Tokens.{Tok, Toks, tok, Mode, plain, inword, line, closing, opened, block, Act, go, token, bad, run, outside, inMode, act, ended, done, lex, toks}
+use Rattle.meaning.specs.Reader.{ok, after, _>>=_, give, refuseIf, any, dueOf}
 use Rattle.words.specs.Cursor.{ahead, stream, alive, Goes}
 use Rattle.words.specs.declared.Cursor.{Cursor}
 use Rattle.words.proofs.Flow.{read, stream-on, stream-stop}

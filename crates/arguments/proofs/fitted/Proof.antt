@@ -1,7 +1,7 @@
 -- Every signal before s fits; the first block with one that doesn't settles it, and where no block is left all fit.
 use Prim.Native.Nat.{ℕ, _+_, _*_, _<_, _-_}
 use native.Mathlib.Omega.{arith}
-use mathlib.Core.Path.{_≡_, refl, sym, _∙_}
+use mathlib.Core.Path.{_≡_, refl}
 use mathlib.Core.Bool.{true}
 use mathlib.Core.List.{List}
 use borrow.Author.Tests.{not-true, not-false}

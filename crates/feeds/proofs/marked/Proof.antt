@@ -5,7 +5,6 @@ use mathlib.Core.Path.{_≡_}
 use Rattle.words.specs.Cursor.{span}
 use Rattle.feeds.specs.Feeds.{front}
 use Rattle.feeds.proofs.Front.{front-next, front-here, front-end, unmarked-past}
-use borrow.Author.Needs.{needs}
 use Rattle.feeds.proofs.marked.Statement.{statement}
 use Rattle.feeds.proofs.marked.Tie as tie
 

@@ -1,5 +1,5 @@
 -- Not said again; behind the last time; or within one of them, by how many whole ones are passed.
-use Prim.Native.Nat.{_/_, _%_, _-_, _*_, _≤_, _<_}
+use Prim.Native.Nat.{_/_, _%_, _-_, _*_, _≤_}
 use native.Mathlib.Omega.{arith}
 use native.Mathlib.Nat.{le-div-iff-mul-le, mod-lt, div-add-mod'}
 use mathlib.Core.Path.{refl}

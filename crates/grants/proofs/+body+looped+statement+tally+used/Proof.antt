@@ -1,7 +1,7 @@
 -- Statements, one statement, Loops, used bodies: one proof for all, since each calls the others where bodies may stand one level less deep.
 use native.Mathlib.Omega.{arith}
 use Prim.Native.Nat.{_+_, _*_}
-use mathlib.Core.Path.{refl, sym, ap, _∙_}
+use mathlib.Core.Path.{refl, sym, _∙_}
 use lib.ListN.{length-replicate}
 use borrow.Author.Tests.{not-false}
 use borrow.Author.Needs.{needs}

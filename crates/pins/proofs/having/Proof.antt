@@ -1,5 +1,4 @@
 -- The signal's row of marks, lent alone.
-use native.Mathlib.Omega.{arith}
 use Rattle.pins.proofs.Advancing.{having-row}
 use borrow.Author.Needs.{needs}
 use Rattle.pins.proofs.having.Statement.{statement}

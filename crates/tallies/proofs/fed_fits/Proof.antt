@@ -1,5 +1,4 @@
 -- Each turn takes the next word, in which those that were seen fit already.
-use native.Mathlib.Omega.{arith}
 use mathlib.Core.Path.{sym, _∙_}
 use borrow.Author.Tests.{not-true, not-false}
 use Rattle.arguments.proofs.Lists.{differ}

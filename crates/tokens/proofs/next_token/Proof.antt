@@ -1,5 +1,5 @@
 -- `next_token` meets its contract: a text that is too long is refused, and any other's next token is the first from the place.
-use mathlib.Core.Path.{_≡_, sym, _∙_}
+use mathlib.Core.Path.{sym, _∙_}
 use borrow.Author.Needs.{needs}
 use borrow.Author.Tests.{ltb-true, ltb-false}
 use Rattle.tokens.proofs.Reading.{too-long, short-enough}

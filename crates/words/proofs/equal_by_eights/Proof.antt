@@ -1,10 +1,9 @@
 -- `equal_by_eights` meets its contract. The invariant: the bytes before i are equal.
-use Prim.Native.Nat.{ℕ, _-_, _+_, _<_}
+use Prim.Native.Nat.{ℕ, _-_, _<_}
 use native.Mathlib.Omega.{arith}
 use mathlib.Core.Path.{_≡_, sym, _∙_}
 use lib.ListN.{length, getD}
 use borrow.Author.Needs.{needs}
-use Rattle.words.specs.Packed.{packed}
 use Rattle.words.proofs.Words.{same-long}
 use Rattle.words.proofs.Packed.{eights-differ, eights-more, eights-last}
 use Rattle.words.proofs.equal_by_eights.Statement.{statement}

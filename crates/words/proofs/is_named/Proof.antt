@@ -1,7 +1,7 @@
 -- `is_named` meets its contract: a name of another length, or with another last byte, is another name.
 use Prim.Native.Nat.{ℕ}
 use native.Mathlib.Omega.{arith}
-use mathlib.Core.Path.{_≡_, ap, _∙_}
+use mathlib.Core.Path.{ap, _∙_}
 use mathlib.Core.List.{List}
 use Rattle.tokens.specs.Written.{same}
 use Rattle.words.proofs.Words.{length-differs, last-differs}

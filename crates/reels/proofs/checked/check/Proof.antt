@@ -1,6 +1,5 @@
 -- `check` is safe and ends: no more files are counted than there are words.
 use Prim.Native.Nat.{_+_, _-_, _≤_}
-use native.Mathlib.Omega.{arith}
 use borrow.Author.Needs.{needs}
 use Rattle.reels.proofs.checked.check.Statement.{statement}
 use Rattle.reels.proofs.checked.check.Tie as tie

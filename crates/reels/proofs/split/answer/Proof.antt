@@ -3,7 +3,7 @@ use Prim.Native.Nat.{_-_, _≤_}
 use native.Mathlib.Omega.{arith}
 use mathlib.Core.Path.{_≡_}
 use mathlib.Core.Path.{sym, ap, _∙_}
-use lib.ListN.{length, length-take}
+use lib.ListN.{length}
 use Rattle.tokens.specs.Answers.{nextOf}
 use Rattle.tokens.proofs.Laws.{Seen, at-token}
 use borrow.Author.Needs.{needs}
