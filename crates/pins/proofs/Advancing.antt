@@ -60,8 +60,8 @@ pub record Least (text given feeds waves : List ℕ) (level signals table most s
       → (i : ℕ) → i < k → HasMark waves table j (next (drop i cs))
 
 module _ {text given feeds waves : List ℕ} {level signals table most : ℕ} where
-  pub least-none : Least text given feeds waves level signals table most signals most
-  least-none = record { few = omega arith; each = λ j h b. absurd (omega arith) }
+  pub least-none : {k : ℕ} → k ≤ most → Least text given feeds waves level signals table most signals k
+  least-none l = record { few = l; each = λ j h b. absurd (omega arith) }
 
   module _ {s k : ℕ} (x : Least text given feeds waves level signals table most s k) where
     -- the signal before them too

@@ -151,6 +151,25 @@ fn having(text: &[u8], feed: Feed, waves: &[u8], table: usize, s: usize, most: u
     feeds::fine(text, feed, &waves[at..end], most)
 }
 
+// How many turns the words at every `#` have characters for, at most so many. No more characters are looked at, so that none is looked at again and again.
+fn reach(given: &[u8], feeds: &[usize], level: usize, signals: usize, most: usize) -> usize
+    requires { ⌜ (signals ≤ signalsMost) × (length (now feeds) ≡ feedsLength) × (level < levels) × (length (now given) ≡ signalsMost) ⌝ }
+    ensures { λ r. ⌜ r ≤ most ⌝ }
+{
+    let mut k = most;
+    let mut s = signals;
+    while s > 0 {
+        if k == 0 {
+            return k;
+        }
+        s -= 1;
+        if given[s] == MARK {
+            k = feeds::said(feed_at(feeds, level, s), k);
+        }
+    }
+    k
+}
+
 // How many of the turns to come, at most so many, take characters that have a waveform in the table at every `#`.
 fn ahead(
     text: &[u8],
@@ -165,7 +184,7 @@ fn ahead(
     requires { ⌜ (signals ≤ signalsMost) × (length (now feeds) ≡ feedsLength) × (level < levels) × (length (now given) ≡ signalsMost) × (length (now waves) ≡ tablesMost * tableSize) × (table < tablesMost) ⌝ }
     ensures { λ r. ⌜ Ahead (now (text .entry)) (now (given .entry)) (now (feeds .entry)) (now (waves .entry)) level signals table most r ⌝ }
 {
-    let mut k = most;
+    let mut k = reach(given, feeds, level, signals, most);
     let mut s = signals;
     while 0 < s {
         // At once for a V that is played once.
