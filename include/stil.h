@@ -9,7 +9,7 @@
  *
  *   0           The call has its answer, which stands at the front of the buffers that were lent. What stands
  *               behind it there is left as it was.
- *   any other   The call is refused, and all buffers are as they were. answer % 32 is the refusal's number, 1 to 19;
+ *   any other   The call is refused, and all buffers are as they were (but see lutemeteor_waveforms). answer % 32 is the refusal's number, 1 to 19;
  *               answer / 32 is its place, a byte of the text counted from 0, or the text's length for its end.
  *
  * The intake, at the end of this file, is for a text that arrives in blocks: its state stands between the calls in
@@ -17,7 +17,7 @@
  *
  * Where several refusals fit, the first of these is given: 1, 2, 3; then, of 4 to 14, the one that stands first in
  * the text; then 15, 16, 17, 18, 19. A text that lutemeteor_check accepts is refused by lutemeteor_name,
- * lutemeteor_window and lutemeteor_waveform for 18 or 19 only.
+ * lutemeteor_window and lutemeteor_waveform for 18 or 19 only, and by lutemeteor_waveforms for 8 too.
  *
  * Pointers   Behind each pointer stands how many bytes or numbers are there; for a buffer, how many it has room
  *            for. All of them must be there during the call, numbers must be aligned as uint64_t is, and no buffer
@@ -48,7 +48,8 @@ enum {
     LUTEMETEOR_TABLES_MOST = 8,
     LUTEMETEOR_NAME_MOST = 32,   /* bytes of a name */
     LUTEMETEOR_ROW_MOST = 66,    /* bytes of a row: a character for each signal, the table's digit, and LF */
-    LUTEMETEOR_EVENTS_MOST = 16  /* events of one waveform */
+    LUTEMETEOR_EVENTS_MOST = 16, /* events of one waveform */
+    LUTEMETEOR_CHART_MOST = 64   /* waveforms of one list */
 };
 
 /* The refusals; behind the semicolon, their place. */
@@ -60,7 +61,8 @@ enum {
     LUTEMETEOR_NOT_A_NAME = 5,       /* a name is needed, and this word is none; the word */
     LUTEMETEOR_NAME_UNKNOWN = 6,     /* nothing has this name; the name */
     LUTEMETEOR_NAME_USED = 7,        /* something has this name already; the name */
-    LUTEMETEOR_TOO_MANY = 8,         /* one item, bracket, event, character or list entry too many; its first token */
+    LUTEMETEOR_TOO_MANY = 8,         /* one item, bracket, event, character or list entry too many; its first token. Or
+                                        more than 64 waveforms asked for; 0 */
     LUTEMETEOR_BAD_NUMBER = 9,       /* a number or time is malformed or out of bounds; its word */
     LUTEMETEOR_BAD_GROUP = 10,       /* a signal is added twice, or removed and absent; the term's last token.
                                         Or the group is empty; the closing quote */
@@ -147,6 +149,29 @@ uint64_t lutemeteor_window(const uint8_t *text, size_t length, uint64_t first, u
 uint64_t lutemeteor_waveform(const uint8_t *text, size_t length, uint64_t table, uint64_t signal, uint8_t character,
                              uint64_t *times, size_t times_room, uint8_t *letters, size_t letters_room,
                              uint64_t *count, size_t count_room);
+
+/*
+ * Waveforms by the list: up to 64 of them in one call, as calls of lutemeteor_waveform in the list's order would give
+ * them, each on the room that those before it left; the text is read for its refusals once.
+ *
+ *   asked        three numbers for each waveform: its table, its signal and its character. A character above 255, and one
+ *                or two numbers left over at the end, count as a waveform that the text doesn't have
+ *   times        the events' times, one group behind the other
+ *   letters      their letters, in the same places
+ *   counts[i]    how many events the i-th waveform of the list has
+ *   numbers[0]   where the answer is 0, how many events there are in all
+ *
+ * Refused 1 to 17; then 8, at place 0, where more than 64 waveforms are asked for; then 19 where `counts_room` is less
+ * than the waveforms asked for, or `numbers_room` is 0. In all these cases all buffers are as they were.
+ *
+ * Then the first waveform that is refused, by 18 or by 19, stops the call. The answer is that refusal; what the waveforms
+ * before it wrote to times, letters and counts stays written, all behind it is left as it was, and
+ *
+ *   numbers[0]   is how many waveforms were served
+ */
+uint64_t lutemeteor_waveforms(const uint8_t *text, size_t length, const uint64_t *asked, size_t asked_length,
+                              uint64_t *times, size_t times_room, uint8_t *letters, size_t letters_room,
+                              uint64_t *counts, size_t counts_room, uint64_t *numbers, size_t numbers_room);
 
 /*
  * Token: the first token at or behind the place `at`, as if the text began there; blanks and comments are passed over.
