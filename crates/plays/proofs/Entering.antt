@@ -14,10 +14,11 @@ use Rattle.meaning.specs.Run.{State, unassigned, bare, entering}
 use Rattle.meaning.specs.Statements.{Env}
 use Rattle.turns.specs.Few.{playFew}
 use Rattle.measures.specs.Book.{firstProcedure, startAt}
+use Rattle.words.specs.declared.Cursor.{Cursor}
 use Rattle.heads.specs.Heads.{kindOf}
 use Rattle.pins.specs.Shown.{Feeding, Leaves, Returns, Told}
 use Rattle.plays.specs.declared.Played.{Played}
-use Rattle.plays.specs.Plays.{Ground, Arrays, arrays, Sized, Standing, Kept, Telling, Plays, Using, Entered}
+use Rattle.plays.specs.Plays.{Ground, Arrays, arrays, Sized, Standing, Kept, Telling, Plays, Using, Served}
 use Rattle.plays.proofs.Keeping.{feeding-kept}
 
 -- ---- which kind it is
@@ -140,9 +141,9 @@ module _ {g : Ground} {i more level table : ℕ} {x : Arrays} {E : Env} {b : Bod
     })
 
 -- the caller's arguments are there again
-pub entered-fed : {g : Ground} {marks sums : List ℕ} {i more level table : ℕ} {x y : Arrays} {k t : ℕ} {r : Played} {E : Env} {b : Body} {us : Toks} {a : Args} {s : State}
-    → Entered g marks sums i more level table x y k t r → Using g i more level table x E b us a s → Feeding (g .text) (y .feeds) level (s .args)
-entered-fed v u = feeding-kept (u .shows .args-are) (v .own)
+pub served-fed : {g : Ground} {marks sums memo memo′ given : List ℕ} {c : Cursor} {i t more level table : ℕ} {x y : Arrays} {k : ℕ} {r : Played} {a : Args}
+    → Served g marks sums memo memo′ c i t more level table given x y k r → Feeding (g .text) (x .feeds) level a → Feeding (g .text) (y .feeds) level a
+served-fed v f = feeding-kept f (v .own)
 
 -- ---- the part of the text that begins with it
 

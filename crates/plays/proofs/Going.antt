@@ -4,7 +4,7 @@ use native.Mathlib.Omega.{arith}
 use mathlib.Core.Path.{_≡_, refl, sym, _∙_}
 use mathlib.Core.Bool.{Bool, true, false, _||_}
 use mathlib.Core.List.{List}
-use lib.ListN.{take}
+use lib.ListN.{length, take}
 use Rattle.tokens.specs.Tokens.{Toks, left}
 use Rattle.meaning.specs.Body.{Args, Body, supplied}
 use Rattle.meaning.specs.Run.{State}
@@ -14,7 +14,7 @@ use Rattle.words.specs.Cursor.{alive, stream}
 use Rattle.words.specs.declared.Cursor.{Cursor}
 use Rattle.pins.specs.Shown.{tableOf}
 use Rattle.plays.specs.declared.Played.{Played}
-use Rattle.plays.specs.Plays.{Ground, Holding, Summed, Arrays, Standing, Kept, Plays, Fed, Ended, Onward, Steps, Resumed, Moves}
+use Rattle.plays.specs.Plays.{Ground, Holding, Knows, Arrays, Standing, Kept, Plays, Fed, Ended, Onward, Steps, Resumed, Moves}
 use Rattle.plays.proofs.Fitting.{neither, fits-again}
 use Rattle.plays.proofs.Following.{failing-plays, alike-same, alike-then, told-alike}
 
@@ -88,8 +88,10 @@ again-standing table′ st n = record {
 }
 
 -- from c₀ to c, whatever body is held at c₀, some of its statements were played
-pub record Going (g : Ground) (marks sums : List ℕ) (more level k t : ℕ) (c₀ : Cursor) (table₀ : ℕ) (x₀ : Arrays) (c : Cursor) (table : ℕ) (x : Arrays) : Type 0 where
+pub record Going (g : Ground) (marks sums memo₀ memo : List ℕ) (more level k t : ℕ) (c₀ : Cursor) (table₀ : ℕ) (x₀ : Arrays) (c : Cursor) (table : ℕ) (x : Arrays) : Type 0 where
   pub kept : Kept level x₀ x
   pub resumes : (E : Env) (b : Body) (us : Toks) (s : State) → Standing g (stream (g .text) c₀) more level table₀ x₀ E b us s → Resumed g more level x E us (s .args) c
-  pub onward : (E : Env) (b : Body) (us : Toks) (s : State) → Standing g (stream (g .text) c₀) more level table₀ x₀ E b us s → Summed g marks sums E
+  pub onward : (E : Env) (b : Body) (us : Toks) (s : State) → Standing g (stream (g .text) c₀) more level table₀ x₀ E b us s → Knows g marks sums memo₀ E
       → Onward g more level table x E us k t b s c
+  pub memo-long : length memo ≡ length memo₀
+  pub learnt : (E : Env) (b : Body) (us : Toks) (s : State) → Standing g (stream (g .text) c₀) more level table₀ x₀ E b us s → Knows g marks sums memo₀ E → Knows g marks sums memo E

@@ -16,3 +16,5 @@ pub mod Texts
 pub mod Summing
 mod Settling
 mod Passing
+mod Memos
+mod Recalling

@@ -11,13 +11,13 @@ use borrow.Author.Tests.{lt-ltb, eqb-true, eqb-false}
 use Rattle.tokens.specs.Tokens.{Toks}
 use Rattle.meaning.specs.Body.{Body}
 use Rattle.meaning.specs.Statements.{Env}
-use Rattle.meaning.specs.Run.{State, Played as Play}
+use Rattle.meaning.specs.Run.{State}
 use Rattle.meaning.proofs.Turns.{Plain}
 use Rattle.turns.specs.Few.{loopFew, playFew}
 use Rattle.turns.proofs.Decides.{second-skipped}
 use Rattle.pins.specs.Shown.{tableOf}
 use Rattle.plays.specs.declared.Played.{Played}
-use Rattle.plays.specs.Plays.{Ground, Arrays, Standing, Plays, Promised, PromisedWhere, SameTo, SamePins, Settles}
+use Rattle.plays.specs.Plays.{Ground, Arrays, Standing, Plays, SameTo, SamePins, Settles}
 use Rattle.plays.proofs.Following.{told-alike}
 use Rattle.plays.proofs.Turning.{second-open, second-due, first-sound}
 
@@ -41,17 +41,17 @@ pins-same e x = record { same = λ q. record { each = λ i h. x .each i (omega a
 pub pins-other : {s n : ℕ} {v w : List ℕ} → s < n → (getD v s 0 ≡ getD w s 0 → ⊥) → SamePins n v w false
 pins-other {s} l d = record { same = λ q. (let z : _≡_ {A = ℕ} 0 1 = cc in absurd (omega arith)); other = λ q x. d (x .each s l) }
 
-same-front : (n : ℕ) (v w : List ℕ) → n ≤ length v → length v ≡ length w → SameTo n v w → take n v ≡ take n w
-same-front n v w l e x =
+pub same-front : (n : ℕ) (v w : List ℕ) → n ≤ length v → n ≤ length w → SameTo n v w → take n v ≡ take n w
+same-front n v w l m x =
     let a = length-take-le n v l in
-    let b = length-take-le n w (omega (arith, e)) in
+    let b = length-take-le n w m in
     ext-getD 0 (take n v) (take n w) (a ∙ sym b) λ i q.
     let j : i < n = omega (arith, a) in
     getD-take n v i 0 j ∙ x .each i j ∙ sym (getD-take n w i 0 j)
 
 -- the pins are those that were kept before
 pub pins-again : {n : ℕ} {v v′ k k′ : List ℕ} → SameTo n v′ k′ → Settles n v k k′ → n ≤ length v → length v′ ≡ length v → take n v′ ≡ take n v
-pins-again {n} {v} {v′} x y l e = same-front n v′ v (omega arith) e (record { each = λ i h. x .each i h ∙ y .here i h })
+pins-again {n} {v} {v′} x y l e = same-front n v′ v (omega arith) l (record { each = λ i h. x .each i h ∙ y .here i h })
 
 -- ---- the second turn
 
@@ -77,9 +77,3 @@ module _ {g : Ground} {ts us : Toks} {more level table : ℕ} {x y : Arrays} {E 
   pub turned-same : (n k : ℕ) → Plays g (E .tables) level y us r (playFew k t b s) → ((r .failed || ltb n 2) || eqb k 0) ≡ false
       → Plays g (E .tables) level y us r (loopFew n k (λ j. playFew j t b) s)
   turned-same n k p h = twice-same n k (second-due n k (r .failed) h) (second-open n k (r .failed) h) p (first-sound n k (r .failed) h)
-
--- where no turn is left out, nothing is asked of a body
-pub promised-all : {g : Ground} {marks sums : List ℕ} {ts : Toks} {more level table : ℕ} {x y : Arrays} {f : Body → State → Play} {r : Played}
-    → PromisedWhere (λ b. false ≡ true → Plain b) g marks sums ts more level table x y f r → Promised g marks sums ts more level table x y f r
-promised-all p =
-    record { kept = p .kept; ended = p .ended; plays = λ E b us s st m. p .plays E b us s st m (λ e. (let z : _≡_ {A = ℕ} 0 1 = cc in absurd (omega arith))) }

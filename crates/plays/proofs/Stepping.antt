@@ -13,9 +13,9 @@ use Rattle.meaning.specs.Body.{Assigns, Args, assigning, choosing, Way, looped,
 use Rattle.meaning.specs.Data.{assigned}
 use Rattle.meaning.specs.Run.{shiftOf, State, Played as Play, puts, changed, follow, again, entering}
 use Rattle.meaning.specs.Meaning.{firstFailing}
-use Rattle.meaning.specs.Statements.{Env, ends, vecs, sets, loops, shifts, uses}
+use Rattle.meaning.specs.Statements.{Decl, Env, Head, ends, vecs, sets, loops, shifts, uses}
 use Rattle.meaning.proofs.Turns.{Plain, Good}
-use Rattle.held.specs.Held.{freeHead, Holds}
+use Rattle.held.specs.Held.{freeHead, HeadAt, Holds}
 use Rattle.turns.specs.Few.{loopFew, playingFew, playFew}
 use Rattle.words.specs.Cursor.{alive, stream}
 use Rattle.words.specs.declared.Cursor.{Cursor}
@@ -31,7 +31,7 @@ use Rattle.heads.specs.declared.What.the-variants.{Ends, Vector, Assigns as Ass
 use Rattle.heads.specs.Heads.{kindOf, Tells}
 use Rattle.pins.specs.Shown.{tableOf, Feeding, Shows, Playable, Told, vector}
 use Rattle.plays.specs.declared.Played.{Played}
-use Rattle.plays.specs.Plays.{Ground, Holding, Summed, Single, Fits, Arrays, Showing, Standing, Telling, Plays, Ended, Steps, Moves, Using, Calling}
+use Rattle.plays.specs.Plays.{Ground, Holding, Summed, Single, Fits, Arrays, arrays, Showing, Standing, Telling, Plays, Ended, Steps, Moves, Invoking, Calling}
 use Rattle.plays.proofs.Supply.{same-puts, same-changed, same-playing, same-play}
 use Rattle.plays.proofs.Fitting.{inside-parts, fits-again, fits-behind-vec, fits-behind-set, fits-behind-inner, fits-some, fits-looped, fits-shifted, fits-entered}
 use Rattle.plays.proofs.Following.{first-fails, second-alike, alike-same, alike-then}
@@ -205,6 +205,7 @@ pub record Called (g : Ground) (c r : Cursor) (more level : ℕ) (E : Env) (b : 
   pub less : left (stream (g .text) r) < left (stream (g .text) c)
   pub supplied : Supplied (g .text) arguments given args
   pub exact : ((j : ℕ) → count j (shifting body) ≤ 1) → Exact t body arguments
+  pub head-is : (d : Decl) × (vs : Toks) × HeadAt E (stream (g .text) c) (uses (kindOf i) d t arguments) vs × (d .body ≡ body)
 
 module _ {g : Ground} {c r : Cursor} {more level table : ℕ} {x : Arrays} {E : Env} {b : Body} {us : Toks} {s : State} (st : Standing g (stream (g .text) c) more level table x E b us s)
     (on : alive c ≡ true) (given args : List ℕ) (what : What) (m : Makes (g .text) c (freeHead E) r (Tells (g .text) (g .book) (g .rows) given args (g .known .tables) what)) where
@@ -268,6 +269,7 @@ module _ {g : Ground} {c r : Cursor} {more level table : ℕ} {x : Arrays} {E : 
         less = met-less w;
         supplied = w .told .6;
         exact = met-exact w (kindOf i) z t a e;
+        head-is = (z, stream (g .text) r, subst (λ (h : Head). HeadAt E (stream (g .text) c) h (stream (g .text) r)) e (w .read), refl);
       }
 
 -- a Loop's body has no `#` of its own
@@ -308,6 +310,20 @@ pub called-calling : {g : Ground} {c r : Cursor} {more level : ℕ} {E : Env} {b
     → (d : Called g c r more level E b us s i u given args) → Summed g marks sums E → Calling g marks sums i u given args E (d .body) (d .after) (d .arguments)
 called-calling holding d m = record { held = holding .held; holds = d .holds; good = d .body-fits .good; supplied = d .supplied; exact = d .exact; summed = m }
 
+pub called-invoking : {g : Ground} {c r : Cursor} {more level table i u : ℕ} {values feeds given args : List ℕ} {E : Env} {b : Body} {us : Toks} {s : State} → Holding g E
+    → (d : Called g c r more level E b us s i u given args) → Showing g level table (arrays values feeds args) s
+    → Invoking g c i u more level table given (arrays values feeds args) E (d .body) (d .after) (d .arguments) s
+called-invoking holding d shown = record {
+  holding = holding;
+  head-is = d .head-is;
+  declared = d .declared;
+  holds = d .holds;
+  some-more = fits-some (d .fits);
+  fits = d .body-fits;
+  shows = shown;
+  supplied = d .supplied;
+}
+
 pub called-moves : {g : Ground} {c r : Cursor} {more level : ℕ} {y : Arrays} {E : Env} {b : Body} {us : Toks} {s : State} {i u : ℕ} {given args : List ℕ} {f : Bool} {p table : ℕ}
     → Called g c r more level E b us s i u given args → Feeding (g .text) (y .feeds) level (s .args)
     → Moves g (stream (g .text) c) more level y E us (s .args) (record { cursor = r; failed = f; place = p; table = table; ends = false })
@@ -338,18 +354,6 @@ module _ {g : Ground} {c r : Cursor} {more level table : ℕ} {x y : Arrays} {E 
       shift-step k t more-comes p = inside-step (st .holding) i more-comes (rw (one-vector i .2) p)
 
     module _ {i u : ℕ} {given args : List ℕ} (d : Called g c r more level E b us s i u given args) where
-      pub called-using : Showing g level table y s → Feeding (g .text) (y .feeds) (level + 1) (d .arguments)
-          → Using g i more level table y E (d .body) (d .after) (d .arguments) s
-      called-using shown fed = record {
-        holding = st .holding;
-        declared = d .declared;
-        holds = d .holds;
-        some-more = fits-some (d .fits);
-        fits = d .body-fits;
-        shows = shown;
-        fed = fed;
-      }
-
       -- what a used body played, and then the rest
       pub called-step : (z : Played) (k t : ℕ) → Telling g (E .tables) level y z (entering (kindOf i) (d .arguments) (playFew k u (d .body)) s)
           → Steps g (stream (g .text) c) more level y E us k t b s (record { cursor = r; failed = z .failed; place = z .place; table = z .table; ends = false })

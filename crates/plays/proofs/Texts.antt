@@ -5,7 +5,7 @@ use mathlib.Core.Path.{_≡_, sym, ap, _∙_, subst}
 use mathlib.Core.Bool.{true, false}
 use mathlib.Core.Option.{none, some}
 use mathlib.Core.List.{List}
-use lib.ListN.{length, replicate, length-replicate}
+use lib.ListN.{length, getD, replicate, length-replicate}
 use Rattle.tokens.specs.Tokens.{Tok, toks}
 use Rattle.meaning.specs.Body.{listed, Body}
 use Rattle.meaning.specs.Run.{start, cyclesOf}
@@ -24,9 +24,10 @@ use Rattle.heads.specs.declared.Known.{Known}
 use Rattle.texts.specs.declared.Parts.{Parts}
 use Rattle.texts.proofs.Runs.{listFrom, list-cut, list-end}
 use Rattle.plays.specs.declared.Played.{Played}
-use Rattle.plays.specs.Plays.{Ground, ground, Holding, Summed, Arrays, arrays, Sized}
+use Rattle.plays.specs.Plays.{Ground, ground, Holding, Summed, Knows, Arrays, arrays, Sized}
 use Rattle.plays.specs.Run.{ListedAt, PlaysListed, Runs, SomeRun, Decides}
 use Rattle.plays.proofs.Patterns.{Playing, patterns-fit}
+use Rattle.plays.proofs.Recalling.{knows-sums}
 use Rattle.plays.proofs.Running.{Left, left-all, left-none, Next, next, next-fails, next-left, opening-long, good-listed}
 
 -- ---- the answer
@@ -121,12 +122,15 @@ module _ (text places lists tplaces waves book rows list : List ℕ) (known : Kn
         pub listed-next : ListedAt all list patterns k env (d .patterns) (upcoming .decl)
         listed-next = listed-at (upcoming .found) (upcoming .stands)
 
-        module _ {marks sums : List ℕ} {y : Arrays} {r : Played} (s : PlaysListed all marks sums list patterns k y r) (m : Summed all marks sums env) where
+        module _ {marks sums memo memo′ : List ℕ} {y : Arrays} {r : Played} (s : PlaysListed all marks sums memo memo′ list patterns k y r) (m : Knows all marks sums memo env) where
           pub run-fails : r .failed ≡ true → firstFailing (d .tables) (cyclesOf (length (d .signals)) run) ≡ some (r .place)
           run-fails e = sym decided ∙ next-fails upcoming (s .fails env (d .patterns) (upcoming .decl) listed-next m (start signals) (opening-long signals) e)
 
           pub run-left : r .failed ≡ false → Left (env .tables) signals env (d .patterns) run (listFrom text list listed (k + 1))
           run-left e = next-left upcoming (s .sound env (d .patterns) (upcoming .decl) listed-next m (start signals) (opening-long signals) e)
+
+          pub run-learnt : Knows all marks sums memo′ env
+          run-learnt = s .learnt env (d .patterns) (upcoming .decl) listed-next m
 
   -- before the first pattern
   pub opening-sized : SomeRun text places lists tplaces waves book rows list known signals listed patterns → Sized all 0 (arrays (replicate 640 0) (replicate 2_304 0) (replicate 128 0))
@@ -142,12 +146,12 @@ module _ (text places lists tplaces waves book rows list : List ℕ) (known : Kn
   }
 
   -- from the listed name of number k on, whatever text the tables hold and whose sums are known, its patterns are left
-  pub record Unplayed (marks sums : List ℕ) (k : ℕ) (x : Arrays) : Type 0 where
+  pub record Unplayed (marks sums memo : List ℕ) (k : ℕ) (x : Arrays) : Type 0 where
     pub sized : Sized all 0 x
     pub left : (p : Parts) (d : Read) (run : Body) (h : Runs text places lists tplaces waves book rows list known signals listed patterns p d run)
         → Summed all marks sums (h .tabled .parts .env)
-        → Left (h .tabled .parts .env .tables) signals (h .tabled .parts .env) (d .patterns) run (listFrom text list listed k)
+        → Left (h .tabled .parts .env .tables) signals (h .tabled .parts .env) (d .patterns) run (listFrom text list listed k) × Knows all marks sums memo (h .tabled .parts .env)
 
-  pub unplayed : {marks sums : List ℕ} → SomeRun text places lists tplaces waves book rows list known signals listed patterns
-      → Unplayed marks sums 0 (arrays (replicate 640 0) (replicate 2_304 0) (replicate 128 0))
-  unplayed s = record { sized = opening-sized s; left = λ p d run h m. run-begins h }
+  pub unplayed : {marks sums memo : List ℕ} → SomeRun text places lists tplaces waves book rows list known signals listed patterns → ((i : ℕ) → getD memo i 0 ≡ 0)
+      → Unplayed marks sums memo 0 (arrays (replicate 640 0) (replicate 2_304 0) (replicate 128 0))
+  unplayed s blank = record { sized = opening-sized s; left = λ p d run h m. (run-begins h, knows-sums m blank) }

@@ -2,19 +2,19 @@
 use Prim.Native.Nat.{ℕ, _+_, _*_, _-_, _<_, _≤_}
 use mathlib.Core.Path.{_≡_}
 use mathlib.Core.Bool.{Bool, true, false}
-use mathlib.Core.Option.{some}
+use mathlib.Core.Option.{none, some}
 use mathlib.Core.List.{List}
-use lib.ListN.{length, getD}
+use lib.ListN.{length, getD, take}
 use Rattle.tokens.specs.Tokens.{Toks, toks, left}
 use Rattle.meaning.specs.Bounds.{signalsMost, tablesMost, depthMost}
 use Rattle.meaning.specs.Lists.{inside, count}
 use Rattle.meaning.specs.Timing.{Tables}
-use Rattle.meaning.specs.Body.{Assigns, Args, Way, looped, shifted, entered, Body, done, vec, set′, inner, depth, outside, shifting, supplied}
+use Rattle.meaning.specs.Body.{Assigns, Args, Kind, Way, looped, shifted, entered, Body, done, vec, set′, inner, depth, outside, shifting, supplied}
 use Rattle.meaning.specs.Run.{State, Played as Play, again, entering}
 use Rattle.meaning.specs.Meaning.{firstFailing}
-use Rattle.meaning.specs.Statements.{Env}
+use Rattle.meaning.specs.Statements.{Decl, Env, uses}
 use Rattle.meaning.proofs.Turns.{Good}
-use Rattle.held.specs.Held.{Holds}
+use Rattle.held.specs.Held.{HeadAt, Holds}
 use Rattle.turns.specs.Few.{playFew}
 use Rattle.words.specs.Cursor.{alive, stream}
 use Rattle.words.specs.declared.Cursor.{Cursor}
@@ -29,9 +29,11 @@ use Rattle.tallies.specs.Rows.{sumAt, isSummed, isShifted}
 use Rattle.heads.specs.declared.Known.{Known}
 use Rattle.heads.specs.Known.{Describes}
 use Rattle.heads.specs.Heads.{kindOf}
-use Rattle.pins.specs.Shown.{Shows, Told, Roomy, Feeding, feedAt}
+use Rattle.pins.specs.Shown.{tableOf, Shows, Told, Roomy, Feeding, feedAt}
 use Rattle.plays.specs.declared.Played.{Played}
 use Rattle.plays.specs.declared.Passed.{Passed}
+use Rattle.plays.specs.declared.Use.{Use}
+use Rattle.plays.specs.Memo.{Row}
 
 -- ---- what is played
 
@@ -77,6 +79,35 @@ pub record SumOf (g : Ground) (E : Env) (sums : List ℕ) (i least : ℕ) : Type
 pub record Summed (g : Ground) (marks sums : List ℕ) (E : Env) : Type 0 where
   pub each : (i : ℕ) → i < bodies → getD marks i 0 ≡ isSummed → SumOf g E sums i 0
   pub shifted-each : (i : ℕ) → i < bodies → getD marks i 0 ≡ isShifted → SumOf g E sums i 1
+
+-- ---- uses that are remembered
+
+-- the statement at the cursor c, in which so many second turns may be open
+abbrev pub useAt : ℕ → Cursor → Use
+useAt k c = record { seconds = k; fault = c .fault; at = c .at; end = c .end }
+
+-- p, which was played from the state s over n signals, has no cycle that fails; it leaves this table and these pins
+pub record Comes (tabs : Tables) (n table : ℕ) (values : List ℕ) (s : State) (p : Play) : Type 0 where
+  pub sound : firstFailing tabs (p .1) ≡ none
+  pub pins-are : p .0 .pins ≡ take n values
+  pub table-is : p .0 .table ≡ tableOf table
+  pub args-same : p .0 .args ≡ s .args
+
+-- so does the use at the cursor c, whatever body is used there, from every state with this table and these pins
+pub record Outcome (g : Ground) (E : Env) (k : ℕ) (c : Cursor) (table : ℕ) (values : List ℕ) (table′ : ℕ) (values′ : List ℕ) : Type 0 where
+  pub each : (kind : Kind) (d : Decl) (t : ℕ) (a : Args) (us : Toks) → HeadAt E (stream (g .text) c) (uses kind d t a) us
+      → (s : State) → s .pins ≡ take (g .signals) values → s .table ≡ tableOf table
+      → Comes (E .tables) (g .signals) table′ values′ s (entering kind a (playFew k t (d .body)) s)
+
+-- what a row tells is so
+pub record Remembers (g : Ground) (memo : List ℕ) (E : Env) : Type 0 where
+  pub each : (j k : ℕ) (c : Cursor) (table : ℕ) (values : List ℕ) (table′ : ℕ) (values′ : List ℕ) → g .signals ≤ length values → g .signals ≤ length values′
+      → Row memo (g .signals) j (useAt k c) table values table′ values′ → Outcome g E k c table values table′ values′
+
+-- what is known of the bodies that a text uses
+pub record Knows (g : Ground) (marks sums memo : List ℕ) (E : Env) : Type 0 where
+  pub summed : Summed g marks sums E
+  pub remembers : Remembers g memo E
 
 -- ---- bodies that can be played
 
@@ -174,11 +205,13 @@ pub record Promised (g : Ground) (marks sums : List ℕ) (ts : Toks) (more level
   pub ended : (E : Env) (b : Body) (us : Toks) (s : State) → Standing g ts more level table x E b us s → r .failed ≡ false → Ended g level y us (s .args) (r .cursor)
   pub plays : (E : Env) (b : Body) (us : Toks) (s : State) → Standing g ts more level table x E b us s → Summed g marks sums E → Plays g (E .tables) level y us r (f b s)
 
--- the same, of each body that is fine
-pub record PromisedWhere (fine : Body → Type 0) (g : Ground) (marks sums : List ℕ) (ts : Toks) (more level table : ℕ) (x y : Arrays) (f : Body → State → Play) (r : Played) : Type 0 where
+-- the same, of each body that is fine, where what is remembered is so; and it is so behind it
+pub record PromisedWhere (fine : Body → Type 0) (g : Ground) (marks sums memo memo′ : List ℕ) (ts : Toks) (more level table : ℕ) (x y : Arrays) (f : Body → State → Play) (r : Played) : Type 0 where
   pub kept : Kept level x y
   pub ended : (E : Env) (b : Body) (us : Toks) (s : State) → Standing g ts more level table x E b us s → r .failed ≡ false → Ended g level y us (s .args) (r .cursor)
-  pub plays : (E : Env) (b : Body) (us : Toks) (s : State) → Standing g ts more level table x E b us s → Summed g marks sums E → fine b → Plays g (E .tables) level y us r (f b s)
+  pub plays : (E : Env) (b : Body) (us : Toks) (s : State) → Standing g ts more level table x E b us s → Knows g marks sums memo E → fine b → Plays g (E .tables) level y us r (f b s)
+  pub memo-long : length memo′ ≡ length memo
+  pub learnt : (E : Env) (b : Body) (us : Toks) (s : State) → Standing g ts more level table x E b us s → Knows g marks sums memo E → Knows g marks sums memo′ E
 
 -- ---- a second turn that begins as the first began
 
@@ -224,11 +257,13 @@ pub record Moves (g : Ground) (ts : Toks) (more level : ℕ) (y : Arrays) (E : E
   pub ended : r .failed ≡ false → r .ends ≡ true → Ended g level y us a (r .cursor)
   pub goes : r .failed ≡ false → r .ends ≡ false → Resumed g more level y E us a (r .cursor) × (left (stream (g .text) (r .cursor)) < left ts)
 
-pub record Stepped (g : Ground) (marks sums : List ℕ) (ts : Toks) (more level table : ℕ) (x y : Arrays) (k t : ℕ) (r : Played) : Type 0 where
+pub record Stepped (g : Ground) (marks sums memo memo′ : List ℕ) (ts : Toks) (more level table : ℕ) (x y : Arrays) (k t : ℕ) (r : Played) : Type 0 where
   pub kept : Kept level x y
   pub moves : (E : Env) (b : Body) (us : Toks) (s : State) → Standing g ts more level table x E b us s → Moves g ts more level y E us (s .args) r
-  pub steps : (E : Env) (b : Body) (us : Toks) (s : State) → Standing g ts more level table x E b us s → Summed g marks sums E
+  pub steps : (E : Env) (b : Body) (us : Toks) (s : State) → Standing g ts more level table x E b us s → Knows g marks sums memo E
       → Steps g ts more level y E us k t b s r
+  pub memo-long : length memo′ ≡ length memo
+  pub learnt : (E : Env) (b : Body) (us : Toks) (s : State) → Standing g ts more level table x E b us s → Knows g marks sums memo E → Knows g marks sums memo′ E
 
 -- whatever V a Shift holds from ts on, it was played t times
 pub record Shifted (g : Ground) (ts : Toks) (more level table : ℕ) (x y : Arrays) (k t : ℕ) (r : Played) : Type 0 where
@@ -265,6 +300,46 @@ pub record Entered (g : Ground) (marks sums : List ℕ) (i more level table : �
   pub own : (s : ℕ) → s < signalsMost → feedAt (y .feeds) level s ≡ feedAt (x .feeds) level s
   pub told : (E : Env) (b : Body) (us : Toks) (a : Args) (s : State) → Using g i more level table x E b us a s → Summed g marks sums E
       → Telling g (E .tables) level y r (entering (kindOf i) a (playFew k t b) s)
+
+-- the same, where what is remembered is so; and it is so behind it
+pub record Performed (g : Ground) (marks sums memo memo′ : List ℕ) (i more level table : ℕ) (x y : Arrays) (k t : ℕ) (r : Played) : Type 0 where
+  pub kept : Kept level x y
+  pub own : (s : ℕ) → s < signalsMost → feedAt (y .feeds) level s ≡ feedAt (x .feeds) level s
+  pub told : (E : Env) (b : Body) (us : Toks) (a : Args) (s : State) → Using g i more level table x E b us a s → Knows g marks sums memo E
+      → Telling g (E .tables) level y r (entering (kindOf i) a (playFew k t b) s)
+  pub memo-long : length memo′ ≡ length memo
+  pub learnt : (E : Env) (b : Body) (us : Toks) (a : Args) (s : State) → Using g i more level table x E b us a s → Knows g marks sums memo E → Knows g marks sums memo′ E
+
+-- the statement at the cursor c uses the declared body b of number i with the arguments a, for t turns of its Shift
+pub record Invoking (g : Ground) (c : Cursor) (i t more level table : ℕ) (given : List ℕ) (x : Arrays) (E : Env) (b : Body) (us : Toks) (a : Args) (s : State) : Type 0 where
+  pub holding : Holding g E
+  pub head-is : (d : Decl) × (vs : Toks) × HeadAt E (stream (g .text) c) (uses (kindOf i) d t a) vs × (d .body ≡ b)
+  pub declared : i < bodies
+  pub holds : Holds E (toks (g .text) (startAt (g .book) i)) b us
+  pub some-more : 0 < more
+  pub fits : Fits (more - 1) (level + 1) a b
+  pub shows : Showing g level table x s
+  pub supplied : Supplied (g .text) a given (x .args)
+
+pub record SomeInvoked (g : Ground) (c : Cursor) (i t more level table : ℕ) (given : List ℕ) (x : Arrays) : Type 0 where
+  pub env : Env
+  pub body : Body
+  pub rest : Toks
+  pub arguments : Args
+  pub state : State
+  pub invoking : Invoking g c i t more level table given x env body rest arguments state
+  pub sized : Sized g level x
+  pub given-long : length given ≡ signalsMost
+
+-- it was played, or it was known what it plays
+pub record Served (g : Ground) (marks sums memo memo′ : List ℕ) (c : Cursor) (i t more level table : ℕ) (given : List ℕ) (x y : Arrays) (k : ℕ) (r : Played) : Type 0 where
+  pub kept : Kept level x y
+  pub own : (s : ℕ) → s < signalsMost → feedAt (y .feeds) level s ≡ feedAt (x .feeds) level s
+  pub told : (E : Env) (b : Body) (us : Toks) (a : Args) (s : State) → Invoking g c i t more level table given x E b us a s → Knows g marks sums memo E
+      → Telling g (E .tables) level y r (entering (kindOf i) a (playFew k t b) s)
+  pub memo-long : length memo′ ≡ length memo
+  pub learnt : (E : Env) (b : Body) (us : Toks) (a : Args) (s : State) → Invoking g c i t more level table given x E b us a s → Knows g marks sums memo E
+      → Knows g marks sums memo′ E
 
 -- ---- a used body that is passed
 

@@ -21,7 +21,7 @@ use Rattle.texts.specs.declared.Parts.{Parts}
 use Rattle.texts.specs.Tables.{Tabled}
 use Rattle.plays.specs.declared.Played.{Played}
 use Rattle.plays.specs.declared.Failing.{Failing}
-use Rattle.plays.specs.Plays.{Ground, Holding, Summed, Fits, Arrays, Sized}
+use Rattle.plays.specs.Plays.{Ground, Holding, Knows, Fits, Arrays, Sized}
 
 -- ---- one listed pattern
 
@@ -43,12 +43,14 @@ pub record SomeListed (g : Ground) (list : List ℕ) (patterns k : ℕ) (x : Arr
   pub sized : Sized g 0 x
 
 -- it was played, from any state over so many signals, to its end or to the first cycle that fails
-pub record PlaysListed (g : Ground) (marks sums : List ℕ) (list : List ℕ) (patterns k : ℕ) (y : Arrays) (r : Played) : Type 0 where
+pub record PlaysListed (g : Ground) (marks sums memo memo′ : List ℕ) (list : List ℕ) (patterns k : ℕ) (y : Arrays) (r : Played) : Type 0 where
   pub sized : Sized g 0 y
-  pub fails : (E : Env) (ps : Decls) (d : Decl) → ListedAt g list patterns k E ps d → Summed g marks sums E → (s : State) → length (s .pins) ≡ g .signals → r .failed ≡ true
+  pub fails : (E : Env) (ps : Decls) (d : Decl) → ListedAt g list patterns k E ps d → Knows g marks sums memo E → (s : State) → length (s .pins) ≡ g .signals → r .failed ≡ true
       → firstFailing (E .tables) (entering listed [] (playFew openMost 0 (d .body)) s .1) ≡ some (r .place)
-  pub sound : (E : Env) (ps : Decls) (d : Decl) → ListedAt g list patterns k E ps d → Summed g marks sums E → (s : State) → length (s .pins) ≡ g .signals → r .failed ≡ false
+  pub sound : (E : Env) (ps : Decls) (d : Decl) → ListedAt g list patterns k E ps d → Knows g marks sums memo E → (s : State) → length (s .pins) ≡ g .signals → r .failed ≡ false
       → firstFailing (E .tables) (entering listed [] (playFew openMost 0 (d .body)) s .1) ≡ none
+  pub memo-long : length memo′ ≡ length memo
+  pub learnt : (E : Env) (ps : Decls) (d : Decl) → ListedAt g list patterns k E ps d → Knows g marks sums memo E → Knows g marks sums memo′ E
 
 -- ---- the whole run
 

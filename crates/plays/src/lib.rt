@@ -4,8 +4,8 @@
 ghost use mathlib.Core.Path.{_≡_};
 ghost use mathlib.Core.Bool.{true};
 ghost use mathlib.Core.List.{List};
-ghost use Prim.Native.Nat.{ℕ, _-_, _*_, _<_, _≤_};
-ghost use lib.ListN.{length};
+ghost use Prim.Native.Nat.{ℕ, _+_, _-_, _*_, _%_, _<_, _≤_};
+ghost use lib.ListN.{length, getD};
 ghost use Rattle.tokens.specs.Tokens.{toks};
 ghost use Rattle.words.specs.Cursor.{alive, stream};
 ghost use Rattle.turns.specs.Few.{loopFew, playFew};
@@ -18,8 +18,9 @@ ghost use Rattle.measures.specs.Book.{bodies};
 ghost use Rattle.pins.specs.Shown.{valuesLength};
 ghost use Rattle.heads.specs.declared.Known.{Known};
 ghost use Rattle.texts.specs.declared.Parts.{Parts};
+ghost use Rattle.plays.specs.Memo.{memoRow, pictureSize, Notes, Pictures, Writes, Remembered, Recalls};
 ghost use Rattle.plays.specs.Run.{SomeListed, PlaysListed, SomeRun, Runs, Decides};
-ghost use Rattle.plays.specs.Plays.{ground, arrays, Stood, Used, Promised, PromisedWhere, SamePins, Stepped, Shifted, Entered, Summed, Settles, Passing};
+ghost use Rattle.plays.specs.Plays.{ground, arrays, Stood, Used, Promised, PromisedWhere, SamePins, Stepped, Shifted, Entered, Performed, SomeInvoked, Served, Summed, Settles, Passing};
 use heads::Known;
 use words::Cursor;
 
@@ -54,6 +55,169 @@ pub struct Passed {
 pub struct Failing {
     pub failed: bool,
     pub place: usize,
+}
+
+// ---- uses that were played before
+
+// A statement that uses a body, where it stands in the text, and how many second turns may be open in it.
+pub struct Use {
+    pub seconds: usize,
+    pub fault: usize,
+    pub at: usize,
+    pub end: usize,
+}
+
+// Rows of the memo. A prime: uses at regular distances have rows of their own.
+const MEMO_ROWS: usize = 127;
+
+// What a row is found by, and behind it two pictures of a table and pins: before the use, and behind it.
+const BEFORE: usize = 5;
+
+const PICTURE: usize = 1 + sets::MOST;
+
+const BEHIND: usize = BEFORE + PICTURE;
+
+const MEMO_ROW: usize = BEHIND + PICTURE;
+
+const MEMO: usize = MEMO_ROWS * MEMO_ROW;
+
+// Nothing is remembered.
+fn blank_memo() -> [usize; MEMO]
+    ensures { λ r. ⌜ (length r ≡ 17_145) × ((i : ℕ) → getD r i 0 ≡ 0) ⌝ }
+{
+    [0usize; MEMO]
+}
+
+// Where the row of a use at this place begins.
+fn memo_row(at: usize) -> usize
+    ensures { λ r. ⌜ ((j : ℕ) × (r ≡ j * memoRow) × (j < 127)) ⌝ }
+{
+    (at % MEMO_ROWS) * MEMO_ROW
+}
+
+fn wide(b: u8) -> usize
+    ensures { λ r. ⌜ (r ≡ b) × (r % 256 ≡ b) ⌝ }
+{
+    b as usize
+}
+
+// A pin, of the number that keeps it.
+fn pin_of(n: usize) -> u8
+    ensures { λ r. ⌜ r ≡ n % 256 ⌝ }
+{
+    (n % 256) as u8
+}
+
+// Is the row for this use?
+fn is_noted(memo: &[usize], o: usize, u: Use) -> bool
+    requires { ⌜ o + memoRow ≤ length (now memo) ⌝ }
+    ensures { λ r. ⌜ (r ≡ true → Notes (now (memo .entry)) o u) ⌝ }
+{
+    (memo[o] == 1)
+        & (memo[o + 1] == u.seconds)
+        & (memo[o + 2] == u.fault)
+        & (memo[o + 3] == u.at)
+        & (memo[o + 4] == u.end)
+}
+
+// Now it is.
+fn note(memo: &mut [usize], o: usize, u: Use)
+    requires { ⌜ o + memoRow ≤ length (now memo) ⌝ }
+    ensures { λ _. ⌜ Writes (now (memo .entry)) (now (memo .exit)) o (o + 5) × Notes (now (memo .exit)) o u ⌝ }
+{
+    memo[o] = 1;
+    memo[o + 1] = u.seconds;
+    memo[o + 2] = u.fault;
+    memo[o + 3] = u.at;
+    memo[o + 4] = u.end;
+}
+
+// Are the table and the pins those of the picture?
+fn is_pictured(memo: &[usize], o: usize, table: usize, values: &[u8], signals: usize) -> bool
+    requires { ⌜ (o + pictureSize ≤ length (now memo)) × (signals < pictureSize) × (signals ≤ length (now values)) ⌝ }
+    ensures { λ r. ⌜ (r ≡ true → Pictures (now (memo .entry)) o signals table (now (values .entry))) ⌝ }
+{
+    if memo[o] != table {
+        return false;
+    }
+    let mut s = 0;
+    while s < signals {
+        if pin_of(memo[o + 1 + s]) != values[s] {
+            return false;
+        }
+        s += 1;
+    }
+    true
+}
+
+// Now they are.
+fn picture(memo: &mut [usize], o: usize, table: usize, values: &[u8], signals: usize)
+    requires { ⌜ (o + pictureSize ≤ length (now memo)) × (signals < pictureSize) × (signals ≤ length (now values)) ⌝ }
+    ensures { λ _. ⌜ Writes (now (memo .entry)) (now (memo .exit)) o (o + pictureSize) × Pictures (now (memo .exit)) o signals table (now (values .entry)) ⌝ }
+{
+    memo[o] = table;
+    let mut s = 0;
+    while s < signals {
+        memo[o + 1 + s] = wide(values[s]);
+        s += 1;
+    }
+}
+
+// The pins are those of the picture.
+fn restore(memo: &[usize], o: usize, values: &mut [u8], signals: usize)
+    requires { ⌜ (o + pictureSize ≤ length (now memo)) × (signals < pictureSize) × (signals ≤ length (now values)) ⌝ }
+    ensures { λ _. ⌜ (length (now (values .exit)) ≡ length (now (values .entry))) × ((i : ℕ) → signals ≤ i → getD (now (values .exit)) i 0 ≡ getD (now (values .entry)) i 0) × Pictures (now (memo .entry)) o signals (getD (now (memo .entry)) o 0) (now (values .exit)) ⌝ }
+{
+    let mut s = 0;
+    while s < signals {
+        values[s] = pin_of(memo[o + 1 + s]);
+        s += 1;
+    }
+}
+
+// A use from this table and these pins, if it is remembered: what it left is left.
+fn recall(memo: &[usize], u: Use, table: usize, values: &mut [u8], signals: usize) -> Passed
+    requires { ⌜ (signals < pictureSize) × (signals ≤ length (now values)) ⌝ }
+    ensures { λ r. ⌜ Recalls (now (memo .entry)) signals u table (now (values .entry)) (now (values .exit)) r ⌝ }
+{
+    let stay = Passed { done: false, table };
+    let o = memo_row(u.at);
+    if memo.len() < o + MEMO_ROW {
+        return stay;
+    }
+    if !is_noted(memo, o, u) {
+        return stay;
+    }
+    if !is_pictured(memo, o + BEFORE, table, values, signals) {
+        return stay;
+    }
+    restore(memo, o + BEHIND, values, signals);
+    Passed {
+        done: true,
+        table: memo[o + BEHIND],
+    }
+}
+
+// A use that was played, in which no cycle failed, from a table and the kept pins to a table and pins.
+fn remember(
+    memo: &mut [usize],
+    u: Use,
+    table: usize,
+    kept: &[u8],
+    behind: usize,
+    values: &[u8],
+    signals: usize,
+)
+    requires { ⌜ (signals < pictureSize) × (signals ≤ length (now kept)) × (signals ≤ length (now values)) ⌝ }
+    ensures { λ _. ⌜ Remembered (now (memo .entry)) (now (memo .exit)) signals u table (now (kept .entry)) behind (now (values .entry)) ⌝ }
+{
+    let o = memo_row(u.at);
+    if memo.len() < o + MEMO_ROW {
+        return;
+    }
+    note(memo, o, u);
+    picture(memo, o + BEFORE, table, kept, signals);
+    picture(memo, o + BEHIND, behind, values, signals);
 }
 
 // ---- one statement
@@ -169,9 +333,10 @@ fn needed_turns<'a>(
     values: &mut [u8],
     feeds: &mut [usize],
     args: &mut [usize],
+    memo: &mut [usize],
 ) -> Played
     requires { ⌜ (alive c ≡ true) × (0 < n) × (0 < frame .depth) × Stood (ground (now text) (now places) (now lists) (now tplaces) (now book) (now rows) (now waves) known signals) (stream (now text) c) (frame .depth - 1) (frame .level) table (arrays (now values) (now feeds) (now args)) ⌝ }
-    ensures { λ r. ⌜ PromisedWhere (λ b. plain ≡ true → Plain b) (ground (now (text .entry)) (now (places .entry)) (now (lists .entry)) (now (tplaces .entry)) (now (book .entry)) (now (rows .entry)) (now (waves .entry)) known signals) (now (marks .entry)) (now (sums .entry)) (stream (now (text .entry)) c) (frame .depth - 1) (frame .level) table (arrays (now (values .entry)) (now (feeds .entry)) (now (args .entry))) (arrays (now (values .exit)) (now (feeds .exit)) (now (args .exit))) (λ b. loopFew n (frame .seconds) (λ j. playFew j (frame .turns) b)) r ⌝ }
+    ensures { λ r. ⌜ PromisedWhere (λ b. plain ≡ true → Plain b) (ground (now (text .entry)) (now (places .entry)) (now (lists .entry)) (now (tplaces .entry)) (now (book .entry)) (now (rows .entry)) (now (waves .entry)) known signals) (now (marks .entry)) (now (sums .entry)) (now (memo .entry)) (now (memo .exit)) (stream (now (text .entry)) c) (frame .depth - 1) (frame .level) table (arrays (now (values .entry)) (now (feeds .entry)) (now (args .entry))) (arrays (now (values .exit)) (now (feeds .exit)) (now (args .exit))) (λ b. loopFew n (frame .seconds) (λ j. playFew j (frame .turns) b)) r ⌝ }
 {
     let first = Frame {
         seconds: frame.seconds,
@@ -204,6 +369,7 @@ fn needed_turns<'a>(
         values,
         feeds,
         args,
+        memo,
     );
     if a.failed | (n < 2) | (frame.seconds == 0) {
         return a;
@@ -237,6 +403,7 @@ fn needed_turns<'a>(
         values,
         feeds,
         args,
+        memo,
     )
 }
 
@@ -264,6 +431,7 @@ pub fn turns<'a>(
     requires { ⌜ (alive c ≡ true) × (0 < n) × (0 < frame .depth) × Stood (ground (now text) (now places) (now lists) (now tplaces) (now book) (now rows) (now waves) known signals) (stream (now text) c) (frame .depth - 1) (frame .level) table (arrays (now values) (now feeds) (now args)) ⌝ }
     ensures { λ r. ⌜ Promised (ground (now (text .entry)) (now (places .entry)) (now (lists .entry)) (now (tplaces .entry)) (now (book .entry)) (now (rows .entry)) (now (waves .entry)) known signals) (now (marks .entry)) (now (sums .entry)) (stream (now (text .entry)) c) (frame .depth - 1) (frame .level) table (arrays (now (values .entry)) (now (feeds .entry)) (now (args .entry))) (arrays (now (values .exit)) (now (feeds .exit)) (now (args .exit))) (λ b. loopFew n (frame .seconds) (λ j. playFew j (frame .turns) b)) r ⌝ }
 {
+    let mut memo = [0usize; 0];
     needed_turns(
         text,
         c,
@@ -284,12 +452,13 @@ pub fn turns<'a>(
         values,
         feeds,
         args,
+        &mut memo,
     )
 }
 
 // Macro or Call: the body of number i, its Shift played t times, from its own first byte. A macro runs in place; from a procedure the caller's pins and
 // table come back.
-pub fn enter<'a>(
+fn play_body<'a>(
     text: &'a [u8],
     places: &'a [usize],
     lists: &'a [u16],
@@ -308,9 +477,10 @@ pub fn enter<'a>(
     values: &mut [u8],
     feeds: &mut [usize],
     args: &mut [usize],
+    memo: &mut [usize],
 ) -> Played
     requires { ⌜ Used (ground (now text) (now places) (now lists) (now tplaces) (now book) (now rows) (now waves) known signals) i (frame .depth) (frame .level) table (arrays (now values) (now feeds) (now args)) ⌝ }
-    ensures { λ r. ⌜ Entered (ground (now (text .entry)) (now (places .entry)) (now (lists .entry)) (now (tplaces .entry)) (now (book .entry)) (now (rows .entry)) (now (waves .entry)) known signals) (now (marks .entry)) (now (sums .entry)) i (frame .depth) (frame .level) table (arrays (now (values .entry)) (now (feeds .entry)) (now (args .entry))) (arrays (now (values .exit)) (now (feeds .exit)) (now (args .exit))) (frame .seconds) t r ⌝ }
+    ensures { λ r. ⌜ Performed (ground (now (text .entry)) (now (places .entry)) (now (lists .entry)) (now (tplaces .entry)) (now (book .entry)) (now (rows .entry)) (now (waves .entry)) known signals) (now (marks .entry)) (now (sums .entry)) (now (memo .entry)) (now (memo .exit)) i (frame .depth) (frame .level) table (arrays (now (values .entry)) (now (feeds .entry)) (now (args .entry))) (arrays (now (values .exit)) (now (feeds .exit)) (now (args .exit))) (frame .seconds) t r ⌝ }
 {
     let inner = Frame {
         seconds: frame.seconds,
@@ -339,6 +509,7 @@ pub fn enter<'a>(
             values,
             feeds,
             args,
+            memo,
         );
     }
     pins::leave(values, inner.level);
@@ -360,6 +531,7 @@ pub fn enter<'a>(
         values,
         feeds,
         args,
+        memo,
     );
     pins::come_back(values, inner.level);
     let cursor = r.cursor;
@@ -370,6 +542,54 @@ pub fn enter<'a>(
         table,
         ends: false,
     }
+}
+
+// Macro or Call of the body of number i, of which nothing is remembered.
+pub fn enter<'a>(
+    text: &'a [u8],
+    places: &'a [usize],
+    lists: &'a [u16],
+    tplaces: &'a [usize],
+    book: &'a [usize],
+    rows: &'a [u16],
+    waves: &'a [u8],
+    marks: &'a [u8],
+    sums: &'a [u8],
+    known: Known,
+    signals: usize,
+    frame: Frame,
+    i: usize,
+    t: usize,
+    table: usize,
+    values: &mut [u8],
+    feeds: &mut [usize],
+    args: &mut [usize],
+) -> Played
+    requires { ⌜ Used (ground (now text) (now places) (now lists) (now tplaces) (now book) (now rows) (now waves) known signals) i (frame .depth) (frame .level) table (arrays (now values) (now feeds) (now args)) ⌝ }
+    ensures { λ r. ⌜ Entered (ground (now (text .entry)) (now (places .entry)) (now (lists .entry)) (now (tplaces .entry)) (now (book .entry)) (now (rows .entry)) (now (waves .entry)) known signals) (now (marks .entry)) (now (sums .entry)) i (frame .depth) (frame .level) table (arrays (now (values .entry)) (now (feeds .entry)) (now (args .entry))) (arrays (now (values .exit)) (now (feeds .exit)) (now (args .exit))) (frame .seconds) t r ⌝ }
+{
+    let mut memo = [0usize; 0];
+    play_body(
+        text,
+        places,
+        lists,
+        tplaces,
+        book,
+        rows,
+        waves,
+        marks,
+        sums,
+        known,
+        signals,
+        frame,
+        i,
+        t,
+        table,
+        values,
+        feeds,
+        args,
+        &mut memo,
+    )
 }
 
 // A body's pins are those that it leaves.
@@ -446,6 +666,81 @@ fn pass(
     Passed { done, table }
 }
 
+// Macro or Call at the cursor c, of the body of number i: where it was played from here before, what it left is left. Else it is played, and remembered where
+// no cycle fails.
+fn used<'a>(
+    text: &'a [u8],
+    c: Cursor,
+    places: &'a [usize],
+    lists: &'a [u16],
+    tplaces: &'a [usize],
+    book: &'a [usize],
+    rows: &'a [u16],
+    waves: &'a [u8],
+    marks: &'a [u8],
+    sums: &'a [u8],
+    known: Known,
+    signals: usize,
+    frame: Frame,
+    i: usize,
+    t: usize,
+    given: &'a [u8],
+    table: usize,
+    values: &mut [u8],
+    feeds: &mut [usize],
+    args: &mut [usize],
+    memo: &mut [usize],
+) -> Played
+    requires { ⌜ SomeInvoked (ground (now text) (now places) (now lists) (now tplaces) (now book) (now rows) (now waves) known signals) c i t (frame .depth) (frame .level) table (now given) (arrays (now values) (now feeds) (now args)) ⌝ }
+    ensures { λ r. ⌜ Served (ground (now (text .entry)) (now (places .entry)) (now (lists .entry)) (now (tplaces .entry)) (now (book .entry)) (now (rows .entry)) (now (waves .entry)) known signals) (now (marks .entry)) (now (sums .entry)) (now (memo .entry)) (now (memo .exit)) c i t (frame .depth) (frame .level) table (now (given .entry)) (arrays (now (values .entry)) (now (feeds .entry)) (now (args .entry))) (arrays (now (values .exit)) (now (feeds .exit)) (now (args .exit))) (frame .seconds) r ⌝ }
+{
+    let u = Use {
+        seconds: frame.seconds,
+        fault: c.fault as usize,
+        at: c.at,
+        end: c.end,
+    };
+    let q = recall(memo, u, table, values, signals);
+    if q.done {
+        return Played {
+            cursor: c,
+            failed: false,
+            place: 0,
+            table: q.table,
+            ends: false,
+        };
+    }
+    let mut kept = [0u8; sets::MOST];
+    keep(values, &mut kept, signals, true);
+    pins::supply(given, args, feeds, frame.level + 1);
+    let r = play_body(
+        text,
+        places,
+        lists,
+        tplaces,
+        book,
+        rows,
+        waves,
+        marks,
+        sums,
+        known,
+        signals,
+        frame,
+        i,
+        t,
+        table,
+        values,
+        feeds,
+        args,
+        memo,
+    );
+    if r.failed {
+        return r;
+    }
+    remember(memo, u, table, &kept, r.table, values, signals);
+    r
+}
+
 // The statement at the cursor, or the `}` there.
 fn statement<'a>(
     text: &'a [u8],
@@ -465,9 +760,10 @@ fn statement<'a>(
     values: &mut [u8],
     feeds: &mut [usize],
     args: &mut [usize],
+    memo: &mut [usize],
 ) -> Played
     requires { ⌜ (alive c ≡ true) × Stood (ground (now text) (now places) (now lists) (now tplaces) (now book) (now rows) (now waves) known signals) (stream (now text) c) (frame .depth) (frame .level) table (arrays (now values) (now feeds) (now args)) ⌝ }
-    ensures { λ r. ⌜ Stepped (ground (now (text .entry)) (now (places .entry)) (now (lists .entry)) (now (tplaces .entry)) (now (book .entry)) (now (rows .entry)) (now (waves .entry)) known signals) (now (marks .entry)) (now (sums .entry)) (stream (now (text .entry)) c) (frame .depth) (frame .level) table (arrays (now (values .entry)) (now (feeds .entry)) (now (args .entry))) (arrays (now (values .exit)) (now (feeds .exit)) (now (args .exit))) (frame .seconds) (frame .turns) r ⌝ }
+    ensures { λ r. ⌜ Stepped (ground (now (text .entry)) (now (places .entry)) (now (lists .entry)) (now (tplaces .entry)) (now (book .entry)) (now (rows .entry)) (now (waves .entry)) known signals) (now (marks .entry)) (now (sums .entry)) (now (memo .entry)) (now (memo .exit)) (stream (now (text .entry)) c) (frame .depth) (frame .level) table (arrays (now (values .entry)) (now (feeds .entry)) (now (args .entry))) (arrays (now (values .exit)) (now (feeds .exit)) (now (args .exit))) (frame .seconds) (frame .turns) r ⌝ }
 {
     let mut given = [0; sets::MOST];
     let h = heads::head(
@@ -553,6 +849,7 @@ fn statement<'a>(
                 values,
                 feeds,
                 args,
+                memo,
             );
             let behind = r.cursor;
             Played {
@@ -603,9 +900,9 @@ fn statement<'a>(
                     ends: false,
                 };
             }
-            pins::supply(&given, args, feeds, frame.level + 1);
-            let r = enter(
+            let r = used(
                 text,
+                c,
                 places,
                 lists,
                 tplaces,
@@ -619,10 +916,12 @@ fn statement<'a>(
                 frame,
                 i,
                 t,
+                &given,
                 table,
                 values,
                 feeds,
                 args,
+                memo,
             );
             Played {
                 cursor,
@@ -656,9 +955,10 @@ fn statements<'a>(
     values: &mut [u8],
     feeds: &mut [usize],
     args: &mut [usize],
+    memo: &mut [usize],
 ) -> Played
     requires { ⌜ (alive c ≡ true) × Stood (ground (now text) (now places) (now lists) (now tplaces) (now book) (now rows) (now waves) known signals) (stream (now text) c) (frame .depth) (frame .level) table (arrays (now values) (now feeds) (now args)) ⌝ }
-    ensures { λ r. ⌜ Promised (ground (now (text .entry)) (now (places .entry)) (now (lists .entry)) (now (tplaces .entry)) (now (book .entry)) (now (rows .entry)) (now (waves .entry)) known signals) (now (marks .entry)) (now (sums .entry)) (stream (now (text .entry)) c) (frame .depth) (frame .level) table (arrays (now (values .entry)) (now (feeds .entry)) (now (args .entry))) (arrays (now (values .exit)) (now (feeds .exit)) (now (args .exit))) (playFew (frame .seconds) (frame .turns)) r ⌝ }
+    ensures { λ r. ⌜ PromisedWhere (λ b. Unit {0}) (ground (now (text .entry)) (now (places .entry)) (now (lists .entry)) (now (tplaces .entry)) (now (book .entry)) (now (rows .entry)) (now (waves .entry)) known signals) (now (marks .entry)) (now (sums .entry)) (now (memo .entry)) (now (memo .exit)) (stream (now (text .entry)) c) (frame .depth) (frame .level) table (arrays (now (values .entry)) (now (feeds .entry)) (now (args .entry))) (arrays (now (values .exit)) (now (feeds .exit)) (now (args .exit))) (playFew (frame .seconds) (frame .turns)) r ⌝ }
 {
     let mut cursor = c;
     let mut chosen = table;
@@ -681,6 +981,7 @@ fn statements<'a>(
             values,
             feeds,
             args,
+            memo,
         );
         if r.failed | r.ends {
             return r;
@@ -709,9 +1010,10 @@ fn body_of<'a>(
     values: &mut [u8],
     feeds: &mut [usize],
     args: &mut [usize],
+    memo: &mut [usize],
 ) -> Played
     requires { ⌜ (length (now body) ≤ length (now text)) × Stood (ground (now text) (now places) (now lists) (now tplaces) (now book) (now rows) (now waves) known signals) (toks (now text) (length (now text) - length (now body))) (frame .depth) (frame .level) table (arrays (now values) (now feeds) (now args)) ⌝ }
-    ensures { λ r. ⌜ Promised (ground (now (text .entry)) (now (places .entry)) (now (lists .entry)) (now (tplaces .entry)) (now (book .entry)) (now (rows .entry)) (now (waves .entry)) known signals) (now (marks .entry)) (now (sums .entry)) (toks (now (text .entry)) (length (now (text .entry)) - length (now (body .entry)))) (frame .depth) (frame .level) table (arrays (now (values .entry)) (now (feeds .entry)) (now (args .entry))) (arrays (now (values .exit)) (now (feeds .exit)) (now (args .exit))) (playFew (frame .seconds) (frame .turns)) r ⌝ }
+    ensures { λ r. ⌜ PromisedWhere (λ b. Unit {0}) (ground (now (text .entry)) (now (places .entry)) (now (lists .entry)) (now (tplaces .entry)) (now (book .entry)) (now (rows .entry)) (now (waves .entry)) known signals) (now (marks .entry)) (now (sums .entry)) (now (memo .entry)) (now (memo .exit)) (toks (now (text .entry)) (length (now (text .entry)) - length (now (body .entry)))) (frame .depth) (frame .level) table (arrays (now (values .entry)) (now (feeds .entry)) (now (args .entry))) (arrays (now (values .exit)) (now (feeds .exit)) (now (args .exit))) (playFew (frame .seconds) (frame .turns)) r ⌝ }
 {
     let c = words::cursor_at(text, text.len() - body.len());
     statements(
@@ -732,6 +1034,7 @@ fn body_of<'a>(
         values,
         feeds,
         args,
+        memo,
     )
 }
 
@@ -756,9 +1059,10 @@ fn pattern<'a>(
     values: &mut [u8],
     feeds: &mut [usize],
     args: &mut [usize],
+    memo: &mut [usize],
 ) -> Played
     requires { ⌜ SomeListed (ground (now text) (now places) (now lists) (now tplaces) (now book) (now rows) (now waves) known signals) (now list) patterns k (arrays (now values) (now feeds) (now args)) ⌝ }
-    ensures { λ r. ⌜ PlaysListed (ground (now (text .entry)) (now (places .entry)) (now (lists .entry)) (now (tplaces .entry)) (now (book .entry)) (now (rows .entry)) (now (waves .entry)) known signals) (now (marks .entry)) (now (sums .entry)) (now (list .entry)) patterns k (arrays (now (values .exit)) (now (feeds .exit)) (now (args .exit))) r ⌝ }
+    ensures { λ r. ⌜ PlaysListed (ground (now (text .entry)) (now (places .entry)) (now (lists .entry)) (now (tplaces .entry)) (now (book .entry)) (now (rows .entry)) (now (waves .entry)) known signals) (now (marks .entry)) (now (sums .entry)) (now (memo .entry)) (now (memo .exit)) (now (list .entry)) patterns k (arrays (now (values .exit)) (now (feeds .exit)) (now (args .exit))) r ⌝ }
 {
     let names = &book[measures::PATTERNS * 2..];
     let i = words::find(text, words::name_bytes(text, list, k), names, patterns);
@@ -789,6 +1093,7 @@ fn pattern<'a>(
         values,
         feeds,
         args,
+        memo,
     )
 }
 
@@ -815,6 +1120,7 @@ pub fn first_failing<'a>(
     let mut values = [0u8; pins::VALUES];
     let mut feeds = [0usize; pins::FEEDS];
     let mut args = [0usize; measures::ROW];
+    let mut memo = blank_memo();
     let mut k = 0;
     while k < listed {
         let r = pattern(
@@ -835,6 +1141,7 @@ pub fn first_failing<'a>(
             &mut values,
             &mut feeds,
             &mut args,
+            &mut memo,
         );
         if r.failed {
             return Failing {

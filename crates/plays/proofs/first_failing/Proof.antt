@@ -1,22 +1,27 @@
 -- The run meets refusal 17: behind the patterns that were played nothing failed, and the rest of the list is left.
 use Prim.Native.Nat.{_-_}
 use native.Mathlib.Omega.{arith}
+use mathlib.Core.Path.{_≡_, sym, _∙_}
+use lib.ListN.{length}
 use borrow.Author.Needs.{needs}
 use Rattle.plays.specs.Plays.{arrays}
-use Rattle.plays.proofs.Texts.{decides-failing, decides-sound, listed-any, run-fails, run-left, run-sound, Unplayed, unplayed}
+use Rattle.plays.proofs.Texts.{decides-failing, decides-sound, listed-any, run-fails, run-learnt, run-left, run-sound, Unplayed, unplayed}
 use Rattle.plays.proofs.first_failing.Statement.{statement}
 use Rattle.plays.proofs.first_failing.Tie as tie
 
 abbrev Inv-loop : tie.InvT-loop
-Inv-loop text places lists tplaces book rows waves marks sums list known signals listed patterns values₀ feeds₀ args₀ k₀ values feeds args k = Unplayed text places lists tplaces waves book rows list known signals listed patterns marks sums k (arrays values feeds args)
+Inv-loop text places lists tplaces book rows waves marks sums list known signals listed patterns values₀ feeds₀ args₀ memo₀ k₀ values feeds args memo k = (17_145 ≡ length memo) × Unplayed text places lists tplaces waves book rows list known signals listed patterns marks sums memo k (arrays values feeds args)
 
 abbrev μ-loop : tie.MeasureT-loop
-μ-loop text places lists tplaces book rows waves marks sums list known signals listed patterns values₀ feeds₀ args₀ k₀ values feeds args k = listed - k
+μ-loop text places lists tplaces book rows waves marks sums list known signals listed patterns values₀ feeds₀ args₀ memo₀ k₀ values feeds args memo k = listed - k
+
+blank-memo-requires : tie.Need-blank-memo-requires Inv-loop μ-loop
+blank-memo-requires c κs = search needs
 
 loop-holds : tie.Need-loop-holds Inv-loop μ-loop
 loop-holds c =
-    let pre′ = c .before .before .before .before .before .before .before .before .before .before .pre in
-    unplayed _ _ _ _ _ _ _ _ _ _ _ _ (pre′)
+    let pre′ = c .before .before .before .before .before .before .before .before .before .before .before .pre in
+    (sym (c .blank-memo .ensures .0), unplayed _ _ _ _ _ _ _ _ _ _ _ _ pre′ (c .blank-memo .ensures .1))
 
 slice-aggregate-pattern : tie.Need-slice-aggregate-pattern Inv-loop μ-loop
 slice-aggregate-pattern c = search needs
@@ -27,30 +32,33 @@ slice-aggregate-pattern-2 c = search needs
 slice-aggregate-pattern-3 : tie.Need-slice-aggregate-pattern-3 Inv-loop μ-loop
 slice-aggregate-pattern-3 c = search needs
 
+slice-aggregate-pattern-4 : tie.Need-slice-aggregate-pattern-4 Inv-loop μ-loop
+slice-aggregate-pattern-4 c = c .before .before .before .before .before .loop .inv .0
+
 pattern-requires : tie.Need-pattern-requires Inv-loop μ-loop
 pattern-requires c κs =
-    let pre′ = c .before .before .before .before .before .before .before .before .before .before .before .before .before .before .before .pre in
-    let loop′ = c .before .before .before .before .loop in
-    let loop-test′ = c .before .before .before .loop-test in
+    let pre′ = c .before .before .before .before .before .before .before .before .before .before .before .before .before .before .before .before .before .pre in
+    let loop′ = c .before .before .before .before .before .loop in
+    let loop-test′ = c .before .before .before .before .loop-test in
     let l = listed-any _ _ _ _ _ _ _ _ _ _ _ _ (pre′ .runs) (loop-test′ .taken) in
     record {
       env = pre′ .runs .tabled .parts .env;
       decls = pre′ .read .patterns;
       decl = l .0;
       listed-at = l .1;
-      sized = loop′ .inv .sized;
+      sized = loop′ .inv .1 .sized;
     }
 
 returns : tie.Need-returns Inv-loop μ-loop
 returns c =
-    let loop′ = c .before .before .before .before .before .before .before .before .before .loop in
-    let loop-test′ = c .before .before .before .before .before .before .before .before .loop-test in
-    let pattern′ = c .before .before .before .before .pattern in
-    λ p d run h m. decides-failing (run-fails _ _ _ _ _ _ _ _ _ _ _ _ h (loop′ .inv .left p d run h m) (loop-test′ .taken) (pattern′ .ensures) m (c .if1 .taken))
+    let loop′ = c .before .before .before .before .before .before .before .before .before .before .before .loop in
+    let loop-test′ = c .before .before .before .before .before .before .before .before .before .before .loop-test in
+    let pattern′ = c .before .before .before .before .before .pattern in
+    λ p d run h m. (let l = loop′ .inv .1 .left p d run h m in decides-failing (run-fails _ _ _ _ _ _ _ _ _ _ _ _ h (l .0) (loop-test′ .taken) (pattern′ .ensures) (l .1) (c .if1 .taken)))
 
 add-k : tie.Need-add-k Inv-loop μ-loop
 add-k c =
-    let fits′ = c .before .before .before .before .before .before .before .before .before .before .before .before .before .before .before .before .before .before .before .before .fits in
+    let fits′ = c .before .before .before .before .before .before .before .before .before .before .before .before .before .before .before .before .before .before .before .before .before .before .before .fits in
     omega (arith, fits′ .listed)
 
 loop-less : tie.Need-loop-less Inv-loop μ-loop
@@ -58,18 +66,22 @@ loop-less c = search needs
 
 loop-again : tie.Need-loop-again Inv-loop μ-loop
 loop-again c =
-    let loop′ = c .before .before .before .before .before .before .before .before .before .loop in
-    let loop-test′ = c .before .before .before .before .before .before .before .before .loop-test in
-    let pattern′ = c .before .before .before .before .pattern in
-    record {
-      sized = pattern′ .ensures .sized;
-      left = λ p d run h m. run-left _ _ _ _ _ _ _ _ _ _ _ _ h (loop′ .inv .left p d run h m) (loop-test′ .taken) (pattern′ .ensures) m (c .if1 .left);
-    }
+    let loop′ = c .before .before .before .before .before .before .before .before .before .before .before .loop in
+    let loop-test′ = c .before .before .before .before .before .before .before .before .before .before .loop-test in
+    let pattern′ = c .before .before .before .before .before .pattern in (
+      loop′ .inv .0 ∙ sym (pattern′ .ensures .memo-long),
+      record {
+        sized = pattern′ .ensures .sized;
+        left = λ p d run h m. (
+            let l = loop′ .inv .1 .left p d run h m in
+            (run-left _ _ _ _ _ _ _ _ _ _ _ _ h (l .0) (loop-test′ .taken) (pattern′ .ensures) (l .1) (c .if1 .left), run-learnt _ _ _ _ _ _ _ _ _ _ _ _ h (l .0) (loop-test′ .taken) (pattern′ .ensures) (l .1)));
+      },
+    )
 
 returns-2 : tie.Need-returns-2 Inv-loop μ-loop
 returns-2 c =
     let loop′ = c .before .loop in
-    λ p d run h m. decides-sound (run-sound _ _ _ _ _ _ _ _ _ _ _ _ h (loop′ .inv .left p d run h m) (c .loop-test .left))
+    λ p d run h m. decides-sound (run-sound _ _ _ _ _ _ _ _ _ _ _ _ h (loop′ .inv .1 .left p d run h m .0) (c .loop-test .left))
 
 pub first-failing-spec : {M : Type 1} → statement M
 first-failing-spec =
@@ -77,10 +89,12 @@ first-failing-spec =
     (tie.spec
     Inv-loop
     μ-loop
+    blank-memo-requires
     loop-holds
     slice-aggregate-pattern
     slice-aggregate-pattern-2
     slice-aggregate-pattern-3
+    slice-aggregate-pattern-4
     pattern-requires
     returns
     add-k

@@ -36,8 +36,8 @@ find-requires c κs = search needs
 
 add-start-at : tie.Need-add-start-at
 add-start-at c =
-    let pre′ = c .before .before .before .before .before .before .before .before .before .before .before .before .before .before .before .before .pre in
-    let args′ = c .before .before .before .before .before .before .before .before .before .before .before .before .before .before .before .before .args in
+    let pre′ = c .before .before .before .before .before .before .before .before .before .before .before .before .before .before .before .before .before .pre in
+    let args′ = c .before .before .before .before .before .before .before .before .before .before .before .before .before .before .before .before .before .args in
     let name-bytes′ = c .before .name-bytes in
     let n = pre′ .listed-at in
     omega (arith, found-at n (c .find .result) (rest (args′ .book .now) (firstPattern * 2)) (name-bytes′ .ensures) (c .find .ensures) .0, n .few)
@@ -47,8 +47,8 @@ start-at-requires c κs = search needs
 
 sub-body : tie.Need-sub-body
 sub-body c =
-    let pre′ = c .before .before .before .before .before .before .before .before .before .before .before .before .before .before .before .before .before .pre in
-    let args′ = c .before .before .before .before .before .before .before .before .before .before .before .before .before .before .before .before .before .args in
+    let pre′ = c .before .before .before .before .before .before .before .before .before .before .before .before .before .before .before .before .before .before .pre in
+    let args′ = c .before .before .before .before .before .before .before .before .before .before .before .before .before .before .before .before .before .before .args in
     let name-bytes′ = c .before .before .name-bytes in
     let find′ = c .before .find in
     let n = pre′ .listed-at in
@@ -57,8 +57,8 @@ sub-body c =
 
 part-body-start : tie.Need-part-body-start
 part-body-start c =
-    let pre′ = c .before .before .before .before .before .before .before .before .before .before .before .before .before .before .before .before .before .pre in
-    let args′ = c .before .before .before .before .before .before .before .before .before .before .before .before .before .before .before .before .before .args in
+    let pre′ = c .before .before .before .before .before .before .before .before .before .before .before .before .before .before .before .before .before .before .pre in
+    let args′ = c .before .before .before .before .before .before .before .before .before .before .before .before .before .before .before .before .before .before .args in
     let name-bytes′ = c .before .before .name-bytes in
     let find′ = c .before .find in
     let n = pre′ .listed-at in
@@ -73,12 +73,12 @@ leave-requires c κs = search needs
 
 body-of-requires : tie.Need-body-of-requires
 body-of-requires c κs =
-    let pre′ = c .before .before .before .before .before .before .before .before .before .before .before .before .before .before .before .before .before .before .before .before .before .before .before .before .before .pre in
-    let args′ = c .before .before .before .before .before .before .before .before .before .before .before .before .before .before .before .before .before .before .before .before .before .before .before .before .before .args in
-    let name-bytes′ = c .before .before .before .before .before .before .before .before .before .before .name-bytes in
-    let find′ = c .before .before .before .before .before .before .before .before .before .find in
-    let start-at′ = c .before .before .before .before .before .before .before .before .start-at in
-    let leave′ = c .before .before .before .before .before .leave in
+    let pre′ = c .before .before .before .before .before .before .before .before .before .before .before .before .before .before .before .before .before .before .before .before .before .before .before .before .before .before .before .pre in
+    let args′ = c .before .before .before .before .before .before .before .before .before .before .before .before .before .before .before .before .before .before .before .before .before .before .before .before .before .before .before .args in
+    let name-bytes′ = c .before .before .before .before .before .before .before .before .before .before .before .name-bytes in
+    let find′ = c .before .before .before .before .before .before .before .before .before .before .find in
+    let start-at′ = c .before .before .before .before .before .before .before .before .before .start-at in
+    let leave′ = c .before .before .before .before .before .before .leave in
     let pre′ = pre′ in
     let n = pre′ .listed-at in
     let x = found-at n (find′ .result) (rest (args′ .book .now) (firstPattern * 2)) (name-bytes′ .ensures) (find′ .ensures) in
@@ -104,15 +104,18 @@ same-length-2 c = search needs
 same-length-3 : tie.Need-same-length-3
 same-length-3 c = search needs
 
+same-length-4 : tie.Need-same-length-4
+same-length-4 c = search needs
+
 returns : tie.Need-returns
 returns c =
-    let pre′ = c .before .before .before .before .before .before .before .before .before .before .before .before .before .before .before .before .before .before .before .before .before .before .before .before .before .before .before .before .before .before .before .before .pre in
-    let args′ = c .before .before .before .before .before .before .before .before .before .before .before .before .before .before .before .before .before .before .before .before .before .before .before .before .before .before .before .before .before .before .before .before .args in
-    let name-bytes′ = c .before .before .before .before .before .before .before .before .before .before .before .before .before .before .before .before .before .name-bytes in
-    let find′ = c .before .before .before .before .before .before .before .before .before .before .before .before .before .before .before .before .find in
-    let start-at′ = c .before .before .before .before .before .before .before .before .before .before .before .before .before .before .before .start-at in
-    let leave′ = c .before .before .before .before .before .before .before .before .before .before .before .before .leave in
-    let body-of′ = c .before .before .before .before .before .before .body-of in
+    let pre′ = c .before .before .before .before .before .before .before .before .before .before .before .before .before .before .before .before .before .before .before .before .before .before .before .before .before .before .before .before .before .before .before .before .before .before .before .before .pre in
+    let args′ = c .before .before .before .before .before .before .before .before .before .before .before .before .before .before .before .before .before .before .before .before .before .before .before .before .before .before .before .before .before .before .before .before .before .before .before .before .args in
+    let name-bytes′ = c .before .before .before .before .before .before .before .before .before .before .before .before .before .before .before .before .before .before .before .before .name-bytes in
+    let find′ = c .before .before .before .before .before .before .before .before .before .before .before .before .before .before .before .before .before .before .before .find in
+    let start-at′ = c .before .before .before .before .before .before .before .before .before .before .before .before .before .before .before .before .before .before .start-at in
+    let leave′ = c .before .before .before .before .before .before .before .before .before .before .before .before .before .before .before .leave in
+    let body-of′ = c .before .before .before .before .before .before .before .before .body-of in
     let pre′ = pre′ in
     let n = pre′ .listed-at in
     let l = leave′ .ensures in
@@ -123,10 +126,14 @@ returns c =
       sized = sized-kept (sized-left (pre′ .sized) l) (b .kept);
       fails = λ E ps d m u s h. (
           let e = found-at m (find′ .result) (rest (args′ .book .now) (firstPattern * 2)) (name-bytes′ .ensures) (find′ .ensures) .2 in
-          listed-fails m s (b .plays E (d .body) (m .stands .0) _ (pattern-standing m (find′ .result) e (pre′ .sized) l s h) u));
+          listed-fails m s (b .plays E (d .body) (m .stands .0) _ (pattern-standing m (find′ .result) e (pre′ .sized) l s h) u tt));
       sound = λ E ps d m u s h. (
           let e = found-at m (find′ .result) (rest (args′ .book .now) (firstPattern * 2)) (name-bytes′ .ensures) (find′ .ensures) .2 in
-          listed-sound m s (b .plays E (d .body) (m .stands .0) _ (pattern-standing m (find′ .result) e (pre′ .sized) l s h) u));
+          listed-sound m s (b .plays E (d .body) (m .stands .0) _ (pattern-standing m (find′ .result) e (pre′ .sized) l s h) u tt));
+      memo-long = b .memo-long;
+      learnt = λ E ps d m u. (
+          let e = found-at m (find′ .result) (rest (args′ .book .now) (firstPattern * 2)) (name-bytes′ .ensures) (find′ .ensures) .2 in
+          b .learnt E (d .body) (m .stands .0) _ (pattern-standing m (find′ .result) e (pre′ .sized) l (start (args′ .signals)) (opening-long (args′ .signals))) u);
     }
 
 pub pattern-spec : {M : Type 1} → statement M
@@ -150,4 +157,5 @@ pattern-spec =
     same-length
     same-length-2
     same-length-3
+    same-length-4
     returns)

@@ -1,8 +1,12 @@
--- No turn is left out, whatever the body.
+-- No turn is left out, whatever the body, and nothing is remembered.
 use borrow.Author.Needs.{needs}
-use Rattle.plays.proofs.Steady.{promised-all}
+use Rattle.plays.proofs.Memos.{zeros}
+use Rattle.plays.proofs.Recalling.{promised-all}
 use Rattle.plays.proofs.turns.Statement.{statement}
 use Rattle.plays.proofs.turns.Tie as tie
+
+slice-aggregate-needed-turns : tie.Need-slice-aggregate-needed-turns
+slice-aggregate-needed-turns c = search needs
 
 needed-turns-requires : tie.Need-needed-turns-requires
 needed-turns-requires c κs = search needs
@@ -17,7 +21,7 @@ same-length-3 : tie.Need-same-length-3
 same-length-3 c = search needs
 
 returns : tie.Need-returns
-returns c = promised-all (c .before .before .before .before .before .before .needed-turns .ensures)
+returns c = promised-all (c .before .before .before .before .before .before .before .needed-turns .ensures) (zeros 0)
 
 pub turns-spec : {M : Type 1} → statement M
-turns-spec = tie.close (tie.spec needed-turns-requires same-length same-length-2 same-length-3 returns)
+turns-spec = tie.close (tie.spec slice-aggregate-needed-turns needed-turns-requires same-length same-length-2 same-length-3 returns)

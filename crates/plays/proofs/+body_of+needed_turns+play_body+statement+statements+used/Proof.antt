@@ -1,0 +1,1276 @@
+-- Statements and the bodies in them, one proof for all: a body in a body has one level less to go, so that the number of levels falls at each call that
+-- enters one; at each turn of a body's statements fewer tokens are left.
+use Prim.Native.Nat.{_+_, _*_}
+use native.Mathlib.Omega.{arith}
+use mathlib.Core.Path.{refl, sym, _∙_}
+use mathlib.Core.Bool.{false}
+use borrow.Author.Needs.{needs}
+use borrow.Author.Tests.{eq-eqb, eqb-true}
+use Rattle.tokens.specs.Tokens.{left}
+use Rattle.meaning.specs.Run.{bare}
+use Rattle.turns.specs.Few.{playFew}
+use Rattle.words.specs.Cursor.{stream}
+use Rattle.assigns.proofs.Table.{gave-zeros}
+use Rattle.plays.specs.Plays.{ground, arrays}
+use Rattle.plays.proofs.Fitting.{both, fits-some}
+use Rattle.plays.proofs.Heading.{begins-within}
+use Rattle.plays.proofs.Keeping.{kept-none, kept-then, kept-others, kept-args, kept-passed, kept-used, sized-kept, sized-at, shows-untouched, shows-supplied}
+use Rattle.plays.proofs.Stepping.{steps-moves, ends-step, vector-step, assigns-step, chooses-step, in-loop, in-shift, called, loop-standing, loop-plain, loop-step, shift-standing, shift-step, inside-moves, called-moves, called-calling, called-invoking, called-step}
+use Rattle.plays.proofs.Turning.{turned-once, turned-twice, turned-standing, second-open, first-sound}
+use Rattle.plays.proofs.Steady.{asked, pins-again, turned-same}
+use Rattle.plays.proofs.Going.{going, going-on, gone, ended-then, resumed, resumed-standing, resumed-on, resumed-less, resumed-end, again-standing, Going}
+use Rattle.plays.proofs.Recalling.{played-outcome, recalled-told, invoked-using, invoking-untouched, knows-more, found-outcome, kept-outcome}
+use Rattle.plays.proofs.Entering.{kind-macro, kind-procedure, kept-below, kept-returned, sized-left, macro-standing, procedure-standing, macro-told, procedure-told, served-fed, part-within, part-begins}
+use Prim.Native.Nat.{ℕ, _<_}
+use borrow.Fn.Kinds.{In}
+use borrow.Fn.PlainCycle.{Measures, is, falls, and}
+use Rattle.plays.proofs.body_of.Reads as body-of
+use Rattle.plays.proofs.body_of.Kinds as body-of-kinds
+use Rattle.plays.proofs.+body_of+needed_turns+play_body+statement+statements+used.Lts-body_of as body-of-lts
+use Rattle.plays.proofs.needed_turns.Reads as needed-turns
+use Rattle.plays.proofs.needed_turns.Kinds as needed-turns-kinds
+use Rattle.plays.proofs.+body_of+needed_turns+play_body+statement+statements+used.Lts-needed_turns as needed-turns-lts
+use Rattle.plays.proofs.play_body.Reads as play-body
+use Rattle.plays.proofs.play_body.Kinds as play-body-kinds
+use Rattle.plays.proofs.+body_of+needed_turns+play_body+statement+statements+used.Lts-play_body as play-body-lts
+use Rattle.plays.proofs.statement.Reads as statement′
+use Rattle.plays.proofs.statement.Kinds as statement-kinds
+use Rattle.plays.proofs.+body_of+needed_turns+play_body+statement+statements+used.Lts-statement as statement-lts
+use Rattle.plays.proofs.statements.Reads as statements
+use Rattle.plays.proofs.statements.Kinds as statements-kinds
+use Rattle.plays.proofs.+body_of+needed_turns+play_body+statement+statements+used.Lts-statements as statements-lts
+use Rattle.plays.proofs.used.Reads as used
+use Rattle.plays.proofs.used.Kinds as used-kinds
+use Rattle.plays.proofs.+body_of+needed_turns+play_body+statement+statements+used.Lts-used as used-lts
+use Rattle.heads.proofs.head.Reads as head-reads
+use Rattle.measures.proofs.start_at.Reads as start-at-reads
+use Rattle.pins.proofs.come_back.Reads as come-back-reads
+use Rattle.pins.proofs.leave.Reads as leave-reads
+use Rattle.pins.proofs.put.Reads as put-reads
+use Rattle.pins.proofs.supply.Reads as supply-reads
+use Rattle.pins.proofs.vectors.Reads as vectors-reads
+use Rattle.plays.proofs.keep.Reads as keep-reads
+use Rattle.plays.proofs.pass.Reads as pass-reads
+use Rattle.plays.proofs.recall.Reads as recall-reads
+use Rattle.plays.proofs.remember.Reads as remember-reads
+use Rattle.plays.proofs.same_pins.Reads as same-pins-reads
+use Rattle.plays.proofs.shift.Reads as shift-reads
+use Rattle.words.proofs.cursor_at.Reads as cursor-at-reads
+use Rattle.plays.proofs.+body_of+needed_turns+play_body+statement+statements+used.{
+  statement,
+}
+use Rattle.plays.proofs.+body_of+needed_turns+play_body+statement+statements+used.Tie.{
+  close,
+}
+
+abbrev μ-body-of : Measures 5 body-of-kinds.ps ℕ
+μ-body-of κs a = 6 * a .1 .1 .1 .1 .1 .1 .1 .1 .1 .1 .1 .1 .0 .depth + 4
+
+abbrev μ-needed-turns : Measures 5 needed-turns-kinds.ps ℕ
+μ-needed-turns κs a = 6 * a .1 .1 .1 .1 .1 .1 .1 .1 .1 .1 .1 .1 .0 .depth
+
+abbrev μ-play-body : Measures 5 play-body-kinds.ps ℕ
+μ-play-body κs a = 6 * a .1 .1 .1 .1 .1 .1 .1 .1 .1 .1 .1 .0 .depth
+
+abbrev μ-statement : Measures 5 statement-kinds.ps ℕ
+μ-statement κs a = 6 * a .1 .1 .1 .1 .1 .1 .1 .1 .1 .1 .1 .1 .0 .depth + 2
+
+abbrev μ-statements : Measures 5 statements-kinds.ps ℕ
+μ-statements κs a = 6 * a .1 .1 .1 .1 .1 .1 .1 .1 .1 .1 .1 .1 .0 .depth + 3
+
+abbrev μ-used : Measures 5 used-kinds.ps ℕ
+μ-used κs a = 6 * a .1 .1 .1 .1 .1 .1 .1 .1 .1 .1 .1 .1 .0 .depth + 1
+
+abbrev body-of-at : ℕ → In 5 body-of-kinds.ps
+body-of-at t = and 5 body-of-kinds.ps (is 5 body-of-kinds.ps μ-body-of t) body-of.Pre
+
+abbrev body-of-below : ℕ → In 5 body-of-kinds.ps
+body-of-below t = and 5 body-of-kinds.ps (falls 5 body-of-kinds.ps _<_ μ-body-of t) body-of.Pre
+
+abbrev needed-turns-at : ℕ → In 5 needed-turns-kinds.ps
+needed-turns-at t =
+    and 5 needed-turns-kinds.ps (is 5 needed-turns-kinds.ps μ-needed-turns t) needed-turns.Pre
+
+abbrev needed-turns-below : ℕ → In 5 needed-turns-kinds.ps
+needed-turns-below t =
+    and
+    5
+    needed-turns-kinds.ps
+    (falls 5 needed-turns-kinds.ps _<_ μ-needed-turns t)
+    needed-turns.Pre
+
+abbrev play-body-at : ℕ → In 5 play-body-kinds.ps
+play-body-at t = and 5 play-body-kinds.ps (is 5 play-body-kinds.ps μ-play-body t) play-body.Pre
+
+abbrev play-body-below : ℕ → In 5 play-body-kinds.ps
+play-body-below t =
+    and 5 play-body-kinds.ps (falls 5 play-body-kinds.ps _<_ μ-play-body t) play-body.Pre
+
+abbrev statement-at : ℕ → In 5 statement-kinds.ps
+statement-at t = and 5 statement-kinds.ps (is 5 statement-kinds.ps μ-statement t) statement′.Pre
+
+abbrev statement-below : ℕ → In 5 statement-kinds.ps
+statement-below t =
+    and 5 statement-kinds.ps (falls 5 statement-kinds.ps _<_ μ-statement t) statement′.Pre
+
+abbrev statements-at : ℕ → In 5 statements-kinds.ps
+statements-at t =
+    and 5 statements-kinds.ps (is 5 statements-kinds.ps μ-statements t) statements.Pre
+
+abbrev statements-below : ℕ → In 5 statements-kinds.ps
+statements-below t =
+    and 5 statements-kinds.ps (falls 5 statements-kinds.ps _<_ μ-statements t) statements.Pre
+
+abbrev used-at : ℕ → In 5 used-kinds.ps
+used-at t = and 5 used-kinds.ps (is 5 used-kinds.ps μ-used t) used.Pre
+
+abbrev used-below : ℕ → In 5 used-kinds.ps
+used-below t = and 5 used-kinds.ps (falls 5 used-kinds.ps _<_ μ-used t) used.Pre
+
+abbrev body-of-calls : ℕ → body-of-lts.Claims
+body-of-calls t = (cursor-at-reads.Asked, cursor-at-reads.Learnt, statements-below t, statements.Post)
+
+abbrev needed-turns-calls : ℕ → needed-turns-lts.Claims
+needed-turns-calls t = (keep-reads.Asked, keep-reads.Learnt, statements-below t, statements.Post, same-pins-reads.Asked, same-pins-reads.Learnt)
+
+abbrev play-body-calls : ℕ → play-body-lts.Claims
+play-body-calls t = (start-at-reads.Asked, start-at-reads.Learnt, body-of-below t, body-of.Post, leave-reads.Asked, leave-reads.Learnt, come-back-reads.Asked, come-back-reads.Learnt)
+
+abbrev statement-calls : ℕ → statement-lts.Claims
+statement-calls t = (head-reads.Asked, head-reads.Learnt, vectors-reads.Asked, vectors-reads.Learnt, put-reads.Asked, put-reads.Learnt, needed-turns-below t, needed-turns.Post, shift-reads.Asked, shift-reads.Learnt, pass-reads.Asked, pass-reads.Learnt, used-below t, used.Post)
+
+abbrev used-calls : ℕ → used-lts.Claims
+used-calls t = (recall-reads.Asked, recall-reads.Learnt, keep-reads.Asked, keep-reads.Learnt, supply-reads.Asked, supply-reads.Learnt, play-body-below t, play-body.Post, remember-reads.Asked, remember-reads.Learnt)
+
+body-of-sub-cursor-at : (t : ℕ) → body-of-lts.Need-sub-cursor-at (body-of-calls t) (body-of-at t) body-of.Post
+body-of-sub-cursor-at t c =
+    let pre′ = c .before .before .before .before .before .before .before .before .before .before .before .before .before .before .pre in
+    omega (arith, pre′ .1 .0)
+
+body-of-cursor-at-requires : (t : ℕ) → body-of-lts.Need-cursor-at-requires (body-of-calls t) (body-of-at t) body-of.Post
+body-of-cursor-at-requires t c κs = search needs
+
+body-of-statements-requires : (t : ℕ) → body-of-lts.Need-statements-requires (body-of-calls t) (body-of-at t) body-of.Post
+body-of-statements-requires t c κs =
+    let pre′ = c .before .before .before .before .before .before .before .before .before .before .before .before .before .before .before .before .before .before .before .pre in
+    let cursor-at′ = c .before .before .before .before .cursor-at in
+    (omega (arith, pre′ .0), (eq-eqb _ 0 (cursor-at′ .ensures .on), rw (cursor-at′ .ensures .there) (pre′ .1 .1)))
+
+body-of-same-length : (t : ℕ) → body-of-lts.Need-same-length (body-of-calls t) (body-of-at t) body-of.Post
+body-of-same-length t c = search needs
+
+body-of-same-length-2 : (t : ℕ) → body-of-lts.Need-same-length-2 (body-of-calls t) (body-of-at t) body-of.Post
+body-of-same-length-2 t c = search needs
+
+body-of-same-length-3 : (t : ℕ) → body-of-lts.Need-same-length-3 (body-of-calls t) (body-of-at t) body-of.Post
+body-of-same-length-3 t c = search needs
+
+body-of-same-length-4 : (t : ℕ) → body-of-lts.Need-same-length-4 (body-of-calls t) (body-of-at t) body-of.Post
+body-of-same-length-4 t c = search needs
+
+body-of-returns : (t : ℕ) → body-of-lts.Need-returns (body-of-calls t) (body-of-at t) body-of.Post
+body-of-returns t c =
+    let cursor-at′ = c .before .before .before .before .before .before .before .before .before .before .before .before .before .cursor-at in
+    let statements′ = c .before .before .before .before .before .before .before .before .statements in
+    rw (cursor-at′ .ensures .there) at (statements′ .ensures)
+
+needed-turns-sub-t27 : (t : ℕ) → needed-turns-lts.Need-sub-t27 (needed-turns-calls t) (needed-turns-at t) needed-turns.Post
+needed-turns-sub-t27 t c =
+    let pre′ = c .before .before .before .before .before .before .before .before .before .before .before .before .before .before .pre in
+    omega (arith, pre′ .1 .2)
+
+needed-turns-slice-aggregate-keep : (t : ℕ) → needed-turns-lts.Need-slice-aggregate-keep (needed-turns-calls t) (needed-turns-at t) needed-turns.Post
+needed-turns-slice-aggregate-keep t c = search needs
+
+needed-turns-keep-requires : (t : ℕ) → needed-turns-lts.Need-keep-requires (needed-turns-calls t) (needed-turns-at t) needed-turns.Post
+needed-turns-keep-requires t c κs =
+    let pre′ = c .before .before .before .before .before .before .before .before .before .before .before .before .before .before .before .before .before .pre in
+    let roomy = pre′ .1 .3 .sized .roomy in
+    (omega (arith, roomy .few, roomy .values-long), omega (arith, roomy .few))
+
+needed-turns-statements-requires : (t : ℕ) → needed-turns-lts.Need-statements-requires (needed-turns-calls t) (needed-turns-at t) needed-turns.Post
+needed-turns-statements-requires t c κs =
+    let pre′ = c .before .before .before .before .before .before .before .before .before .before .before .before .before .before .before .before .before .before .before .before .before .before .before .pre in
+    (omega (arith, pre′ .0, pre′ .1 .2), (pre′ .1 .0, pre′ .1 .3))
+
+needed-turns-same-length : (t : ℕ) → needed-turns-lts.Need-same-length (needed-turns-calls t) (needed-turns-at t) needed-turns.Post
+needed-turns-same-length t c = search needs
+
+needed-turns-same-length-2 : (t : ℕ) → needed-turns-lts.Need-same-length-2 (needed-turns-calls t) (needed-turns-at t) needed-turns.Post
+needed-turns-same-length-2 t c = search needs
+
+needed-turns-same-length-3 : (t : ℕ) → needed-turns-lts.Need-same-length-3 (needed-turns-calls t) (needed-turns-at t) needed-turns.Post
+needed-turns-same-length-3 t c = search needs
+
+needed-turns-same-length-4 : (t : ℕ) → needed-turns-lts.Need-same-length-4 (needed-turns-calls t) (needed-turns-at t) needed-turns.Post
+needed-turns-same-length-4 t c = search needs
+
+needed-turns-returns : (t : ℕ) → needed-turns-lts.Need-returns (needed-turns-calls t) (needed-turns-at t) needed-turns.Post
+needed-turns-returns t c =
+    let statements′ = c .before .before .before .before .before .before .before .before .before .before .before .statements in
+    let pre′ = c .before .before .before .before .before .before .before .before .before .before .before .before .before .before .before .before .before .before .before .before .before .before .before .before .before .before .before .before .before .before .before .before .before .before .before .pre in
+    let a = statements′ .ensures in
+    record {
+      kept = a .kept;
+      ended = a .ended;
+      plays = λ E b us s st m f. turned-once _ _ (λ j. playFew j _ b) (pre′ .1 .1) (a .plays E b us s st m tt) (c .if1 .taken);
+      memo-long = a .memo-long;
+      learnt = a .learnt;
+    }
+
+needed-turns-slice-aggregate-same-pins : (t : ℕ) → needed-turns-lts.Need-slice-aggregate-same-pins (needed-turns-calls t) (needed-turns-at t) needed-turns.Post
+needed-turns-slice-aggregate-same-pins t c = search needs
+
+needed-turns-same-pins-requires : (t : ℕ) → needed-turns-lts.Need-same-pins-requires (needed-turns-calls t) (needed-turns-at t) needed-turns.Post
+needed-turns-same-pins-requires t c κs =
+    let pre′ = c .before .before .before .before .before .before .before .before .before .before .before .before .before .before .before .before .before .before .before .before .before .before .before .before .before .before .before .before .before .before .before .before .before .before .before .before .before .pre in
+    let statements′ = c .before .before .before .before .before .before .before .before .before .before .before .before .before .statements in
+    let keep′ = c .before .before .before .before .before .before .before .before .before .before .before .before .before .before .before .before .before .before .before .keep in
+    let roomy = pre′ .1 .3 .sized .roomy in
+    (omega (arith, roomy .few, roomy .values-long, statements′ .ensures .kept .values-long), omega (arith, roomy .few, keep′ .ensures .0))
+
+needed-turns-same-length-5 : (t : ℕ) → needed-turns-lts.Need-same-length-5 (needed-turns-calls t) (needed-turns-at t) needed-turns.Post
+needed-turns-same-length-5 t c = search needs
+
+needed-turns-same-length-6 : (t : ℕ) → needed-turns-lts.Need-same-length-6 (needed-turns-calls t) (needed-turns-at t) needed-turns.Post
+needed-turns-same-length-6 t c = search needs
+
+needed-turns-same-length-7 : (t : ℕ) → needed-turns-lts.Need-same-length-7 (needed-turns-calls t) (needed-turns-at t) needed-turns.Post
+needed-turns-same-length-7 t c = search needs
+
+needed-turns-same-length-8 : (t : ℕ) → needed-turns-lts.Need-same-length-8 (needed-turns-calls t) (needed-turns-at t) needed-turns.Post
+needed-turns-same-length-8 t c = search needs
+
+needed-turns-returns-2 : (t : ℕ) → needed-turns-lts.Need-returns-2 (needed-turns-calls t) (needed-turns-at t) needed-turns.Post
+needed-turns-returns-2 t c =
+    let statements′ = c .before .before .before .before .before .before .before .before .before .before .before .before .before .before .before .statements in
+    let pre′ = c .before .before .before .before .before .before .before .before .before .before .before .before .before .before .before .before .before .before .before .before .before .before .before .before .before .before .before .before .before .before .before .before .before .before .before .before .before .before .before .pre in
+    let same-pins′ = c .before .same-pins in
+    let args′ = c .before .before .before .before .before .before .before .before .before .before .before .before .before .before .before .before .before .before .before .before .before .before .before .before .before .before .before .before .before .before .before .before .before .before .before .before .before .before .before .args in
+    let keep′ = c .before .before .before .before .before .before .before .before .before .before .before .before .before .before .before .before .before .before .before .before .before .keep in
+    let if1′ = c .before .before .before .before .if1 in
+    let a = statements′ .ensures in
+    let roomy = pre′ .1 .3 .sized .roomy in
+    let i = both _ (same-pins′ .result) (c .if2 .taken) in
+    let j = both (args′ .plain) _ (i .0) in
+    let watched = keep′ .ensures .1 (asked (args′ .n) (args′ .frame .seconds) (args′ .plain) (statements′ .result .failed) (j .0) (if1′ .left)) in
+    let pins = pins-again (same-pins′ .ensures .same (i .1)) watched (omega (arith, roomy .few, roomy .values-long)) (a .kept .values-long) in
+    record {
+      kept = a .kept;
+      ended = a .ended;
+      plays = λ E b us s st m f. turned-same _ st (f (j .0)) pins (eqb-true _ _ (j .1)) _ _ (a .plays E b us s st m tt) (if1′ .left);
+      memo-long = a .memo-long;
+      learnt = a .learnt;
+    }
+
+needed-turns-sub-t27-2 : (t : ℕ) → needed-turns-lts.Need-sub-t27-2 (needed-turns-calls t) (needed-turns-at t) needed-turns.Post
+needed-turns-sub-t27-2 t c =
+    let args′ = c .before .before .before .before .before .before .before .before .before .before .before .before .before .before .before .before .before .before .before .before .before .before .before .before .before .before .before .before .before .before .before .before .before .before .before .before .before .before .before .before .args in
+    let statements′ = c .before .before .before .before .before .before .before .before .before .before .before .before .before .before .before .before .statements in
+    let if1′ = c .before .before .before .before .before .if1 in
+    omega (arith, second-open (args′ .n) (args′ .frame .seconds) (statements′ .result .failed) (if1′ .left))
+
+needed-turns-sub-t49 : (t : ℕ) → needed-turns-lts.Need-sub-t49 (needed-turns-calls t) (needed-turns-at t) needed-turns.Post
+needed-turns-sub-t49 t c =
+    let pre′ = c .before .before .before .before .before .before .before .before .before .before .before .before .before .before .before .before .before .before .before .before .before .before .before .before .before .before .before .before .before .before .before .before .before .before .before .before .before .before .before .before .before .pre in
+    omega (arith, pre′ .1 .2)
+
+needed-turns-statements-requires-2 : (t : ℕ) → needed-turns-lts.Need-statements-requires-2 (needed-turns-calls t) (needed-turns-at t) needed-turns.Post
+needed-turns-statements-requires-2 t c κs =
+    let statements′ = c .before .before .before .before .before .before .before .before .before .before .before .before .before .before .before .before .before .before .before .before .before .statements in
+    let pre′ = c .before .before .before .before .before .before .before .before .before .before .before .before .before .before .before .before .before .before .before .before .before .before .before .before .before .before .before .before .before .before .before .before .before .before .before .before .before .before .before .before .before .before .before .before .before .pre in
+    let args′ = c .before .before .before .before .before .before .before .before .before .before .before .before .before .before .before .before .before .before .before .before .before .before .before .before .before .before .before .before .before .before .before .before .before .before .before .before .before .before .before .before .before .before .before .before .before .args in
+    let if1′ = c .before .before .before .before .before .before .before .before .before .before .if1 in
+    let a = statements′ .ensures in
+    let stood = pre′ .1 .3 in
+    let sound = first-sound (args′ .n) (args′ .frame .seconds) (statements′ .result .failed) (if1′ .left) in (
+      omega (arith, pre′ .0, pre′ .1 .2),
+      (
+        pre′ .1 .0,
+        record {
+          env = stood .env;
+          body = stood .body;
+          rest = stood .rest;
+          state = _;
+          standing = again-standing _ (stood .standing) (a .ended (stood .env) (stood .body) (stood .rest) (stood .state) (stood .standing) sound);
+          sized = sized-kept (stood .sized) (a .kept);
+        },
+      ),
+    )
+
+needed-turns-same-length-9 : (t : ℕ) → needed-turns-lts.Need-same-length-9 (needed-turns-calls t) (needed-turns-at t) needed-turns.Post
+needed-turns-same-length-9 t c =
+    let statements2′ = c .before .before .before .before .before .before .before .before .statements2 in
+    let statements′ = c .before .before .before .before .before .before .before .before .before .before .before .before .before .before .before .before .before .before .before .before .before .before .before .before .before .before .before .before .before .before .statements in
+    statements2′ .ensures .kept .values-long ∙ statements′ .ensures .kept .values-long
+
+needed-turns-same-length-10 : (t : ℕ) → needed-turns-lts.Need-same-length-10 (needed-turns-calls t) (needed-turns-at t) needed-turns.Post
+needed-turns-same-length-10 t c =
+    let statements2′ = c .before .before .before .before .before .before .before .before .statements2 in
+    let statements′ = c .before .before .before .before .before .before .before .before .before .before .before .before .before .before .before .before .before .before .before .before .before .before .before .before .before .before .before .before .before .before .statements in
+    statements2′ .ensures .kept .feeds-long ∙ statements′ .ensures .kept .feeds-long
+
+needed-turns-same-length-11 : (t : ℕ) → needed-turns-lts.Need-same-length-11 (needed-turns-calls t) (needed-turns-at t) needed-turns.Post
+needed-turns-same-length-11 t c =
+    let statements2′ = c .before .before .before .before .before .before .before .before .statements2 in
+    let statements′ = c .before .before .before .before .before .before .before .before .before .before .before .before .before .before .before .before .before .before .before .before .before .before .before .before .before .before .before .before .before .before .statements in
+    statements2′ .ensures .kept .args-long ∙ statements′ .ensures .kept .args-long
+
+needed-turns-same-length-12 : (t : ℕ) → needed-turns-lts.Need-same-length-12 (needed-turns-calls t) (needed-turns-at t) needed-turns.Post
+needed-turns-same-length-12 t c =
+    let statements2′ = c .before .before .before .before .before .before .before .before .statements2 in
+    let statements′ = c .before .before .before .before .before .before .before .before .before .before .before .before .before .before .before .before .before .before .before .before .before .before .before .before .before .before .before .before .before .before .statements in
+    statements2′ .ensures .memo-long ∙ statements′ .ensures .memo-long
+
+needed-turns-returns-3 : (t : ℕ) → needed-turns-lts.Need-returns-3 (needed-turns-calls t) (needed-turns-at t) needed-turns.Post
+needed-turns-returns-3 t c =
+    let statements′ = c .before .before .before .before .before .before .before .before .before .before .before .before .before .before .before .before .before .before .before .before .before .before .before .before .before .before .before .before .before .before .statements in
+    let statements2′ = c .before .before .before .before .before .before .before .before .statements2 in
+    let args′ = c .before .before .before .before .before .before .before .before .before .before .before .before .before .before .before .before .before .before .before .before .before .before .before .before .before .before .before .before .before .before .before .before .before .before .before .before .before .before .before .before .before .before .before .before .before .before .before .before .before .before .before .before .before .before .args in
+    let if1′ = c .before .before .before .before .before .before .before .before .before .before .before .before .before .before .before .before .before .before .before .if1 in
+    let a = statements′ .ensures in
+    let z = statements2′ .ensures in
+    let sound = first-sound (args′ .n) (args′ .frame .seconds) (statements′ .result .failed) (if1′ .left) in
+    record {
+      kept = kept-then (a .kept) (z .kept);
+      ended = λ E b us s st e. (let n = a .ended E b us s st sound in ended-then (n .fed .same) (z .ended E b us _ (again-standing _ st n) e));
+      plays = λ E b us s st m f. (
+          let p = a .plays E b us s st m tt in
+          turned-twice _ _ (λ j. playFew j _ b) p (if1′ .left) (z .plays E b us _ (turned-standing _ _ st p sound) (a .learnt E b us s st m) tt));
+      memo-long = z .memo-long ∙ a .memo-long;
+      learnt = λ E b us s st m. z .learnt E b us _ (turned-standing _ _ st (a .plays E b us s st m tt) sound) (a .learnt E b us s st m);
+    }
+
+play-body-sub-body : (t : ℕ) → play-body-lts.Need-sub-body (play-body-calls t) (play-body-at t) play-body.Post
+play-body-sub-body t c =
+    let pre′ = c .before .before .before .before .before .before .before .before .before .before .before .before .before .before .pre in
+    omega (arith, pre′ .1 .use′ .some-more)
+
+play-body-add-t26 : (t : ℕ) → play-body-lts.Need-add-t26 (play-body-calls t) (play-body-at t) play-body.Post
+play-body-add-t26 t c =
+    let pre′ = c .before .before .before .before .before .before .before .before .before .before .before .before .before .before .before .pre in
+    omega (arith, pre′ .1 .use′ .fits .levels)
+
+play-body-start-at-requires : (t : ℕ) → play-body-lts.Need-start-at-requires (play-body-calls t) (play-body-at t) play-body.Post
+play-body-start-at-requires t c κs = search needs
+
+play-body-sub-body-2 : (t : ℕ) → play-body-lts.Need-sub-body-2 (play-body-calls t) (play-body-at t) play-body.Post
+play-body-sub-body-2 t c =
+    let pre′ = c .before .before .before .before .before .before .before .before .before .before .before .before .before .before .before .before .pre in
+    let u = pre′ .1 .use′ in
+    omega (arith, c .start-at .ensures (omega (arith, u .declared)), begins-within _ _ _ _ _ (u .holds))
+
+play-body-part-body-start : (t : ℕ) → play-body-lts.Need-part-body-start (play-body-calls t) (play-body-at t) play-body.Post
+play-body-part-body-start t c =
+    let pre′ = c .before .before .before .before .before .before .before .before .before .before .before .before .before .before .before .before .pre in
+    let u = pre′ .1 .use′ in
+    omega (arith, c .start-at .ensures (omega (arith, u .declared)), begins-within _ _ _ _ _ (u .holds))
+
+play-body-part-body-end : (t : ℕ) → play-body-lts.Need-part-body-end (play-body-calls t) (play-body-at t) play-body.Post
+play-body-part-body-end t c = search needs
+
+play-body-body-of-requires : (t : ℕ) → play-body-lts.Need-body-of-requires (play-body-calls t) (play-body-at t) play-body.Post
+play-body-body-of-requires t c κs =
+    let pre′ = c .before .before .before .before .before .before .before .before .before .before .before .before .before .before .before .before .before .before .before .before .before .before .pre in
+    let args′ = c .before .before .before .before .before .before .before .before .before .before .before .before .before .before .before .before .before .before .before .before .before .before .args in
+    let start-at′ = c .before .before .before .before .before .before .start-at in
+    let used = pre′ .1 in
+    let u = used .use′ in
+    let at = start-at′ .ensures (omega (arith, u .declared)) in
+    let within = begins-within _ _ _ _ _ (u .holds) in (
+      omega (arith, pre′ .0, u .some-more),
+      (
+        part-within (args′ .text .now) (start-at′ .result) _ at within,
+        rw (part-begins (args′ .text .now) (start-at′ .result) _ at within) (record {
+          env = used .env;
+          body = used .body;
+          rest = used .rest;
+          state = record { pins = used .state .pins; table = used .state .table; args = used .arguments };
+          standing = macro-standing u;
+          sized = sized-at (used .sized) _ (omega (arith, u .fits .levels));
+        }),
+      ),
+    )
+
+play-body-same-length : (t : ℕ) → play-body-lts.Need-same-length (play-body-calls t) (play-body-at t) play-body.Post
+play-body-same-length t c = search needs
+
+play-body-same-length-2 : (t : ℕ) → play-body-lts.Need-same-length-2 (play-body-calls t) (play-body-at t) play-body.Post
+play-body-same-length-2 t c = search needs
+
+play-body-same-length-3 : (t : ℕ) → play-body-lts.Need-same-length-3 (play-body-calls t) (play-body-at t) play-body.Post
+play-body-same-length-3 t c = search needs
+
+play-body-same-length-4 : (t : ℕ) → play-body-lts.Need-same-length-4 (play-body-calls t) (play-body-at t) play-body.Post
+play-body-same-length-4 t c = search needs
+
+play-body-returns : (t : ℕ) → play-body-lts.Need-returns (play-body-calls t) (play-body-at t) play-body.Post
+play-body-returns t c =
+    let pre′ = c .before .before .before .before .before .before .before .before .before .before .before .before .before .before .before .before .before .before .before .before .before .before .before .before .before .before .before .before .before .before .before .pre in
+    let args′ = c .before .before .before .before .before .before .before .before .before .before .before .before .before .before .before .before .before .before .before .before .before .before .before .before .before .before .before .before .before .before .before .args in
+    let start-at′ = c .before .before .before .before .before .before .before .before .before .before .before .before .before .before .before .start-at in
+    let if1′ = c .before .before .before .before .before .before .before .before .before .before .before .before .before .if1 in
+    let body-of′ = c .before .before .before .before .before .before .before .before .body-of in
+    let u = pre′ .1 .use′ in
+    let at = start-at′ .ensures (omega (arith, u .declared)) in
+    let p = rw (part-begins (args′ .text .now) (start-at′ .result) _ at (begins-within _ _ _ _ _ (u .holds))) at (body-of′ .ensures) in
+    record {
+      kept = kept-below (p .kept);
+      own = λ s h. p .kept .arguments _ s h (omega arith);
+      told = λ E b us a s v m. macro-told v _ _ (kind-macro _ (if1′ .taken)) (p .kept) (p .plays E b us _ (macro-standing v) m tt);
+      memo-long = p .memo-long;
+      learnt = λ E b us a s v m. p .learnt E b us _ (macro-standing v) m;
+    }
+
+play-body-leave-requires : (t : ℕ) → play-body-lts.Need-leave-requires (play-body-calls t) (play-body-at t) play-body.Post
+play-body-leave-requires t c κs =
+    let pre′ = c .before .before .before .before .before .before .before .before .before .before .before .before .before .before .before .before .before .before .before .pre in
+    let used = pre′ .1 in
+    (used .sized .roomy .values-long, omega (arith, used .use′ .fits .levels))
+
+play-body-body-of-requires-2 : (t : ℕ) → play-body-lts.Need-body-of-requires-2 (play-body-calls t) (play-body-at t) play-body.Post
+play-body-body-of-requires-2 t c κs =
+    let pre′ = c .before .before .before .before .before .before .before .before .before .before .before .before .before .before .before .before .before .before .before .before .before .before .before .before .before .before .pre in
+    let args′ = c .before .before .before .before .before .before .before .before .before .before .before .before .before .before .before .before .before .before .before .before .before .before .before .before .before .before .args in
+    let start-at′ = c .before .before .before .before .before .before .before .before .before .before .start-at in
+    let leave′ = c .before .before .before .before .before .before .leave in
+    let used = pre′ .1 in
+    let u = used .use′ in
+    let at = start-at′ .ensures (omega (arith, u .declared)) in
+    let within = begins-within _ _ _ _ _ (u .holds) in (
+      omega (arith, pre′ .0, u .some-more),
+      (
+        part-within (args′ .text .now) (start-at′ .result) _ at within,
+        rw (part-begins (args′ .text .now) (start-at′ .result) _ at within) (record {
+          env = used .env;
+          body = used .body;
+          rest = used .rest;
+          state = record { pins = bare (used .state .pins); table = used .state .table; args = used .arguments };
+          standing = procedure-standing u (used .sized) (leave′ .ensures);
+          sized = sized-at (sized-left (used .sized) (leave′ .ensures)) _ (omega (arith, u .fits .levels));
+        }),
+      ),
+    )
+
+play-body-come-back-requires : (t : ℕ) → play-body-lts.Need-come-back-requires (play-body-calls t) (play-body-at t) play-body.Post
+play-body-come-back-requires t c κs =
+    let pre′ = c .before .before .before .before .before .before .before .before .before .before .before .before .before .before .before .before .before .before .before .before .before .before .before .before .before .before .before .before .before .before .before .before .before .before .before .before .pre in
+    let leave′ = c .before .before .before .before .before .before .before .before .before .before .before .before .before .before .before .before .leave in
+    let body-of2′ = c .before .before .before .before .before .before .before .before .before .body-of2 in
+    let used = pre′ .1 in
+    (body-of2′ .ensures .kept .values-long ∙ leave′ .ensures .long ∙ used .sized .roomy .values-long, omega (arith, used .use′ .fits .levels))
+
+play-body-same-length-5 : (t : ℕ) → play-body-lts.Need-same-length-5 (play-body-calls t) (play-body-at t) play-body.Post
+play-body-same-length-5 t c = search needs
+
+play-body-same-length-6 : (t : ℕ) → play-body-lts.Need-same-length-6 (play-body-calls t) (play-body-at t) play-body.Post
+play-body-same-length-6 t c = search needs
+
+play-body-same-length-7 : (t : ℕ) → play-body-lts.Need-same-length-7 (play-body-calls t) (play-body-at t) play-body.Post
+play-body-same-length-7 t c = search needs
+
+play-body-same-length-8 : (t : ℕ) → play-body-lts.Need-same-length-8 (play-body-calls t) (play-body-at t) play-body.Post
+play-body-same-length-8 t c = search needs
+
+play-body-returns-2 : (t : ℕ) → play-body-lts.Need-returns-2 (play-body-calls t) (play-body-at t) play-body.Post
+play-body-returns-2 t c =
+    let pre′ = c .before .before .before .before .before .before .before .before .before .before .before .before .before .before .before .before .before .before .before .before .before .before .before .before .before .before .before .before .before .before .before .before .before .before .before .before .before .before .before .before .pre in
+    let args′ = c .before .before .before .before .before .before .before .before .before .before .before .before .before .before .before .before .before .before .before .before .before .before .before .before .before .before .before .before .before .before .before .before .before .before .before .before .before .before .before .before .args in
+    let start-at′ = c .before .before .before .before .before .before .before .before .before .before .before .before .before .before .before .before .before .before .before .before .before .before .before .before .start-at in
+    let if1′ = c .before .before .before .before .before .before .before .before .before .before .before .before .before .before .before .before .before .before .before .before .before .before .if1 in
+    let leave′ = c .before .before .before .before .before .before .before .before .before .before .before .before .before .before .before .before .before .before .before .before .leave in
+    let body-of2′ = c .before .before .before .before .before .before .before .before .before .before .before .before .before .body-of2 in
+    let come-back′ = c .before .before .before .come-back in
+    let sized = pre′ .1 .sized in
+    let u = pre′ .1 .use′ in
+    let at = start-at′ .ensures (omega (arith, u .declared)) in
+    let l = leave′ .ensures in
+    let p = rw (part-begins (args′ .text .now) (start-at′ .result) _ at (begins-within _ _ _ _ _ (u .holds))) at (body-of2′ .ensures) in
+    record {
+      kept = kept-returned _ l (p .kept) (come-back′ .ensures);
+      own = λ s h. p .kept .arguments _ s h (omega arith);
+      told = λ E b us a s v m.
+          procedure-told v _ _ (kind-procedure _ (if1′ .left)) sized l (p .kept) (come-back′ .ensures) (p .plays E b us _ (procedure-standing v sized l) m tt);
+      memo-long = p .memo-long;
+      learnt = λ E b us a s v m. p .learnt E b us _ (procedure-standing v sized l) m;
+    }
+
+statement-slice-aggregate-head : (t : ℕ) → statement-lts.Need-slice-aggregate-head (statement-calls t) (statement-at t) statement′.Post
+statement-slice-aggregate-head t c = search needs
+
+statement-head-requires : (t : ℕ) → statement-lts.Need-head-requires (statement-calls t) (statement-at t) statement′.Post
+statement-head-requires t c κs =
+    let pre′ = c .before .before .before .before .before .before .before .before .before .before .before .before .before .before .before .pre in
+    let stood = pre′ .1 .1 in
+    (record { env = stood .env; describes = stood .standing .holding .describes }, (omega arith), gave-zeros, stood .sized .args-long)
+
+statement-enum-told : (t : ℕ) → statement-lts.Need-enum-told (statement-calls t) (statement-at t) statement′.Post
+statement-enum-told t c = c .match .keys1
+
+statement-enum-known-what : (t : ℕ) → statement-lts.Need-enum-known-what (statement-calls t) (statement-at t) statement′.Post
+statement-enum-known-what t c = c .match .keys2
+
+statement-slice-aggregate-vectors : (t : ℕ) → statement-lts.Need-slice-aggregate-vectors (statement-calls t) (statement-at t) statement′.Post
+statement-slice-aggregate-vectors t c = search needs
+
+statement-vectors-requires : (t : ℕ) → statement-lts.Need-vectors-requires (statement-calls t) (statement-at t) statement′.Post
+statement-vectors-requires t c κs =
+    let pre′ = c .before .before .before .before .before .before .before .before .before .before .before .before .before .before .before .before .before .before .before .before .before .before .before .before .before .before .pre in
+    let head′ = c .before .before .before .before .before .before .before .before .before .before .head in
+    let sized = pre′ .1 .1 .sized in
+    (sized .roomy, head′ .ensures .0, sized .waves-long)
+
+statement-enum-told-2 : (t : ℕ) → statement-lts.Need-enum-told-2 (statement-calls t) (statement-at t) statement′.Post
+statement-enum-told-2 t c = c .match .keys3
+
+statement-slice-aggregate-put : (t : ℕ) → statement-lts.Need-slice-aggregate-put (statement-calls t) (statement-at t) statement′.Post
+statement-slice-aggregate-put t c = search needs
+
+statement-put-requires : (t : ℕ) → statement-lts.Need-put-requires (statement-calls t) (statement-at t) statement′.Post
+statement-put-requires t c κs =
+    let pre′ = c .before .before .before .before .before .before .before .before .before .before .before .before .before .before .before .before .before .before .before .before .before .before .before .before .before .pre in
+    let head′ = c .before .before .before .before .before .before .before .before .before .head in
+    (pre′ .1 .1 .sized .roomy, head′ .ensures .0)
+
+statement-enum-known-what-2 : (t : ℕ) → statement-lts.Need-enum-known-what-2 (statement-calls t) (statement-at t) statement′.Post
+statement-enum-known-what-2 t c = c .match .keys4
+
+statement-enum-known-what-3 : (t : ℕ) → statement-lts.Need-enum-known-what-3 (statement-calls t) (statement-at t) statement′.Post
+statement-enum-known-what-3 t c = c .match .keys5
+
+statement-needed-turns-requires : (t : ℕ) → statement-lts.Need-needed-turns-requires (statement-calls t) (statement-at t) statement′.Post
+statement-needed-turns-requires t c κs =
+    let pre′ = c .before .before .before .before .before .before .before .before .before .before .before .before .before .before .before .before .before .before .before .before .before .before .before .before .before .before .before .pre in
+    let head′ = c .before .before .before .before .before .before .before .before .before .before .before .head in
+    let what3′ = c .before .before .before .before .before .what3 in
+    let stood = pre′ .1 .1 in
+    let st = stood .standing in
+    let i = in-loop st (pre′ .1 .0) _ _ _ (head′ .ensures .2 (stood .env) (st .holding .describes)) _ (what3′ .given .1) in (
+      omega (arith, pre′ .0),
+      (
+        i .1 .on,
+        i .0,
+        fits-some (i .1 .fits),
+        record {
+          env = stood .env;
+          body = i .1 .body;
+          rest = i .1 .between;
+          state = stood .state;
+          standing = loop-standing st (i .1) (st .shows);
+          sized = sized-kept (stood .sized) (kept-args (stood .sized) (head′ .ensures .1));
+        },
+      ),
+    )
+
+statement-enum-told-3 : (t : ℕ) → statement-lts.Need-enum-told-3 (statement-calls t) (statement-at t) statement′.Post
+statement-enum-told-3 t c = c .match .keys6
+
+statement-shift-requires : (t : ℕ) → statement-lts.Need-shift-requires (statement-calls t) (statement-at t) statement′.Post
+statement-shift-requires t c κs =
+    let pre′ = c .before .before .before .before .before .before .before .before .before .before .before .before .before .before .before .before .before .before .before .before .before .before .before .before .before .pre in
+    let head′ = c .before .before .before .before .before .before .before .before .before .head in
+    let enum-told3′ = c .before .before .before .enum-told3 in
+    let stood = pre′ .1 .1 in
+    let st = stood .standing in
+    let i = in-shift st (pre′ .1 .0) _ _ _ (head′ .ensures .2 (stood .env) (st .holding .describes)) (enum-told3′ .given .1) in (
+      i .on,
+      record {
+        env = stood .env;
+        body = _;
+        rest = i .between;
+        state = stood .state;
+        standing = shift-standing st i (st .shows);
+        sized = sized-kept (stood .sized) (kept-args (stood .sized) (head′ .ensures .1));
+      },
+    )
+
+statement-enum-known-what-4 : (t : ℕ) → statement-lts.Need-enum-known-what-4 (statement-calls t) (statement-at t) statement′.Post
+statement-enum-known-what-4 t c = c .match .keys7
+
+statement-slice-aggregate-pass : (t : ℕ) → statement-lts.Need-slice-aggregate-pass (statement-calls t) (statement-at t) statement′.Post
+statement-slice-aggregate-pass t c = search needs
+
+statement-pass-requires : (t : ℕ) → statement-lts.Need-pass-requires (statement-calls t) (statement-at t) statement′.Post
+statement-pass-requires t c κs =
+    let pre′ = c .before .before .before .before .before .before .before .before .before .before .before .before .before .before .before .before .before .before .before .before .before .before .before .before .before .before .pre in
+    let head′ = c .before .before .before .before .before .before .before .before .before .before .head in
+    let what4′ = c .before .before .before .before .what4 in
+    let stood = pre′ .1 .1 in
+    let st = stood .standing in
+    let d = called st (pre′ .1 .0) _ _ _ (head′ .ensures .2 (stood .env) (st .holding .describes)) _ _ (what4′ .given .1) in
+    (stood .sized .waves-long, stood .sized .roomy .few, d .declared, head′ .ensures .0, head′ .ensures .1, stood .sized .roomy .values-long)
+
+statement-same-length : (t : ℕ) → statement-lts.Need-same-length (statement-calls t) (statement-at t) statement′.Post
+statement-same-length t c = search needs
+
+statement-same-length-2 : (t : ℕ) → statement-lts.Need-same-length-2 (statement-calls t) (statement-at t) statement′.Post
+statement-same-length-2 t c = search needs
+
+statement-returns : (t : ℕ) → statement-lts.Need-returns (statement-calls t) (statement-at t) statement′.Post
+statement-returns t c =
+    let pre′ = c .before .before .before .before .before .before .before .before .before .before .before .before .before .before .before .before .before .before .before .before .before .before .before .before .before .before .before .before .before .before .pre in
+    let args′ = c .before .before .before .before .before .before .before .before .before .before .before .before .before .before .before .before .before .before .before .before .before .before .before .before .before .before .before .before .before .before .args in
+    let head′ = c .before .before .before .before .before .before .before .before .before .before .before .before .before .before .head in
+    let what4′ = c .before .before .before .before .before .before .before .before .what4 in
+    let pass′ = c .before .before .before .pass in
+    let if1′ = c .if1 in
+    let h = head′ .ensures in
+    let q = pass′ .ensures (args′ .places .now) (args′ .lists .now) (args′ .tplaces .now) (args′ .book .now) (args′ .rows .now) (args′ .known) in
+    record {
+      kept = kept-passed (pre′ .1 .1 .sized) (h .1) (q .long) (q .rows);
+      moves = λ E b us s st. (
+          let d = called st (pre′ .1 .0) _ _ _ (h .2 E (st .holding .describes)) _ _ (what4′ .given .1) in
+          called-moves d (st .shows .args-are));
+      steps = λ E b us s st m. (
+          let d = called st (pre′ .1 .0) _ _ _ (h .2 E (st .holding .describes)) _ _ (what4′ .given .1) in
+          called-step st d (record { cursor = head′ .result .cursor; failed = false; place = 0; table = pass′ .result .table; ends = false }) _ _
+          (q .told (if1′ .taken) E (d .body) (d .after) (d .arguments) s _ _ _ 0 (called-calling (st .holding) d (m .summed)) (st .shows)));
+      memo-long = refl;
+      learnt = λ E b us s st m. m;
+    }
+
+statement-slice-aggregate-used : (t : ℕ) → statement-lts.Need-slice-aggregate-used (statement-calls t) (statement-at t) statement′.Post
+statement-slice-aggregate-used t c = search needs
+
+statement-used-requires : (t : ℕ) → statement-lts.Need-used-requires (statement-calls t) (statement-at t) statement′.Post
+statement-used-requires t c κs =
+    let pre′ = c .before .before .before .before .before .before .before .before .before .before .before .before .before .before .before .before .before .before .before .before .before .before .before .before .before .before .before .before .before .before .before .before .before .before .before .pre in
+    let args′ = c .before .before .before .before .before .before .before .before .before .before .before .before .before .before .before .before .before .before .before .before .before .before .before .before .before .before .before .before .before .before .before .before .before .before .before .args in
+    let head′ = c .before .before .before .before .before .before .before .before .before .before .before .before .before .before .before .before .before .before .before .head in
+    let what4′ = c .before .before .before .before .before .before .before .before .before .before .before .before .before .what4 in
+    let pass′ = c .before .before .before .before .before .before .before .before .pass in
+    let if1′ = c .before .before .before .before .before .if1 in
+    let stood = pre′ .1 .1 in
+    let st = stood .standing in
+    let d = called st (pre′ .1 .0) _ _ _ (head′ .ensures .2 (stood .env) (st .holding .describes)) _ _ (what4′ .given .1) in
+    let q = pass′ .ensures (args′ .places .now) (args′ .lists .now) (args′ .tplaces .now) (args′ .book .now) (args′ .rows .now) (args′ .known) in (
+      omega (arith, pre′ .0),
+      record {
+        env = stood .env;
+        body = d .body;
+        rest = d .after;
+        arguments = d .arguments;
+        state = stood .state;
+        invoking = called-invoking (st .holding) d (shows-untouched (st .shows) (q .untouched (if1′ .left)));
+        sized = sized-kept (stood .sized) (kept-passed (stood .sized) (head′ .ensures .1) (q .long) (q .rows));
+        given-long = head′ .ensures .0;
+      },
+    )
+
+statement-same-length-3 : (t : ℕ) → statement-lts.Need-same-length-3 (statement-calls t) (statement-at t) statement′.Post
+statement-same-length-3 t c = search needs
+
+statement-returns-2 : (t : ℕ) → statement-lts.Need-returns-2 (statement-calls t) (statement-at t) statement′.Post
+statement-returns-2 t c =
+    let pre′ = c .before .before .before .before .before .before .before .before .before .before .before .before .before .before .before .before .before .before .before .before .before .before .pre in
+    let head′ = c .before .before .before .before .before .before .head in
+    let h = head′ .ensures in
+    record {
+      kept = kept-args (pre′ .1 .1 .sized) (h .1);
+      moves = λ E b us s st. steps-moves {k = 0} {t = 0} (ends-step st (pre′ .1 .0) _ _ _ (h .2 E (st .holding .describes)) (c .enum-told .given .1) (st .shows));
+      steps = λ E b us s st m. ends-step st (pre′ .1 .0) _ _ _ (h .2 E (st .holding .describes)) (c .enum-told .given .1) (st .shows);
+      memo-long = refl;
+      learnt = λ E b us s st m. m;
+    }
+
+statement-same-length-4 : (t : ℕ) → statement-lts.Need-same-length-4 (statement-calls t) (statement-at t) statement′.Post
+statement-same-length-4 t c = search needs
+
+statement-same-length-5 : (t : ℕ) → statement-lts.Need-same-length-5 (statement-calls t) (statement-at t) statement′.Post
+statement-same-length-5 t c = search needs
+
+statement-same-length-6 : (t : ℕ) → statement-lts.Need-same-length-6 (statement-calls t) (statement-at t) statement′.Post
+statement-same-length-6 t c = search needs
+
+statement-returns-3 : (t : ℕ) → statement-lts.Need-returns-3 (statement-calls t) (statement-at t) statement′.Post
+statement-returns-3 t c =
+    let pre′ = c .before .before .before .before .before .before .before .before .before .before .before .before .before .before .before .before .before .before .before .before .before .before .before .before .before .before .before .before .before .before .before .pre in
+    let head′ = c .before .before .before .before .before .before .before .before .before .before .before .before .before .before .before .head in
+    let what′ = c .before .before .before .before .before .before .before .before .before .what in
+    let vectors′ = c .before .before .before .before .vectors in
+    let h = head′ .ensures in
+    let v = vectors′ .ensures in
+    record {
+      kept = kept-others (pre′ .1 .1 .sized) (v .0) (h .1);
+      moves = λ E b us s st. steps-moves {k = 0} {t = 0} (vector-step st (pre′ .1 .0) _ _ _ (h .2 E (st .holding .describes)) _ (what′ .given .1) (v .1));
+      steps = λ E b us s st m. vector-step st (pre′ .1 .0) _ _ _ (h .2 E (st .holding .describes)) _ (what′ .given .1) (v .1);
+      memo-long = refl;
+      learnt = λ E b us s st m. m;
+    }
+
+statement-same-length-7 : (t : ℕ) → statement-lts.Need-same-length-7 (statement-calls t) (statement-at t) statement′.Post
+statement-same-length-7 t c = search needs
+
+statement-same-length-8 : (t : ℕ) → statement-lts.Need-same-length-8 (statement-calls t) (statement-at t) statement′.Post
+statement-same-length-8 t c = search needs
+
+statement-same-length-9 : (t : ℕ) → statement-lts.Need-same-length-9 (statement-calls t) (statement-at t) statement′.Post
+statement-same-length-9 t c = search needs
+
+statement-returns-4 : (t : ℕ) → statement-lts.Need-returns-4 (statement-calls t) (statement-at t) statement′.Post
+statement-returns-4 t c =
+    let pre′ = c .before .before .before .before .before .before .before .before .before .before .before .before .before .before .before .before .before .before .before .before .before .before .before .before .before .before .before .before .before .before .pre in
+    let head′ = c .before .before .before .before .before .before .before .before .before .before .before .before .before .before .head in
+    let enum-told2′ = c .before .before .before .before .before .before .before .before .enum-told2 in
+    let put′ = c .before .before .before .before .put in
+    let h = head′ .ensures in
+    let v = put′ .ensures in
+    record {
+      kept = kept-others (pre′ .1 .1 .sized) (v .0) (h .1);
+      moves = λ E b us s st. steps-moves {k = 0} {t = 0} (assigns-step st (pre′ .1 .0) _ _ _ (h .2 E (st .holding .describes)) (enum-told2′ .given .1) (v .1));
+      steps = λ E b us s st m. assigns-step st (pre′ .1 .0) _ _ _ (h .2 E (st .holding .describes)) (enum-told2′ .given .1) (v .1);
+      memo-long = refl;
+      learnt = λ E b us s st m. m;
+    }
+
+statement-same-length-10 : (t : ℕ) → statement-lts.Need-same-length-10 (statement-calls t) (statement-at t) statement′.Post
+statement-same-length-10 t c = search needs
+
+statement-returns-5 : (t : ℕ) → statement-lts.Need-returns-5 (statement-calls t) (statement-at t) statement′.Post
+statement-returns-5 t c =
+    let pre′ = c .before .before .before .before .before .before .before .before .before .before .before .before .before .before .before .before .before .before .before .before .before .before .before .pre in
+    let head′ = c .before .before .before .before .before .before .before .head in
+    let what2′ = c .before .what2 in
+    let h = head′ .ensures in
+    record {
+      kept = kept-args (pre′ .1 .1 .sized) (h .1);
+      moves = λ E b us s st. steps-moves {k = 0} {t = 0} (chooses-step st (pre′ .1 .0) _ _ _ (h .2 E (st .holding .describes)) _ (what2′ .given .1) (st .shows));
+      steps = λ E b us s st m. chooses-step st (pre′ .1 .0) _ _ _ (h .2 E (st .holding .describes)) _ (what2′ .given .1) (st .shows);
+      memo-long = refl;
+      learnt = λ E b us s st m. m;
+    }
+
+statement-same-length-11 : (t : ℕ) → statement-lts.Need-same-length-11 (statement-calls t) (statement-at t) statement′.Post
+statement-same-length-11 t c = search needs
+
+statement-same-length-12 : (t : ℕ) → statement-lts.Need-same-length-12 (statement-calls t) (statement-at t) statement′.Post
+statement-same-length-12 t c = search needs
+
+statement-same-length-13 : (t : ℕ) → statement-lts.Need-same-length-13 (statement-calls t) (statement-at t) statement′.Post
+statement-same-length-13 t c = search needs
+
+statement-same-length-14 : (t : ℕ) → statement-lts.Need-same-length-14 (statement-calls t) (statement-at t) statement′.Post
+statement-same-length-14 t c = search needs
+
+statement-returns-6 : (t : ℕ) → statement-lts.Need-returns-6 (statement-calls t) (statement-at t) statement′.Post
+statement-returns-6 t c =
+    let pre′ = c .before .before .before .before .before .before .before .before .before .before .before .before .before .before .before .before .before .before .before .before .before .before .before .before .before .before .before .before .before .before .before .before .before .before .before .before .before .pre in
+    let head′ = c .before .before .before .before .before .before .before .before .before .before .before .before .before .before .before .before .before .before .before .before .before .head in
+    let what3′ = c .before .before .before .before .before .before .before .before .before .before .before .before .before .before .before .what3 in
+    let turns′ = c .before .before .before .before .before .before .before .before .before .needed-turns in
+    let h = head′ .ensures in
+    let v = turns′ .ensures in
+    record {
+      kept = kept-then (kept-args (pre′ .1 .1 .sized) (h .1)) (v .kept);
+      moves = λ E b us s st. (
+          let i = in-loop st (pre′ .1 .0) _ _ _ (h .2 E (st .holding .describes)) _ (what3′ .given .1) in
+          inside-moves (i .1) refl (v .ended E (i .1 .body) (i .1 .between) s (loop-standing st (i .1) (st .shows))));
+      steps = λ E b us s st m. (
+          let i = in-loop st (pre′ .1 .0) _ _ _ (h .2 E (st .holding .describes)) _ (what3′ .given .1) in
+          loop-step st (i .1) _ _ (v .plays E (i .1 .body) (i .1 .between) s (loop-standing st (i .1) (st .shows)) m (λ e. loop-plain (i .1))));
+      memo-long = v .memo-long;
+      learnt = λ E b us s st m. (
+          let i = in-loop st (pre′ .1 .0) _ _ _ (h .2 E (st .holding .describes)) _ (what3′ .given .1) in
+          v .learnt E (i .1 .body) (i .1 .between) s (loop-standing st (i .1) (st .shows)) m);
+    }
+
+statement-same-length-15 : (t : ℕ) → statement-lts.Need-same-length-15 (statement-calls t) (statement-at t) statement′.Post
+statement-same-length-15 t c = search needs
+
+statement-same-length-16 : (t : ℕ) → statement-lts.Need-same-length-16 (statement-calls t) (statement-at t) statement′.Post
+statement-same-length-16 t c = search needs
+
+statement-same-length-17 : (t : ℕ) → statement-lts.Need-same-length-17 (statement-calls t) (statement-at t) statement′.Post
+statement-same-length-17 t c = search needs
+
+statement-returns-7 : (t : ℕ) → statement-lts.Need-returns-7 (statement-calls t) (statement-at t) statement′.Post
+statement-returns-7 t c =
+    let pre′ = c .before .before .before .before .before .before .before .before .before .before .before .before .before .before .before .before .before .before .before .before .before .before .before .before .before .before .before .before .before .before .before .before .pre in
+    let head′ = c .before .before .before .before .before .before .before .before .before .before .before .before .before .before .before .before .head in
+    let enum-told3′ = c .before .before .before .before .before .before .before .before .before .before .enum-told3 in
+    let shift′ = c .before .before .before .before .before .before .shift in
+    let h = head′ .ensures in
+    let v = shift′ .ensures in
+    record {
+      kept = kept-then (kept-args (pre′ .1 .1 .sized) (h .1)) (v .kept);
+      moves = λ E b us s st. (
+          let i = in-shift st (pre′ .1 .0) _ _ _ (h .2 E (st .holding .describes)) (enum-told3′ .given .1) in
+          steps-moves (shift-step st i _ _ (v .goes-on) (v .plays E _ _ (i .between) s (shift-standing st i (st .shows)))));
+      steps = λ E b us s st m. (
+          let i = in-shift st (pre′ .1 .0) _ _ _ (h .2 E (st .holding .describes)) (enum-told3′ .given .1) in
+          shift-step st i _ _ (v .goes-on) (v .plays E _ _ (i .between) s (shift-standing st i (st .shows))));
+      memo-long = refl;
+      learnt = λ E b us s st m. m;
+    }
+
+statement-same-length-18 : (t : ℕ) → statement-lts.Need-same-length-18 (statement-calls t) (statement-at t) statement′.Post
+statement-same-length-18 t c = search needs
+
+statement-same-length-19 : (t : ℕ) → statement-lts.Need-same-length-19 (statement-calls t) (statement-at t) statement′.Post
+statement-same-length-19 t c = search needs
+
+statement-same-length-20 : (t : ℕ) → statement-lts.Need-same-length-20 (statement-calls t) (statement-at t) statement′.Post
+statement-same-length-20 t c =
+    let pre′ = c .before .before .before .before .before .before .before .before .before .before .before .before .before .before .before .before .before .before .before .before .before .before .before .before .before .before .before .before .before .before .before .before .before .before .before .before .before .before .before .before .before .before .before .before .pre in
+    let head′ = c .before .before .before .before .before .before .before .before .before .before .before .before .before .before .before .before .before .before .before .before .before .before .before .before .before .before .before .before .head in
+    let used′ = c .before .before .before .before .before .before .before .before .used in
+    used′ .ensures .kept .args-long ∙ head′ .ensures .1 ∙ sym (pre′ .1 .1 .sized .args-long)
+
+statement-same-length-21 : (t : ℕ) → statement-lts.Need-same-length-21 (statement-calls t) (statement-at t) statement′.Post
+statement-same-length-21 t c = c .before .before .before .before .before .before .before .before .used .ensures .memo-long
+
+statement-returns-8 : (t : ℕ) → statement-lts.Need-returns-8 (statement-calls t) (statement-at t) statement′.Post
+statement-returns-8 t c =
+    let pre′ = c .before .before .before .before .before .before .before .before .before .before .before .before .before .before .before .before .before .before .before .before .before .before .before .before .before .before .before .before .before .before .before .before .before .before .before .before .before .before .before .before .before .before .before .before .pre in
+    let args′ = c .before .before .before .before .before .before .before .before .before .before .before .before .before .before .before .before .before .before .before .before .before .before .before .before .before .before .before .before .before .before .before .before .before .before .before .before .before .before .before .before .before .before .before .before .args in
+    let head′ = c .before .before .before .before .before .before .before .before .before .before .before .before .before .before .before .before .before .before .before .before .before .before .before .before .before .before .before .before .head in
+    let what4′ = c .before .before .before .before .before .before .before .before .before .before .before .before .before .before .before .before .before .before .before .before .before .before .what4 in
+    let pass′ = c .before .before .before .before .before .before .before .before .before .before .before .before .before .before .before .before .before .pass in
+    let if1′ = c .before .before .before .before .before .before .before .before .before .before .before .before .before .before .if1 in
+    let used′ = c .before .before .before .before .before .before .before .before .used in
+    let h = head′ .ensures in
+    let q = pass′ .ensures (args′ .places .now) (args′ .lists .now) (args′ .tplaces .now) (args′ .book .now) (args′ .rows .now) (args′ .known) in
+    let v = used′ .ensures in
+    record {
+      kept = kept-then (kept-passed (pre′ .1 .1 .sized) (h .1) (q .long) (q .rows)) (v .kept);
+      moves = λ E b us s st. (
+          let d = called st (pre′ .1 .0) _ _ _ (h .2 E (st .holding .describes)) _ _ (what4′ .given .1) in
+          called-moves d (served-fed v (st .shows .args-are)));
+      steps = λ E b us s st m. (
+          let d = called st (pre′ .1 .0) _ _ _ (h .2 E (st .holding .describes)) _ _ (what4′ .given .1) in
+          called-step st d (used′ .result) _ _ (v .told E (d .body) (d .after) (d .arguments) s (called-invoking (st .holding) d (shows-untouched (st .shows) (q .untouched (if1′ .left)))) m));
+      memo-long = v .memo-long;
+      learnt = λ E b us s st m. (
+          let d = called st (pre′ .1 .0) _ _ _ (h .2 E (st .holding .describes)) _ _ (what4′ .given .1) in
+          v .learnt E (d .body) (d .after) (d .arguments) s (called-invoking (st .holding) d (shows-untouched (st .shows) (q .untouched (if1′ .left)))) m);
+    }
+
+abbrev statements-Inv-loop : statements-lts.InvT-loop
+statements-Inv-loop text places lists tplaces book rows waves marks sums known signals frame table values₀ feeds₀ args₀ memo₀ cursor₀ chosen₀ values feeds args memo cursor chosen =
+    Going (ground text places lists tplaces book rows waves known signals) marks sums memo₀ memo (frame .depth) (frame .level) (frame .seconds) (frame .turns) cursor₀ chosen₀
+    (arrays values₀ feeds₀ args₀) cursor chosen (arrays values feeds args)
+
+abbrev statements-μ-loop : statements-lts.MeasureT-loop
+statements-μ-loop text places lists tplaces book rows waves marks sums known signals frame table values₀ feeds₀ args₀ memo₀ cursor₀ chosen₀ values feeds args memo cursor chosen = left (stream text cursor)
+
+statements-loop-holds : (t : ℕ) → statements-lts.Need-loop-holds (
+  statement-below t,
+  statement′.Post,
+) (statements-at t) statements.Post statements-Inv-loop statements-μ-loop
+statements-loop-holds t c =
+    let pre′ = c .before .before .before .before .before .before .before .before .before .before .before .before .before .pre in
+    record { kept = kept-none; resumes = λ E b us s st. resumed (pre′ .1 .0) st; onward = λ E b us s st m. going (pre′ .1 .0) st; memo-long = refl; learnt = λ E b us s st m. m }
+
+statements-statement-requires : (t : ℕ) → statements-lts.Need-statement-requires (
+  statement-below t,
+  statement′.Post,
+) (statements-at t) statements.Post statements-Inv-loop statements-μ-loop
+statements-statement-requires t c κs =
+    let pre′ = c .before .before .before .before .before .before .before .before .before .before .before .before .before .before .before .before .before .before .pre in
+    let loop′ = c .before .before .before .before .loop in
+    let stood = pre′ .1 .1 in
+    let inv = loop′ .inv in
+    let o = inv .resumes (stood .env) (stood .body) (stood .rest) (stood .state) (stood .standing) in (
+      omega (arith, pre′ .0),
+      (
+        o .on,
+        record {
+          env = stood .env;
+          body = o .rest;
+          rest = stood .rest;
+          state = _;
+          standing = resumed-standing o _ (stood .standing .holding);
+          sized = sized-kept (stood .sized) (inv .kept);
+        },
+      ),
+    )
+
+statements-same-length : (t : ℕ) → statements-lts.Need-same-length (
+  statement-below t,
+  statement′.Post,
+) (statements-at t) statements.Post statements-Inv-loop statements-μ-loop
+statements-same-length t c = search needs
+
+statements-same-length-2 : (t : ℕ) → statements-lts.Need-same-length-2 (
+  statement-below t,
+  statement′.Post,
+) (statements-at t) statements.Post statements-Inv-loop statements-μ-loop
+statements-same-length-2 t c = search needs
+
+statements-same-length-3 : (t : ℕ) → statements-lts.Need-same-length-3 (
+  statement-below t,
+  statement′.Post,
+) (statements-at t) statements.Post statements-Inv-loop statements-μ-loop
+statements-same-length-3 t c = search needs
+
+statements-same-length-4 : (t : ℕ) → statements-lts.Need-same-length-4 (
+  statement-below t,
+  statement′.Post,
+) (statements-at t) statements.Post statements-Inv-loop statements-μ-loop
+statements-same-length-4 t c = search needs
+
+statements-returns :
+    (t : ℕ) →
+    statements-lts.Need-returns
+    (statement-below t, statement′.Post)
+    (statements-at t)
+    statements.Post
+    statements-Inv-loop
+    statements-μ-loop
+statements-returns t c =
+    let loop′ = c .before .before .before .before .before .before .before .before .before .before .before .before .before .before .before .loop in
+    let statement′ = c .before .before .before .before .before .before .before .before .before .before .statement in
+    let inv = loop′ .inv in
+    let step = statement′ .ensures in
+    record {
+      kept = kept-then (inv .kept) (step .kept);
+      ended = λ E b us s st e. (
+          let o = inv .resumes E b us s st in resumed-end o (step .moves E (o .rest) us _ (resumed-standing o _ (st .holding))) (c .if1 .taken) e);
+      plays = λ E b us s st m f. (let o = inv .onward E b us s st m in gone o (step .steps E (o .rest) us (o .state) (o .standing) (inv .learnt E b us s st m)) (c .if1 .taken));
+      memo-long = step .memo-long ∙ inv .memo-long;
+      learnt = λ E b us s st m. (let o = inv .onward E b us s st m in step .learnt E (o .rest) us (o .state) (o .standing) (inv .learnt E b us s st m));
+    }
+
+statements-loop-less : (t : ℕ) → statements-lts.Need-loop-less (
+  statement-below t,
+  statement′.Post,
+) (statements-at t) statements.Post statements-Inv-loop statements-μ-loop
+statements-loop-less t c =
+    let pre′ = c .before .before .before .before .before .before .before .before .before .before .before .before .before .before .before .before .before .before .before .before .before .before .before .before .before .before .before .before .before .before .pre in
+    let loop′ = c .before .before .before .before .before .before .before .before .before .before .before .before .before .before .before .before .loop in
+    let statement′ = c .before .before .before .before .before .before .before .before .before .before .before .statement in
+    let if1′ = c .before .if1 in
+    let stood = pre′ .1 .1 in
+    let o = loop′ .inv .resumes (stood .env) (stood .body) (stood .rest) (stood .state) (stood .standing) in
+    resumed-less o (statement′ .ensures .moves (stood .env) (o .rest) (stood .rest) _ (resumed-standing o _ (stood .standing .holding))) (if1′ .left)
+
+statements-loop-again : (t : ℕ) → statements-lts.Need-loop-again (
+  statement-below t,
+  statement′.Post,
+) (statements-at t) statements.Post statements-Inv-loop statements-μ-loop
+statements-loop-again t c =
+    let loop′ = c .before .before .before .before .before .before .before .before .before .before .before .before .before .before .before .before .loop in
+    let statement′ = c .before .before .before .before .before .before .before .before .before .before .before .statement in
+    let if1′ = c .before .if1 in
+    let inv = loop′ .inv in
+    let step = statement′ .ensures in
+    record {
+      kept = kept-then (inv .kept) (step .kept);
+      resumes = λ E b us s st. (
+          let o = inv .resumes E b us s st in resumed-on o (step .moves E (o .rest) us _ (resumed-standing o _ (st .holding))) (if1′ .left));
+      onward = λ E b us s st m. (let o = inv .onward E b us s st m in going-on o (step .steps E (o .rest) us (o .state) (o .standing) (inv .learnt E b us s st m)) (if1′ .left));
+      memo-long = step .memo-long ∙ inv .memo-long;
+      learnt = λ E b us s st m. (let o = inv .onward E b us s st m in step .learnt E (o .rest) us (o .state) (o .standing) (inv .learnt E b us s st m));
+    }
+
+used-cast-supply : (t : ℕ) → used-lts.Need-cast-supply (used-calls t) (used-at t) used.Post
+used-cast-supply t c = search needs
+
+used-recall-requires : (t : ℕ) → used-lts.Need-recall-requires (used-calls t) (used-at t) used.Post
+used-recall-requires t c κs =
+    let roomy = c .before .before .before .before .before .before .before .before .before .before .before .before .before .before .before .before .before .pre .1 .sized .roomy in
+    (omega (arith, roomy .few), omega (arith, roomy .few, roomy .values-long))
+
+used-same-length : (t : ℕ) → used-lts.Need-same-length (used-calls t) (used-at t) used.Post
+used-same-length t c = search needs
+
+used-same-length-2 : (t : ℕ) → used-lts.Need-same-length-2 (used-calls t) (used-at t) used.Post
+used-same-length-2 t c = search needs
+
+used-returns : (t : ℕ) → used-lts.Need-returns (used-calls t) (used-at t) used.Post
+used-returns t c =
+    let pre′ = c .before .before .before .before .before .before .before .before .before .before .before .before .before .before .before .before .before .before .before .before .before .pre in
+    let q = c .before .before .before .recall .ensures in
+    let if1′ = c .if1 in
+    let sized = pre′ .1 .sized in
+    record {
+      kept = kept-passed sized (sized .args-long) (q .long) (λ i h. q .rows i (omega (arith, sized .roomy .few)));
+      own = λ s h. refl;
+      told = λ E b us a s v m. recalled-told v _ (found-outcome m (omega (arith, sized .roomy .few, sized .roomy .values-long)) q (if1′ .taken));
+      memo-long = refl;
+      learnt = λ E b us a s v m. m;
+    }
+
+used-slice-aggregate-keep : (t : ℕ) → used-lts.Need-slice-aggregate-keep (used-calls t) (used-at t) used.Post
+used-slice-aggregate-keep t c = search needs
+
+used-keep-requires : (t : ℕ) → used-lts.Need-keep-requires (used-calls t) (used-at t) used.Post
+used-keep-requires t c κs =
+    let roomy = c .before .before .before .before .before .before .before .before .before .before .before .before .before .before .before .before .before .before .before .before .before .before .before .pre .1 .sized .roomy in
+    let q = c .before .before .before .before .before .recall .ensures in
+    (omega (arith, roomy .few, roomy .values-long, q .long), omega (arith, roomy .few))
+
+used-add-supply : (t : ℕ) → used-lts.Need-add-supply (used-calls t) (used-at t) used.Post
+used-add-supply t c = omega (arith, c .before .before .before .before .before .before .before .before .before .before .before .before .before .before .before .before .before .before .before .before .before .before .before .before .before .before .before .before .pre .1 .sized .roomy .inside-levels)
+
+used-supply-requires : (t : ℕ) → used-lts.Need-supply-requires (used-calls t) (used-at t) used.Post
+used-supply-requires t c κs =
+    let s = c .before .before .before .before .before .before .before .before .before .before .before .before .before .before .before .before .before .before .before .before .before .before .before .before .before .before .before .before .pre .1 in
+    (s .given-long, s .sized .args-long, s .sized .roomy .feeds-long, omega (arith, s .invoking .fits .levels))
+
+used-play-body-requires : (t : ℕ) → used-lts.Need-play-body-requires (used-calls t) (used-at t) used.Post
+used-play-body-requires t c κs =
+    let pre′ = c .before .before .before .before .before .before .before .before .before .before .before .before .before .before .before .before .before .before .before .before .before .before .before .before .before .before .before .before .before .before .before .before .before .before .before .pre in
+    let q = c .before .before .before .before .before .before .before .before .before .before .before .before .before .before .before .before .before .recall .ensures in
+    let if1′ = c .before .before .before .before .before .before .before .before .before .before .before .before .before .before .if1 in
+    let f = c .before .before .before .before .before .before .supply .ensures in
+    let sized = pre′ .1 .sized in
+    let kept = kept-used sized (sized .args-long) (q .long) (λ i h. q .rows i (omega (arith, sized .roomy .few))) (f .0) (f .1) in
+    let s = pre′ .1 in
+    let v = invoking-untouched (s .invoking) (q .untouched (if1′ .left)) in (
+      omega (arith, pre′ .0),
+      record {
+        env = s .env;
+        body = s .body;
+        rest = s .rest;
+        arguments = s .arguments;
+        state = s .state;
+        use′ = invoked-using v (shows-supplied (v .shows) (f .1)) (f .2 _ _ (v .supplied));
+        sized = sized-kept sized kept;
+      },
+    )
+
+used-same-length-3 : (t : ℕ) → used-lts.Need-same-length-3 (used-calls t) (used-at t) used.Post
+used-same-length-3 t c =
+    let recall′ = c .before .before .before .before .before .before .before .before .before .before .before .before .before .before .before .before .before .before .before .before .before .before .before .before .before .before .before .recall in
+    let play-body′ = c .before .before .before .before .before .before .before .before .before .play-body in
+    play-body′ .ensures .kept .values-long ∙ recall′ .ensures .long
+
+used-same-length-4 : (t : ℕ) → used-lts.Need-same-length-4 (used-calls t) (used-at t) used.Post
+used-same-length-4 t c = search needs
+
+used-same-length-5 : (t : ℕ) → used-lts.Need-same-length-5 (used-calls t) (used-at t) used.Post
+used-same-length-5 t c = search needs
+
+used-same-length-6 : (t : ℕ) → used-lts.Need-same-length-6 (used-calls t) (used-at t) used.Post
+used-same-length-6 t c = search needs
+
+used-returns-2 : (t : ℕ) → used-lts.Need-returns-2 (used-calls t) (used-at t) used.Post
+used-returns-2 t c =
+    let pre′ = c .before .before .before .before .before .before .before .before .before .before .before .before .before .before .before .before .before .before .before .before .before .before .before .before .before .before .before .before .before .before .before .before .before .before .before .before .before .before .before .before .before .before .before .before .before .pre in
+    let q = c .before .before .before .before .before .before .before .before .before .before .before .before .before .before .before .before .before .before .before .before .before .before .before .before .before .before .before .recall .ensures in
+    let if1′ = c .before .before .before .before .before .before .before .before .before .before .before .before .before .before .before .before .before .before .before .before .before .before .before .before .if1 in
+    let f = c .before .before .before .before .before .before .before .before .before .before .before .before .before .before .before .before .supply .ensures in
+    let sized = pre′ .1 .sized in
+    let kept = kept-used sized (sized .args-long) (q .long) (λ i h. q .rows i (omega (arith, sized .roomy .few))) (f .0) (f .1) in
+    let p = c .before .before .before .before .before .before .before .before .before .play-body .ensures in
+    record {
+      kept = kept-then kept (p .kept);
+      own = λ s h. p .own s h ∙ f .1 _ s h (λ z. omega arith);
+      told = λ E b us a s w m. (let v = invoking-untouched w (q .untouched (if1′ .left)) in p .told E b us a s (invoked-using v (shows-supplied (v .shows) (f .1)) (f .2 _ _ (v .supplied))) m);
+      memo-long = p .memo-long;
+      learnt = λ E b us a s w m. (let v = invoking-untouched w (q .untouched (if1′ .left)) in p .learnt E b us a s (invoked-using v (shows-supplied (v .shows) (f .1)) (f .2 _ _ (v .supplied))) m);
+    }
+
+used-slice-aggregate-remember : (t : ℕ) → used-lts.Need-slice-aggregate-remember (used-calls t) (used-at t) used.Post
+used-slice-aggregate-remember t c = search needs
+
+used-remember-requires : (t : ℕ) → used-lts.Need-remember-requires (used-calls t) (used-at t) used.Post
+used-remember-requires t c κs =
+    let roomy = c .before .before .before .before .before .before .before .before .before .before .before .before .before .before .before .before .before .before .before .before .before .before .before .before .before .before .before .before .before .before .before .before .before .before .before .before .before .before .before .before .before .before .before .before .before .before .before .before .pre .1 .sized .roomy in
+    let q = c .before .before .before .before .before .before .before .before .before .before .before .before .before .before .before .before .before .before .before .before .before .before .before .before .before .before .before .before .before .before .recall .ensures in
+    let keep′ = c .before .before .before .before .before .before .before .before .before .before .before .before .before .before .before .before .before .before .before .before .before .before .before .before .keep in
+    let p = c .before .before .before .before .before .before .before .before .before .before .before .before .play-body .ensures in
+    (omega (arith, roomy .few), omega (arith, roomy .few, keep′ .ensures .0), omega (arith, roomy .few, roomy .values-long, q .long, p .kept .values-long))
+
+used-same-length-7 : (t : ℕ) → used-lts.Need-same-length-7 (used-calls t) (used-at t) used.Post
+used-same-length-7 t c =
+    let recall′ = c .before .before .before .before .before .before .before .before .before .before .before .before .before .before .before .before .before .before .before .before .before .before .before .before .before .before .before .before .before .before .before .before .before .recall in
+    let play-body′ = c .before .before .before .before .before .before .before .before .before .before .before .before .before .before .before .play-body in
+    play-body′ .ensures .kept .values-long ∙ recall′ .ensures .long
+
+used-same-length-8 : (t : ℕ) → used-lts.Need-same-length-8 (used-calls t) (used-at t) used.Post
+used-same-length-8 t c = search needs
+
+used-same-length-9 : (t : ℕ) → used-lts.Need-same-length-9 (used-calls t) (used-at t) used.Post
+used-same-length-9 t c = search needs
+
+used-same-length-10 : (t : ℕ) → used-lts.Need-same-length-10 (used-calls t) (used-at t) used.Post
+used-same-length-10 t c = search needs
+
+used-returns-3 : (t : ℕ) → used-lts.Need-returns-3 (used-calls t) (used-at t) used.Post
+used-returns-3 t c =
+    let pre′ = c .before .before .before .before .before .before .before .before .before .before .before .before .before .before .before .before .before .before .before .before .before .before .before .before .before .before .before .before .before .before .before .before .before .before .before .before .before .before .before .before .before .before .before .before .before .before .before .before .before .before .before .pre in
+    let q = c .before .before .before .before .before .before .before .before .before .before .before .before .before .before .before .before .before .before .before .before .before .before .before .before .before .before .before .before .before .before .before .before .before .recall .ensures in
+    let if1′ = c .before .before .before .before .before .before .before .before .before .before .before .before .before .before .before .before .before .before .before .before .before .before .before .before .before .before .before .before .before .before .if1 in
+    let f = c .before .before .before .before .before .before .before .before .before .before .before .before .before .before .before .before .before .before .before .before .before .before .supply .ensures in
+    let sized = pre′ .1 .sized in
+    let kept = kept-used sized (sized .args-long) (q .long) (λ i h. q .rows i (omega (arith, sized .roomy .few))) (f .0) (f .1) in
+    let keep′ = c .before .before .before .before .before .before .before .before .before .before .before .before .before .before .before .before .before .before .before .before .before .before .before .before .before .before .before .keep in
+    let if2′ = c .before .before .before .before .before .before .if2 in
+    let p = c .before .before .before .before .before .before .before .before .before .before .before .before .before .before .before .play-body .ensures in
+    let remember′ = c .before .before .remember in
+    let roomy = sized .roomy in
+    record {
+      kept = kept-then kept (p .kept);
+      own = λ s h. p .own s h ∙ f .1 _ s h (λ z. omega arith);
+      told = λ E b us a s w m. (let v = invoking-untouched w (q .untouched (if1′ .left)) in p .told E b us a s (invoked-using v (shows-supplied (v .shows) (f .1)) (f .2 _ _ (v .supplied))) m);
+      memo-long = remember′ .ensures .long ∙ p .memo-long;
+      learnt = λ E b us a s w m. (
+          let v = invoking-untouched w (q .untouched (if1′ .left)) in
+          let u = invoked-using v (shows-supplied (v .shows) (f .1)) (f .2 _ _ (v .supplied)) in
+          knows-more (p .learnt E b us a s u m) (omega (arith, roomy .few, keep′ .ensures .0)) (omega (arith, roomy .few, roomy .values-long, q .long, p .kept .values-long)) (remember′ .ensures)
+          (kept-outcome (played-outcome v _ (p .told E b us a s u m) (if2′ .left)) (omega (arith, roomy .few, roomy .values-long, q .long)) (omega (arith, roomy .few, keep′ .ensures .0)) (keep′ .ensures .1 refl)));
+    }
+
+pub +body-of+needed-turns+play-body+statement+statements+used-spec : {M : Type 1} → statement M
++body-of+needed-turns+play-body+statement+statements+used-spec =
+    close
+    μ-body-of
+    μ-needed-turns
+    μ-play-body
+    μ-statement
+    μ-statements
+    μ-used
+    (λ t. body-of-lts.spec (body-of-calls t)
+    (body-of-at t)
+    body-of.Post
+    (body-of-sub-cursor-at t)
+    (body-of-cursor-at-requires t)
+    (body-of-statements-requires t)
+    (body-of-same-length t)
+    (body-of-same-length-2 t)
+    (body-of-same-length-3 t)
+    (body-of-same-length-4 t)
+    (body-of-returns t))
+    (λ t. needed-turns-lts.spec (needed-turns-calls t)
+    (needed-turns-at t)
+    needed-turns.Post
+    (needed-turns-sub-t27 t)
+    (needed-turns-slice-aggregate-keep t)
+    (needed-turns-keep-requires t)
+    (needed-turns-statements-requires t)
+    (needed-turns-same-length t)
+    (needed-turns-same-length-2 t)
+    (needed-turns-same-length-3 t)
+    (needed-turns-same-length-4 t)
+    (needed-turns-returns t)
+    (needed-turns-slice-aggregate-same-pins t)
+    (needed-turns-same-pins-requires t)
+    (needed-turns-same-length-5 t)
+    (needed-turns-same-length-6 t)
+    (needed-turns-same-length-7 t)
+    (needed-turns-same-length-8 t)
+    (needed-turns-returns-2 t)
+    (needed-turns-sub-t27-2 t)
+    (needed-turns-sub-t49 t)
+    (needed-turns-statements-requires-2 t)
+    (needed-turns-same-length-9 t)
+    (needed-turns-same-length-10 t)
+    (needed-turns-same-length-11 t)
+    (needed-turns-same-length-12 t)
+    (needed-turns-returns-3 t))
+    (λ t. play-body-lts.spec (play-body-calls t)
+    (play-body-at t)
+    play-body.Post
+    (play-body-sub-body t)
+    (play-body-add-t26 t)
+    (play-body-start-at-requires t)
+    (play-body-sub-body-2 t)
+    (play-body-part-body-start t)
+    (play-body-part-body-end t)
+    (play-body-body-of-requires t)
+    (play-body-same-length t)
+    (play-body-same-length-2 t)
+    (play-body-same-length-3 t)
+    (play-body-same-length-4 t)
+    (play-body-returns t)
+    (play-body-leave-requires t)
+    (play-body-body-of-requires-2 t)
+    (play-body-come-back-requires t)
+    (play-body-same-length-5 t)
+    (play-body-same-length-6 t)
+    (play-body-same-length-7 t)
+    (play-body-same-length-8 t)
+    (play-body-returns-2 t))
+    (λ t. statement-lts.spec (statement-calls t)
+    (statement-at t)
+    statement′.Post
+    (statement-slice-aggregate-head t)
+    (statement-head-requires t)
+    (statement-enum-told t)
+    (statement-enum-known-what t)
+    (statement-slice-aggregate-vectors t)
+    (statement-vectors-requires t)
+    (statement-enum-told-2 t)
+    (statement-slice-aggregate-put t)
+    (statement-put-requires t)
+    (statement-enum-known-what-2 t)
+    (statement-enum-known-what-3 t)
+    (statement-needed-turns-requires t)
+    (statement-enum-told-3 t)
+    (statement-shift-requires t)
+    (statement-enum-known-what-4 t)
+    (statement-slice-aggregate-pass t)
+    (statement-pass-requires t)
+    (statement-same-length t)
+    (statement-same-length-2 t)
+    (statement-returns t)
+    (statement-slice-aggregate-used t)
+    (statement-used-requires t)
+    (statement-same-length-3 t)
+    (statement-returns-2 t)
+    (statement-same-length-4 t)
+    (statement-same-length-5 t)
+    (statement-same-length-6 t)
+    (statement-returns-3 t)
+    (statement-same-length-7 t)
+    (statement-same-length-8 t)
+    (statement-same-length-9 t)
+    (statement-returns-4 t)
+    (statement-same-length-10 t)
+    (statement-returns-5 t)
+    (statement-same-length-11 t)
+    (statement-same-length-12 t)
+    (statement-same-length-13 t)
+    (statement-same-length-14 t)
+    (statement-returns-6 t)
+    (statement-same-length-15 t)
+    (statement-same-length-16 t)
+    (statement-same-length-17 t)
+    (statement-returns-7 t)
+    (statement-same-length-18 t)
+    (statement-same-length-19 t)
+    (statement-same-length-20 t)
+    (statement-same-length-21 t)
+    (statement-returns-8 t))
+    (λ t. statements-lts.spec
+    (statement-below t, statement′.Post)
+    (statements-at t)
+    statements.Post
+    statements-Inv-loop
+    statements-μ-loop
+    (statements-loop-holds t)
+    (statements-statement-requires t)
+    (statements-same-length t)
+    (statements-same-length-2 t)
+    (statements-same-length-3 t)
+    (statements-same-length-4 t)
+    (statements-returns t)
+    (statements-loop-less t)
+    (statements-loop-again t))
+    λ t. used-lts.spec (used-calls t)
+    (used-at t)
+    used.Post
+    (used-cast-supply t)
+    (used-recall-requires t)
+    (used-same-length t)
+    (used-same-length-2 t)
+    (used-returns t)
+    (used-slice-aggregate-keep t)
+    (used-keep-requires t)
+    (used-add-supply t)
+    (used-supply-requires t)
+    (used-play-body-requires t)
+    (used-same-length-3 t)
+    (used-same-length-4 t)
+    (used-same-length-5 t)
+    (used-same-length-6 t)
+    (used-returns-2 t)
+    (used-slice-aggregate-remember t)
+    (used-remember-requires t)
+    (used-same-length-7 t)
+    (used-same-length-8 t)
+    (used-same-length-9 t)
+    (used-same-length-10 t)
+    (used-returns-3 t)

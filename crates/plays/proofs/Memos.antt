@@ -1,0 +1,248 @@
+-- Rows that tell of uses: what is written in one row, no other row has.
+use Prim.Native.Nat.{ℕ, _+_, _*_, _%_, _<_, _≤_}
+use native.Mathlib.Omega.{arith}
+use native.Mathlib.Nat.{mod-lt}
+use mathlib.Core.Path.{_≡_, refl, sym, ap, _∙_}
+use mathlib.Core.Bool.{Bool, true, false, not, _&&_}
+use mathlib.Core.Logic.{_⊎_, inl, inr}
+use mathlib.Core.List.{List}
+use lib.Dec.{eqb, ltb}
+use lib.ListN.{length, getD, set, replicate, length-set, length-replicate, getD-replicate, List·getD-eq-default}
+use lib.Seq.{getD-set-same, getD-set-other}
+use borrow.Author.Tests.{eqb-true, eqb-false, ltb-true, ltb-false}
+use Rattle.plays.specs.declared.Use.{Use}
+use Rattle.plays.specs.Memo.{memoRow, beforeAt, behindAt, pictureSize, Notes, Pictures, Row, Writes, SameUse, Remembered, Recalls}
+
+both : (a b : Bool) → (a && b) ≡ true → (a ≡ true) × (b ≡ true)
+both true b h = (refl, h)
+both false b h = let z : _≡_ {A = ℕ} 0 1 = cc in absurd (omega arith)
+
+-- a place has a row
+pub row-is : (at : ℕ) → (j : ℕ) × (at % 127 * memoRow ≡ j * memoRow) × (j < 127)
+row-is at = (at % 127, refl, mod-lt at (omega arith))
+
+-- ---- places that were written
+
+pub writes-none : {m : List ℕ} {o e : ℕ} → Writes m m o e
+writes-none = record { long = refl; others = λ i h. refl }
+
+pub writes-next : {m m′ : List ℕ} {o e : ℕ} → Writes m m′ o e → (i v : ℕ) → o ≤ i → i < e → Writes m (set m′ i v) o e
+writes-next {m} {m′} {o} {e} w i v l h = record {
+  long = length-set m′ i v ∙ w .long;
+  others = λ k q. getD-set-other m′ i k v 0 (λ z. q (omega arith) (omega arith)) ∙ w .others k q;
+}
+
+pub writes-then : {a b c : List ℕ} {o e : ℕ} → Writes a b o e → Writes b c o e → Writes a c o e
+writes-then x y = record { long = y .long ∙ x .long; others = λ i h. y .others i h ∙ x .others i h }
+
+-- ---- what a row is found by
+
+pub notes-all : (m : List ℕ) (o : ℕ) (u : Use)
+    → ((((eqb (getD m o 0) 1 && eqb (getD m (o + 1) 0) (u .seconds)) && eqb (getD m (o + 2) 0) (u .fault)) && eqb (getD m (o + 3) 0) (u .at)) && eqb (getD m (o + 4) 0) (u .end)) ≡ true
+    → Notes m o u
+notes-all m o u h =
+    let a = both _ _ h in
+    let b = both _ _ (a .0) in
+    let c = both _ _ (b .0) in
+    let d = both _ _ (c .0) in
+    record {
+      in-use = eqb-true _ _ (d .0);
+      seconds-is = eqb-true _ _ (d .1);
+      fault-is = eqb-true _ _ (c .1);
+      at-is = eqb-true _ _ (b .1);
+      end-is = eqb-true _ _ (a .1);
+    }
+
+module _ (m : List ℕ) (o : ℕ) (u : Use) (room : o + memoRow ≤ length m) where
+  abbrev m1 : List ℕ
+  m1 = set m o 1
+
+  abbrev m2 : List ℕ
+  m2 = set m1 (o + 1) (u .seconds)
+
+  abbrev m3 : List ℕ
+  m3 = set m2 (o + 2) (u .fault)
+
+  abbrev m4 : List ℕ
+  m4 = set m3 (o + 3) (u .at)
+
+  abbrev m5 : List ℕ
+  m5 = set m4 (o + 4) (u .end)
+
+  long1 : length m1 ≡ length m
+  long1 = length-set m o 1
+
+  long2 : length m2 ≡ length m
+  long2 = length-set m1 (o + 1) (u .seconds) ∙ long1
+
+  long3 : length m3 ≡ length m
+  long3 = length-set m2 (o + 2) (u .fault) ∙ long2
+
+  long4 : length m4 ≡ length m
+  long4 = length-set m3 (o + 3) (u .at) ∙ long3
+
+  past : (l : List ℕ) (i v k : ℕ) → k < i → getD (set l i v) k 0 ≡ getD l k 0
+  past l i v k h = getD-set-other l i k v 0 λ z. omega arith
+
+  pub note-written : Writes m m5 o (o + 5) × Notes m5 o u
+  note-written = (
+    writes-next (writes-next (writes-next (writes-next (writes-next writes-none o 1 (omega arith) (omega arith)) (o + 1) _ (omega arith) (omega arith)) (o + 2) _ (omega arith) (omega arith)) (o + 3) _ (omega arith) (omega arith)) (o + 4) _ (omega arith) (omega arith),
+    record {
+      in-use = past m4 (o + 4) _ o (omega arith) ∙ past m3 (o + 3) _ o (omega arith) ∙ past m2 (o + 2) _ o (omega arith) ∙ past m1 (o + 1) _ o (omega arith) ∙ getD-set-same m o 1 0 (omega arith);
+      seconds-is = past m4 (o + 4) _ (o + 1) (omega arith) ∙ past m3 (o + 3) _ (o + 1) (omega arith) ∙ past m2 (o + 2) _ (o + 1) (omega arith) ∙ getD-set-same m1 (o + 1) (u .seconds) 0 (omega (arith, long1));
+      fault-is = past m4 (o + 4) _ (o + 2) (omega arith) ∙ past m3 (o + 3) _ (o + 2) (omega arith) ∙ getD-set-same m2 (o + 2) (u .fault) 0 (omega (arith, long2));
+      at-is = past m4 (o + 4) _ (o + 3) (omega arith) ∙ getD-set-same m3 (o + 3) (u .at) 0 (omega (arith, long3));
+      end-is = getD-set-same m4 (o + 4) (u .end) 0 (omega (arith, long4));
+    },
+  )
+
+-- ---- pictures, one signal at a time
+
+pub pictures-none : {m : List ℕ} {o t : ℕ} {v : List ℕ} → getD m o 0 ≡ t → Pictures m o 0 t v
+pictures-none e = record { table-is = e; pins-are = λ s h. absurd (omega arith) }
+
+pub pictures-next : {m : List ℕ} {o s t : ℕ} {v : List ℕ} → Pictures m o s t v → getD m (o + 1 + s) 0 % 256 ≡ getD v s 0 → Pictures m o (s + 1) t v
+pictures-next {m} {o} {s} {t} {v} x e = record { table-is = x .table-is; pins-are = λ i h. by i h (eqb i s) refl }
+  where
+    by : (i : ℕ) → i < s + 1 → (z : Bool) → eqb i s ≡ z → getD m (o + 1 + i) 0 % 256 ≡ getD v i 0
+    by i h true q = rw (eqb-true i s q) e
+    by i h false q = let d = eqb-false i s q in x .pins-are i (omega arith)
+
+pub pictures-all : {m : List ℕ} {o s n t : ℕ} {v : List ℕ} → s ≡ n → Pictures m o s t v → Pictures m o n t v
+pictures-all e x = record { table-is = x .table-is; pins-are = λ i h. x .pins-are i (omega arith) }
+
+-- a number that is written behind those that a picture has
+pub pictures-behind : {m : List ℕ} {o s t : ℕ} {v : List ℕ} (x : ℕ) → Pictures m o s t v → Pictures (set m (o + 1 + s) x) o s t v
+pictures-behind {m} {o} {s} {t} {v} x p = record {
+  table-is = getD-set-other m (o + 1 + s) o x 0 (λ z. omega arith) ∙ p .table-is;
+  pins-are = λ i h. ap (λ (k : ℕ). k % 256) (getD-set-other m (o + 1 + s) (o + 1 + i) x 0 (λ z. omega arith)) ∙ p .pins-are i h;
+}
+
+-- the next pin is drawn
+pub drawn-next : {m₀ m : List ℕ} {o s t : ℕ} {v : List ℕ} (x : ℕ) → Writes m₀ m o (o + pictureSize) → Pictures m o s t v → s + 1 < pictureSize → o + pictureSize ≤ length m
+    → x % 256 ≡ getD v s 0 → Writes m₀ (set m (o + 1 + s) x) o (o + pictureSize) × Pictures (set m (o + 1 + s) x) o (s + 1) t v
+drawn-next {m₀} {m} {o} {s} {t} {v} x w p h room e = (
+  writes-next w (o + 1 + s) x (omega arith) (omega arith),
+  pictures-next (pictures-behind x p) (ap (λ (k : ℕ). k % 256) (getD-set-same m (o + 1 + s) x 0 (omega arith)) ∙ e),
+)
+
+-- pins that become those of a picture
+pub record Restores (m : List ℕ) (o s : ℕ) (v₀ v : List ℕ) : Type 0 where
+  pub long : length v ≡ length v₀
+  pub rows : (i : ℕ) → s ≤ i → getD v i 0 ≡ getD v₀ i 0
+  pub pins-are : (i : ℕ) → i < s → getD m (o + 1 + i) 0 % 256 ≡ getD v i 0
+
+pub restores-none : {m : List ℕ} {o : ℕ} {v : List ℕ} → Restores m o 0 v v
+restores-none = record { long = refl; rows = λ i h. refl; pins-are = λ i h. absurd (omega arith) }
+
+pub restores-next : {m : List ℕ} {o s x : ℕ} {v₀ v : List ℕ} → Restores m o s v₀ v → s < length v → x ≡ getD m (o + 1 + s) 0 % 256 → Restores m o (s + 1) v₀ (set v s x)
+restores-next {m} {o} {s} {x} {v₀} {v} r l e = record {
+  long = length-set v s x ∙ r .long;
+  rows = λ i h. getD-set-other v s i x 0 (λ z. omega arith) ∙ r .rows i (omega arith);
+  pins-are = λ i h. by i h (eqb i s) refl;
+}
+  where
+    by : (i : ℕ) → i < s + 1 → (z : Bool) → eqb i s ≡ z → getD m (o + 1 + i) 0 % 256 ≡ getD (set v s x) i 0
+    by i h true q = rw (eqb-true i s q) (sym e ∙ sym (getD-set-same v s x 0 l))
+    by i h false q = let d = eqb-false i s q in r .pins-are i (omega arith) ∙ sym (getD-set-other v s i x 0 d)
+
+pub restores-all : {m : List ℕ} {o s n : ℕ} {v₀ v : List ℕ} → s ≡ n → Restores m o s v₀ v
+    → (length v ≡ length v₀) × ((i : ℕ) → n ≤ i → getD v i 0 ≡ getD v₀ i 0) × Pictures m o n (getD m o 0) v
+restores-all e r = (r .long, λ i h. r .rows i (omega arith), record { table-is = refl; pins-are = λ i h. r .pins-are i (omega arith) })
+
+-- ---- a row that is found
+
+pub recalls-none : {m : List ℕ} {n : ℕ} {u : Use} {t : ℕ} {v : List ℕ} {k : ℕ} → Recalls m n u t v v (record { done = false; table = k })
+recalls-none = record { long = refl; rows = λ i h. refl; untouched = λ e. refl; found = λ e. (let z : _≡_ {A = ℕ} 0 1 = cc in absurd (omega arith)) }
+
+pub recalls-row : {m : List ℕ} {n o : ℕ} {u : Use} {t : ℕ} {v v′ : List ℕ} (j : ℕ) → o ≡ j * memoRow → Notes m o u → Pictures m (o + beforeAt) n t v
+    → (length v′ ≡ length v) × ((i : ℕ) → n ≤ i → getD v′ i 0 ≡ getD v i 0) × Pictures m (o + behindAt) n (getD m (o + behindAt) 0) v′
+    → Recalls m n u t v v′ (record { done = true; table = getD m (o + behindAt) 0 })
+recalls-row j e noted before restored = record {
+  long = restored .0;
+  rows = restored .1;
+  untouched = λ q. (let z : _≡_ {A = ℕ} 0 1 = cc in absurd (omega arith));
+  found = λ q. (j, record { noted = rw (← e) noted; before = rw (← e) before; behind = rw (← e) (restored .2) });
+}
+
+-- ---- one row
+
+module _ {m m1 m2 m3 : List ℕ} {n o : ℕ} (k : ℕ) {u : Use} {t : ℕ} {v : List ℕ} {t′ : ℕ} {v′ : List ℕ} (few : n < pictureSize) (o-is : o ≡ k * memoRow)
+    (w1 : Writes m m1 o (o + 5)) (n1 : Notes m1 o u) (w2 : Writes m1 m2 (o + beforeAt) (o + beforeAt + pictureSize)) (p2 : Pictures m2 (o + beforeAt) n t v)
+    (w3 : Writes m2 m3 (o + behindAt) (o + behindAt + pictureSize)) (p3 : Pictures m3 (o + behindAt) n t′ v′) where
+  -- a place of another row
+  elsewhere : (i : ℕ) → (o ≤ i → i < o + memoRow → ⊥) → getD m3 i 0 ≡ getD m i 0
+  elsewhere i h =
+      w3 .others i (λ a b. h (omega arith) (omega arith)) ∙ w2 .others i (λ a b. h (omega arith) (omega arith)) ∙ w1 .others i (λ a b. h (omega arith) (omega arith))
+
+  -- the note's
+  front : (i : ℕ) → i < o + 5 → getD m3 i 0 ≡ getD m1 i 0
+  front i h = w3 .others i (λ a b. omega arith) ∙ w2 .others i (λ a b. omega arith)
+
+  -- the first picture's
+  middle : (i : ℕ) → i < o + behindAt → getD m3 i 0 ≡ getD m2 i 0
+  middle i h = w3 .others i λ a b. omega arith
+
+  module _ {j : ℕ} {w : Use} {x : ℕ} {y : List ℕ} {x′ : ℕ} {y′ : List ℕ} (r : Row m3 n j w x y x′ y′) where
+    this-row : j ≡ k → SameUse n u t v t′ v′ w x y x′ y′
+    this-row e =
+        let q : j * memoRow ≡ o = omega arith in
+        let a : Notes m3 o w = rw q at (r .noted) in
+        let b : Pictures m3 (o + beforeAt) n x y = rw q at (r .before) in
+        let c : Pictures m3 (o + behindAt) n x′ y′ = rw q at (r .behind) in
+        record {
+          seconds-is = sym (a .seconds-is) ∙ front (o + 1) (omega arith) ∙ n1 .seconds-is;
+          fault-is = sym (a .fault-is) ∙ front (o + 2) (omega arith) ∙ n1 .fault-is;
+          at-is = sym (a .at-is) ∙ front (o + 3) (omega arith) ∙ n1 .at-is;
+          end-is = sym (a .end-is) ∙ front (o + 4) (omega arith) ∙ n1 .end-is;
+          table-is = sym (b .table-is) ∙ middle (o + beforeAt) (omega arith) ∙ p2 .table-is;
+          pins-are = λ s h. sym (b .pins-are s h) ∙ ap (λ (z : ℕ). z % 256) (middle (o + beforeAt + 1 + s) (omega arith)) ∙ p2 .pins-are s h;
+          behind-is = sym (c .table-is) ∙ p3 .table-is;
+          behind-are = λ s h. sym (c .pins-are s h) ∙ p3 .pins-are s h;
+        }
+
+    other-row : (j ≡ k → ⊥) → Row m n j w x y x′ y′
+    other-row d = record {
+      noted = record {
+        in-use = sym (away (j * memoRow) (omega arith) (omega arith)) ∙ r .noted .in-use;
+        seconds-is = sym (away (j * memoRow + 1) (omega arith) (omega arith)) ∙ r .noted .seconds-is;
+        fault-is = sym (away (j * memoRow + 2) (omega arith) (omega arith)) ∙ r .noted .fault-is;
+        at-is = sym (away (j * memoRow + 3) (omega arith) (omega arith)) ∙ r .noted .at-is;
+        end-is = sym (away (j * memoRow + 4) (omega arith) (omega arith)) ∙ r .noted .end-is;
+      };
+      before = record {
+        table-is = sym (away (j * memoRow + beforeAt) (omega arith) (omega arith)) ∙ r .before .table-is;
+        pins-are = λ s h. ap (λ (z : ℕ). z % 256) (sym (away (j * memoRow + beforeAt + 1 + s) (omega arith) (omega arith))) ∙ r .before .pins-are s h;
+      };
+      behind = record {
+        table-is = sym (away (j * memoRow + behindAt) (omega arith) (omega arith)) ∙ r .behind .table-is;
+        pins-are = λ s h. ap (λ (z : ℕ). z % 256) (sym (away (j * memoRow + behindAt + 1 + s) (omega arith) (omega arith))) ∙ r .behind .pins-are s h;
+      };
+    }
+      where
+        away : (i : ℕ) → j * memoRow ≤ i → i < j * memoRow + memoRow → getD m3 i 0 ≡ getD m i 0
+        away i a b = elsewhere i λ p q. d (omega arith)
+
+  -- THE LAW
+  pub row-written : Remembered m m3 n u t v t′ v′
+  row-written = record {
+    long = w3 .long ∙ w2 .long ∙ w1 .long;
+    each = λ j w x y x′ y′ r. by j w x y x′ y′ r (eqb j k) refl;
+  }
+    where
+      by : (j : ℕ) (w : Use) (x : ℕ) (y : List ℕ) (x′ : ℕ) (y′ : List ℕ) → Row m3 n j w x y x′ y′ → (z : Bool) → eqb j k ≡ z
+          → Row m n j w x y x′ y′ ⊎ SameUse n u t v t′ v′ w x y x′ y′
+      by j w x y x′ y′ r true e = inr (this-row r (eqb-true j k e))
+      by j w x y x′ y′ r false e = inl (other-row r (eqb-false j k e))
+
+-- no row was written
+pub row-kept : {m : List ℕ} {n : ℕ} {u : Use} {t : ℕ} {v : List ℕ} {t′ : ℕ} {v′ : List ℕ} → Remembered m m n u t v t′ v′
+row-kept = record { long = refl; each = λ j w x y x′ y′ r. inl r }
+
+-- nothing is in use
+pub zeros : (n i : ℕ) → getD {A = ℕ} (replicate n 0) i 0 ≡ 0
+zeros n i = by (ltb i n) refl
+  where
+    by : (z : Bool) → ltb i n ≡ z → getD {A = ℕ} (replicate n 0) i 0 ≡ 0
+    by true e = getD-replicate {A = ℕ} n i 0 0 (ltb-true i n e)
+    by false e = List·getD-eq-default {A = ℕ} (replicate n 0) 0 (omega (arith, length-replicate {A = ℕ} n 0, ltb-false i n e))

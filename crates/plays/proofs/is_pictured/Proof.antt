@@ -1,0 +1,82 @@
+-- Each turn compares the next signal's pin.
+use Prim.Native.Nat.{ℕ, _-_, _≤_}
+use native.Mathlib.Omega.{arith}
+use mathlib.Core.Path.{_≡_, sym, _∙_}
+use Rattle.plays.specs.Memo.{Pictures}
+use Rattle.plays.proofs.Memos.{pictures-none, pictures-next, pictures-all}
+use borrow.Author.Needs.{needs}
+use Rattle.plays.proofs.is_pictured.Statement.{statement}
+use Rattle.plays.proofs.is_pictured.Tie as tie
+
+abbrev Inv-loop : tie.InvT-loop
+Inv-loop memo o table values signals s₀ s = (s ≤ signals) × Pictures memo o s table values
+
+abbrev μ-loop : tie.MeasureT-loop
+μ-loop memo o table values signals s₀ s = signals - s
+
+mul-if1 : tie.Need-mul-if1 Inv-loop μ-loop
+mul-if1 c = search needs
+
+shared-slice-read-if1 : tie.Need-shared-slice-read-if1 Inv-loop μ-loop
+shared-slice-read-if1 c = omega arith
+
+returns : tie.Need-returns Inv-loop μ-loop
+returns c = λ e. let z : _≡_ {A = ℕ} 0 1 = cc in absurd (omega arith)
+
+loop-holds : tie.Need-loop-holds Inv-loop μ-loop
+loop-holds c = (omega arith, pictures-none (c .if1 .left))
+
+add-pin-of : tie.Need-add-pin-of Inv-loop μ-loop
+add-pin-of c = omega arith
+
+add-pin-of-2 : tie.Need-add-pin-of-2 Inv-loop μ-loop
+add-pin-of-2 c = omega arith
+
+mul-pin-of : tie.Need-mul-pin-of Inv-loop μ-loop
+mul-pin-of c = search needs
+
+shared-slice-read-pin-of : tie.Need-shared-slice-read-pin-of Inv-loop μ-loop
+shared-slice-read-pin-of c = omega arith
+
+pin-of-requires : tie.Need-pin-of-requires Inv-loop μ-loop
+pin-of-requires c κs = search needs
+
+shared-slice-read-if2 : tie.Need-shared-slice-read-if2 Inv-loop μ-loop
+shared-slice-read-if2 c = omega arith
+
+returns-2 : tie.Need-returns-2 Inv-loop μ-loop
+returns-2 c = λ e. let z : _≡_ {A = ℕ} 0 1 = cc in absurd (omega arith)
+
+add-s : tie.Need-add-s Inv-loop μ-loop
+add-s c = omega arith
+
+loop-less : tie.Need-loop-less Inv-loop μ-loop
+loop-less c = omega arith
+
+loop-again : tie.Need-loop-again Inv-loop μ-loop
+loop-again c = (omega arith, pictures-next (c .before .before .before .before .before .loop .inv .1) (sym (c .before .before .pin-of .ensures) ∙ c .if2 .left))
+
+returns-3 : tie.Need-returns-3 Inv-loop μ-loop
+returns-3 c = λ e. pictures-all (omega arith) (c .before .loop .inv .1)
+
+pub is-pictured-spec : {M : Type 1} → statement M
+is-pictured-spec =
+    tie.close
+    (tie.spec
+    Inv-loop
+    μ-loop
+    mul-if1
+    shared-slice-read-if1
+    returns
+    loop-holds
+    add-pin-of
+    add-pin-of-2
+    mul-pin-of
+    shared-slice-read-pin-of
+    pin-of-requires
+    shared-slice-read-if2
+    returns-2
+    add-s
+    loop-less
+    loop-again
+    returns-3)

@@ -1,0 +1,76 @@
+-- Five numbers are stored.
+use native.Mathlib.Omega.{arith}
+use lib.ListN.{length-set}
+use Rattle.plays.proofs.Memos.{note-written}
+use borrow.Author.Needs.{needs}
+use Rattle.plays.proofs.note.Statement.{statement}
+use Rattle.plays.proofs.note.Tie as tie
+
+mul-memo : tie.Need-mul-memo
+mul-memo c = search needs
+
+slice-write-memo : tie.Need-slice-write-memo
+slice-write-memo c = search needs
+
+add-memo : tie.Need-add-memo
+add-memo c = search needs
+
+mul-memo-2 : tie.Need-mul-memo-2
+mul-memo-2 c = search needs
+
+slice-write-memo-2 : tie.Need-slice-write-memo-2
+slice-write-memo-2 c = rw length-set (omega arith)
+
+add-memo-2 : tie.Need-add-memo-2
+add-memo-2 c = search needs
+
+mul-memo-3 : tie.Need-mul-memo-3
+mul-memo-3 c = search needs
+
+slice-write-memo-3 : tie.Need-slice-write-memo-3
+slice-write-memo-3 c = rw (length-set, length-set) (omega arith)
+
+add-memo-3 : tie.Need-add-memo-3
+add-memo-3 c = search needs
+
+mul-memo-4 : tie.Need-mul-memo-4
+mul-memo-4 c = search needs
+
+slice-write-memo-4 : tie.Need-slice-write-memo-4
+slice-write-memo-4 c = rw (length-set, length-set, length-set) (omega arith)
+
+add-memo-4 : tie.Need-add-memo-4
+add-memo-4 c = search needs
+
+mul-memo-5 : tie.Need-mul-memo-5
+mul-memo-5 c = search needs
+
+slice-write-memo-5 : tie.Need-slice-write-memo-5
+slice-write-memo-5 c = rw (length-set, length-set, length-set, length-set) (omega arith)
+
+same-length : tie.Need-same-length
+same-length c = search needs
+
+returns : tie.Need-returns
+returns c = note-written _ _ _ (c .pre)
+
+pub note-spec : {M : Type 1} → statement M
+note-spec =
+    tie.close
+    (tie.spec
+    mul-memo
+    slice-write-memo
+    add-memo
+    mul-memo-2
+    slice-write-memo-2
+    add-memo-2
+    mul-memo-3
+    slice-write-memo-3
+    add-memo-3
+    mul-memo-4
+    slice-write-memo-4
+    add-memo-4
+    mul-memo-5
+    slice-write-memo-5
+    same-length
+    returns)
