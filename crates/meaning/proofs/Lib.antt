@@ -13,6 +13,7 @@ pub mod TwoTurns
 pub mod Rows
 pub mod Visits
 pub mod Windows
+pub mod Marks
 pub mod Accepted
 pub mod Unplaced
 pub mod Listed

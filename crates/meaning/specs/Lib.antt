@@ -14,6 +14,7 @@ pub mod Run
 pub mod Meaning
 pub mod Services
 pub mod Windows
+pub mod Marks
 pub mod Edited
 pub mod Open
 pub mod Samples
