@@ -16,8 +16,9 @@
  * numbers of the caller's, also where it is refused. It has a refusal of its own, 20.
  *
  * Where several refusals fit, the first of these is given: 1, 2, 3; then, of 4 to 14, the one that stands first in
- * the text; then 15, 16, 17, 18, 19. A text that lutemeteor_check accepts is refused by lutemeteor_name,
- * lutemeteor_window and lutemeteor_waveform for 18 or 19 only, and by lutemeteor_waveforms for 8 too.
+ * the text; then 15, 16, 17, 18, 19. A text that lutemeteor_check accepts is refused by lutemeteor_name and
+ * lutemeteor_waveform for 18 or 19 only, by lutemeteor_waveforms for 8 too, and by lutemeteor_window for 19,
+ * or for 12 at 0 before that: its mark is none.
  *
  * Pointers   Behind each pointer stands how many bytes or numbers are there; for a buffer, how many it has room
  *            for. All of them must be there during the call, numbers must be aligned as uint64_t is, and no buffer
@@ -69,7 +70,7 @@ enum {
     LUTEMETEOR_BAD_WAVEFORM = 11,    /* a character has its waveform already; the characters' word. Or there are too few
                                         or too many letters, or a time does not rise; the event's semicolon */
     LUTEMETEOR_BAD_DATA = 12,        /* no waveform character; the word. A signal assigned twice; its name. A wrong
-                                        length; the semicolon */
+                                        length; the semicolon. A letter, digit or LF as a window's mark; 0 */
     LUTEMETEOR_BAD_ARGUMENT = 13,    /* a `#` where none may stand; the `#`. An argument that no `#` takes, or of more
                                         signals than one; its name. A Shift without `#`; its closing brace. Arguments
                                         missing or of unfit lengths; the statement's last token */
@@ -123,18 +124,20 @@ uint64_t lutemeteor_name(const uint8_t *text, size_t length, uint8_t table, uint
  * Window: what the pins do in `wanted` cycles of the run from the cycle `first` on, counted from 0. There are fewer
  * rows where the run ends before, and none at or past its end. The cycles before `first` are not played.
  *
- *   rows         a row for each cycle, one behind the other: each signal's character in the order of the text (`.`
+ *   rows         a row for each cycle, one behind the other: each signal's character in the order of the text (`mark`
  *                where none is assigned yet), the number of the cycle's table as a digit, and LF
  *   numbers[0]   how many rows there are: the lesser of `wanted` and the cycles from `first` on
  *   numbers[1]   the visits: the steps that led to the first cycle, at most ten times the size of the run
  *
  * A row has signals + 2 bytes. wanted * (signals + 2) bytes are always enough for `rows`; it need have room only for
- * the rows that there are.
+ * the rows that there are. `mark` is any byte but a letter, a digit or LF: '?' where none is chosen, '.' in filed
+ * listings. Nothing else in a row depends on it.
  *
- * Refused 1 to 17; 19 where `rows_room` is less than the bytes of those rows, or `room` is less than 2.
+ * Refused 1 to 17; 12 at 0 where `mark` is a letter, a digit or LF, whatever is wanted; 19 where `rows_room` is less
+ * than the bytes of those rows, or `room` is less than 2.
  */
-uint64_t lutemeteor_window(const uint8_t *text, size_t length, uint64_t first, uint64_t wanted, uint8_t *rows,
-                           size_t rows_room, uint64_t *numbers, size_t room);
+uint64_t lutemeteor_window(const uint8_t *text, size_t length, uint64_t first, uint64_t wanted, uint8_t mark,
+                           uint8_t *rows, size_t rows_room, uint64_t *numbers, size_t room);
 
 /*
  * Waveform: the events of a character, as it stands in rows, for a signal in a table, both by their numbers.

@@ -9,7 +9,7 @@
 #include <inttypes.h>
 #include <stdio.h>
 
-enum { ROWS = 5, BESIDE = 36 };
+enum { ROWS = 5, BESIDE = 36, UNASSIGNED = '.' };
 
 /* One byte more than a text may have: a longer file is refused, and not cut. */
 struct text {
@@ -157,7 +157,7 @@ static uint64_t print_waveform(const struct text *text, uint64_t table, uint64_t
 static uint64_t print_waveform_in(const struct text *text, const uint8_t *row, uint64_t signals)
 {
     for (uint64_t signal = signals; signal > 0; signal--) {
-        if (row[signal - 1] != '.') {
+        if (row[signal - 1] != UNASSIGNED) {
             return print_waveform(text, row[signals] - (uint64_t)'0', signal - 1, row[signal - 1]);
         }
     }
@@ -169,7 +169,7 @@ static uint64_t print_middle(const struct text *text, uint64_t signals, uint64_t
     uint8_t rows[ROWS * LUTEMETEOR_ROW_MOST];
     uint64_t shown[2];
     uint64_t first = cycles > ROWS ? (cycles - ROWS) / 2 : 0;
-    uint64_t answer = lutemeteor_window(text->bytes, text->length, first, ROWS, rows, sizeof rows, shown, 2);
+    uint64_t answer = lutemeteor_window(text->bytes, text->length, first, ROWS, UNASSIGNED, rows, sizeof rows, shown, 2);
     if (answer != 0) {
         return answer;
     }

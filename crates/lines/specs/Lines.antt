@@ -52,7 +52,7 @@ helpLines = lines (
     "check FILE.."
     ∷ "name FILE signal N"
     ∷ "name FILE table N"
-    ∷ "window FILE FIRST COUNT"
+    ∷ "window FILE FIRST COUNT [MARK]"
     ∷ "waveform FILE TABLE SIGNAL CHARACTER"
     ∷ "tokens FILE"
     ∷ "intake FILE"

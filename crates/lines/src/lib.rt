@@ -173,7 +173,7 @@ pub fn help(page: &mut [u8], at: usize) -> usize
     let end = pages::put(
         page,
         at,
-        b"check FILE..\nname FILE signal N\nname FILE table N\nwindow FILE FIRST COUNT\n",
+        b"check FILE..\nname FILE signal N\nname FILE table N\nwindow FILE FIRST COUNT [MARK]\n",
     );
     pages::put(
         page,

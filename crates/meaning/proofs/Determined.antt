@@ -18,6 +18,6 @@ pub services-determined :
     Determined {A = List ℕ × ℕ} (λ q. nextToken (q .0) (q .1))
     × Determined check
     × Determined {A = List ℕ × Which × ℕ} (λ q. nameOf (q .0) (q .1) (q .2))
-    × Determined {A = List ℕ × ℕ × ℕ × List ℕ} (λ q. window (q .0) (q .1) (q .2) (q .3))
+    × Determined {A = List ℕ × ℕ × ℕ × ℕ × List ℕ} (λ q. window (q .0) (q .1) (q .2) (q .3) (q .4))
     × Determined {A = List ℕ × ℕ × ℕ × ℕ × List ℕ × List ℕ} (λ q. waveform (q .0) (q .1) (q .2) (q .3) (q .4) (q .5))
 services-determined = (determined _, determined _, determined _, determined _, determined _)

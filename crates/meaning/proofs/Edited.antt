@@ -1,5 +1,5 @@
 -- THE THEOREM of request 14: of two accepted texts that are equal up to one Pattern block and equal behind it, the block having the same name
--- in both, every listed pattern of another name gives the same rows, as many.
+-- in both, every listed pattern of another name gives the same rows, as many, whatever the mark.
 use mathlib.Core.Path.{_≡_, refl, sym, ap, _∙_, subst}
 use Prim.Native.Nat.{ℕ, _+_}
 use native.Mathlib.Nat.{zero-add}
@@ -76,13 +76,13 @@ module _ (front block back name : List ℕ) (P : PatternBlock (front ++ (block +
   opens = record { word = P .word; named = P .named; brace = P .brace; is = refl; is-named = P .is-named }
 
 -- THE THEOREM
-pub one-pattern-edited : (front block block′ back name : List ℕ) (m m′ : Meaning)
+pub one-pattern-edited : (mark : ℕ) (front block block′ back name : List ℕ) (m m′ : Meaning)
     → meaning (front ++ (block ++ back)) ≡ given m → meaning (front ++ (block′ ++ back)) ≡ given m′
     → PatternBlock (front ++ (block ++ back)) (length front) (length front + length block) name
     → PatternBlock (front ++ (block′ ++ back)) (length front) (length front + length block′) name
-    → OthersSame name (listedPatterns (front ++ (block ++ back))) (listedPatterns (front ++ (block′ ++ back)))
+    → OthersSame name (listedPatterns mark (front ++ (block ++ back))) (listedPatterns mark (front ++ (block′ ++ back)))
 unfolding listedPatterns listedOf toks over
-one-pattern-edited front block block′ back name m m′ e d P Q =
+one-pattern-edited mark front block block′ back name m m′ e d P Q =
     let B : Border = record {
       first = tok (P .word) (tok (P .named) (tok (P .brace) (P .inside)));
       second = tok (Q .word) (tok (Q .named) (tok (Q .brace) (Q .inside)));
@@ -103,5 +103,5 @@ one-pattern-edited front block block′ back name m m′ e d P Q =
     let g = agree name B (P .inside) (Q .inside) (opens front block back name P) (opens front block′ back name Q) E (l .0) _ _ (l .1)
     (a .doc) (a .rest) (a .read) (b .doc) (b .rest) (b .read) in
     rw (a .read, b .read) (
-    subst (λ (n : ℕ). OthersSame name (listedIn (length (a .doc .signals)) (a .doc .patterns) (a .doc .listed)) (listedIn n (b .doc .patterns) (b .doc .listed))) (g .signals)
-    (others-same name (length (a .doc .signals)) (a .doc .patterns) (b .doc .patterns) (g .patterns) (a .doc .listed) (b .doc .listed) (g .listed)))
+    subst (λ (n : ℕ). OthersSame name (listedIn mark (length (a .doc .signals)) (a .doc .patterns) (a .doc .listed)) (listedIn mark n (b .doc .patterns) (b .doc .listed))) (g .signals)
+    (others-same mark name (length (a .doc .signals)) (a .doc .patterns) (b .doc .patterns) (g .patterns) (a .doc .listed) (b .doc .listed) (g .listed)))

@@ -7,6 +7,7 @@ use Rattle.tokens.specs.Written.{bytes, lines}
 use Rattle.tokens.specs.Tokens.{toks}
 use Rattle.meaning.specs.Body.{done}
 use Rattle.meaning.specs.Meaning.{Answer, given, refused, Meaning, meaning}
+use Rattle.meaning.specs.Services.{dot}
 use Rattle.meaning.specs.Open.{everything}
 use Rattle.meaning.specs.Samples.{whole, twoSignals, oneGroup, oneTable, itsWaveforms, oneMacro, listing}
 use Rattle.meaning.specs.Edited.{fromToken, fromBrace, PatternBlock, alone, rowsOf, listedIn, listedOf, listedPatterns, OthersSame}
@@ -84,11 +85,11 @@ unfolding opened
 new-accepted = refl
 
 -- so the theorem speaks of them
-pub others-in-both : OthersSame (bytes "p") (listedPatterns (front ++ (old ++ back))) (listedPatterns (front ++ (new ++ back)))
-others-in-both = one-pattern-edited front old new back (bytes "p") _ _ old-accepted new-accepted old-block new-block
+pub others-in-both : OthersSame (bytes "p") (listedPatterns dot (front ++ (old ++ back))) (listedPatterns dot (front ++ (new ++ back)))
+others-in-both = one-pattern-edited dot front old new back (bytes "p") _ _ old-accepted new-accepted old-block new-block
 
 -- what is listed: the pattern in the middle alone is another
-pub listed-old : listedPatterns (front ++ (old ++ back)) ≡ (
+pub listed-old : listedPatterns dot (front ++ (old ++ back)) ≡ (
     record { name = bytes "q"; cycles = 1; rows = lines ("0L0" ∷ []) }
     ∷ record { name = bytes "p"; cycles = 1; rows = lines ("1H0" ∷ []) }
     ∷ record { name = bytes "r"; cycles = 2; rows = lines (".X0" ∷ ".X0" ∷ []) }
@@ -97,7 +98,7 @@ pub listed-old : listedPatterns (front ++ (old ++ back)) ≡ (
 unfolding opened
 listed-old = refl
 
-pub listed-new : listedPatterns (front ++ (new ++ back)) ≡ (
+pub listed-new : listedPatterns dot (front ++ (new ++ back)) ≡ (
     record { name = bytes "q"; cycles = 1; rows = lines ("0L0" ∷ []) }
     ∷ record { name = bytes "p"; cycles = 4; rows = lines ("0L0" ∷ "0L0" ∷ "0L0" ∷ "1L0" ∷ []) }
     ∷ record { name = bytes "r"; cycles = 2; rows = lines (".X0" ∷ ".X0" ∷ []) }

@@ -15,6 +15,7 @@ pub mod Visits
 pub mod Windows
 pub mod Charts
 pub mod ChartSamples
+pub mod Marks
 pub mod Accepted
 pub mod Unplaced
 pub mod Listed

@@ -25,32 +25,34 @@ never e = let z : _≡_ {A = ℕ} 0 1 = cc in absurd (omega arith)
 
 -- ---- cycles that are those of listed patterns, one after the other
 
-unfoldable Plays : List ListedRows → List Cycle → Type 0
-Plays [] cs = cs ≡ []
-Plays (x ∷ l) cs = (a : List Cycle) × (b : List Cycle) × (cs ≡ a ++ b) × (length a ≡ x .cycles) × (rows a ≡ x .rows) × Plays l b
+unfoldable Plays : ℕ → List ListedRows → List Cycle → Type 0
+Plays mark [] cs = cs ≡ []
+Plays mark (x ∷ l) cs =
+    (a : List Cycle) × (b : List Cycle) × (cs ≡ a ++ b) × (length a ≡ x .cycles) × (rows mark a ≡ x .rows) × Plays mark l b
 
-plays-rows : (l : List ListedRows) (cs : List Cycle) → Plays l cs → joinedRows l ≡ rows cs
+plays-rows : (mark : ℕ) (l : List ListedRows) (cs : List Cycle) → Plays mark l cs → joinedRows l ≡ rows mark cs
 unfolding Plays joinedRows rows
-plays-rows [] cs h = ap rows (sym h)
-plays-rows (x ∷ l) cs h =
-    ap₂ (λ (a b : List ℕ). a ++ b) (sym (h .4)) (plays-rows l (h .1) (h .5)) ∙ sym (rows-++ (h .0) (h .1)) ∙ ap rows (sym (h .2))
+plays-rows mark [] cs h = ap (rows mark) (sym h)
+plays-rows mark (x ∷ l) cs h =
+    ap₂ (λ (a b : List ℕ). a ++ b) (sym (h .4)) (plays-rows mark l (h .1) (h .5)) ∙ sym (rows-++ mark (h .0) (h .1)) ∙ ap (rows mark) (sym (h .2))
 
-plays-cycles : (l : List ListedRows) (cs : List Cycle) → Plays l cs → joinedCycles l ≡ length cs
+plays-cycles : (mark : ℕ) (l : List ListedRows) (cs : List Cycle) → Plays mark l cs → joinedCycles l ≡ length cs
 unfolding Plays joinedCycles
-plays-cycles [] cs h = ap length (sym h)
-plays-cycles (x ∷ l) cs h =
-    ap₂ (λ (a b : ℕ). a + b) (sym (h .3)) (plays-cycles l (h .1) (h .5)) ∙ sym (length-append (h .0) (h .1)) ∙ ap length (sym (h .2))
+plays-cycles mark [] cs h = ap length (sym h)
+plays-cycles mark (x ∷ l) cs h =
+    ap₂ (λ (a b : ℕ). a + b) (sym (h .3)) (plays-cycles mark l (h .1) (h .5)) ∙ sym (length-append (h .0) (h .1)) ∙ ap length (sym (h .2))
 
 -- those of one of them, behind those before it
-plays-one : (before : List ListedRows) (x : ListedRows) (after : List ListedRows) (cs : List Cycle) → Plays (before ++ x ∷ after) cs
-    → rows (take (x .cycles) (drop (joinedCycles before) cs)) ≡ x .rows
+plays-one : (mark : ℕ) (before : List ListedRows) (x : ListedRows) (after : List ListedRows) (cs : List Cycle) → Plays mark (before ++ x ∷ after) cs
+    → rows mark (take (x .cycles) (drop (joinedCycles before) cs)) ≡ x .rows
 unfolding Plays joinedCycles
-plays-one [] x after cs h = ap (λ (l : List Cycle). rows (take (x .cycles) l)) (h .2) ∙ ap rows (take-at (h .0) (h .1) (x .cycles) (h .3)) ∙ h .4
-plays-one (y ∷ before) x after cs h =
+plays-one mark [] x after cs h =
+    ap (λ (l : List Cycle). rows mark (take (x .cycles) l)) (h .2) ∙ ap (rows mark) (take-at (h .0) (h .1) (x .cycles) (h .3)) ∙ h .4
+plays-one mark (y ∷ before) x after cs h =
     let d : drop (y .cycles + joinedCycles before) cs ≡ drop (joinedCycles before) (h .1) =
     sym (drop-drop (joinedCycles before) (y .cycles) cs) ∙ ap (λ (l : List Cycle). drop (joinedCycles before) (drop (y .cycles) l)) (h .2)
     ∙ ap (drop (joinedCycles before)) (drop-at (h .0) (h .1) (y .cycles) (h .3)) in
-    ap (λ (l : List Cycle). rows (take (x .cycles) l)) d ∙ plays-one before x after (h .1) (h .5)
+    ap (λ (l : List Cycle). rows mark (take (x .cycles) l)) d ∙ plays-one mark before x after (h .1) (h .5)
 
 -- ---- those of the run are
 
@@ -64,16 +66,16 @@ unfolding cyclesOf play
 no-cycles n = refl
 
 -- the patterns k that the names l list, against the run r
-abbrev Shares : ℕ → List Tok → List ListedRows → Body → Type 0
-Shares n l k r = Plays k (cyclesOf n r) × (length k ≡ length l)
+abbrev Shares : ℕ → ℕ → List Tok → List ListedRows → Body → Type 0
+Shares mark n l k r = Plays mark k (cyclesOf n r) × (length k ≡ length l)
 
-shares : (n : ℕ) (ps : Decls) (l : List Tok) (r : Body) → runOf ps l ≡ given r → Shares n l (listedIn n ps l) r
+shares : (mark n : ℕ) (ps : Decls) (l : List Tok) (r : Body) → runOf ps l ≡ given r → Shares mark n l (listedIn mark n ps l) r
 unfolding runOf answering listedIn rowsOf Plays
-shares n ps [] r e = let q : r ≡ done = cc in (ap (cyclesOf n) q ∙ no-cycles n, refl)
-shares n ps (t ∷ l) r e = by (find ps (t .word)) e (shares n ps l)
+shares mark n ps [] r e = let q : r ≡ done = cc in (ap (cyclesOf n) q ∙ no-cycles n, refl)
+shares mark n ps (t ∷ l) r e = by (find ps (t .word)) e (shares mark n ps l)
   where
     on : (d : Decl) (a : Answer Body) → answering a (λ r. given (inner (entered listed 0 []) (d .body) r)) ≡ given r
-        → ((s : Body) → a ≡ given s → Shares n l (listedIn n ps l) s) → Shares n (t ∷ l) (rowsOf n (t .word) (d .body) ∷ listedIn n ps l) r
+        → ((s : Body) → a ≡ given s → Shares mark n l (listedIn mark n ps l) s) → Shares mark n (t ∷ l) (rowsOf mark n (t .word) (d .body) ∷ listedIn mark n ps l) r
     on d (refused m p) e ih = never e
     on d (given s) e ih =
         let q : r ≡ inner (entered listed 0 []) (d .body) s = cc in
@@ -86,8 +88,8 @@ shares n ps (t ∷ l) r e = by (find ps (t .word)) e (shares n ps l)
           | none ↦ refused notDefined (t .at)
           | some d ↦ answering (runOf ps l) λ r. given (inner (entered listed 0 []) (d .body) r)
         ]) (given r)
-        → ((s : Body) → runOf ps l ≡ given s → Shares n l (listedIn n ps l) s)
-        → Shares n (t ∷ l) (elim o [ none ↦ [] | some d ↦ rowsOf n (t .word) (d .body) ∷ listedIn n ps l ]) r
+        → ((s : Body) → runOf ps l ≡ given s → Shares mark n l (listedIn mark n ps l) s)
+        → Shares mark n (t ∷ l) (elim o [ none ↦ [] | some d ↦ rowsOf mark n (t .word) (d .body) ∷ listedIn mark n ps l ]) r
     by none e ih = never e
     by (some d) e ih = on d (runOf ps l) e ih
 
@@ -98,30 +100,30 @@ unfolding firsts
 length-firsts [] = refl
 length-firsts (x ∷ l) = ap suc (length-firsts l)
 
--- the listed patterns l against the meaning m: as many are listed, their cycles are the run's, their rows are all rows; and each one's rows are
--- those of a window at its first cycle, as long as it is
-pub record Together (l : List ListedRows) (m : Meaning) : Type 0 where
+-- the listed patterns l against the meaning m, with one mark: as many are listed, their cycles are the run's, their rows are all rows; and each
+-- one's rows are those of a window at its first cycle, as long as it is
+pub record Together (mark : ℕ) (l : List ListedRows) (m : Meaning) : Type 0 where
   pub as-many : length l ≡ m .listed
   pub as-cycles : joinedCycles l ≡ cycles 0 (m .run)
-  pub as-rows : joinedRows l ≡ rows (cyclesOf (length (m .signals)) (m .run))
+  pub as-rows : joinedRows l ≡ rows mark (cyclesOf (length (m .signals)) (m .run))
   pub as-windows : (before : List ListedRows) (x : ListedRows) (after : List ListedRows) → l ≡ before ++ x ∷ after
-      → windowRows m (joinedCycles before) (x .cycles) ≡ x .rows
+      → windowRows m (joinedCycles before) (x .cycles) mark ≡ x .rows
 
 -- THE LAW
-pub listed-together : (text : List ℕ) (m : Meaning) → meaning text ≡ given m → Together (listedPatterns text) m
+pub listed-together : (mark : ℕ) (text : List ℕ) (m : Meaning) → meaning text ≡ given m → Together mark (listedPatterns mark text) m
 unfolding listedPatterns listedOf
-listed-together text m e =
+listed-together mark text m e =
     let a = accepted text m e in
     let n = length (m .signals) in
     let w : length (a .doc .signals) ≡ n = sym (length-firsts (a .doc .signals)) ∙ ap length (a .signals) in
-    let k : listedIn n (a .doc .patterns) (a .doc .listed) ≡ listedPatterns text =
-    ap (λ (k : ℕ). listedIn k (a .doc .patterns) (a .doc .listed)) (sym w) ∙ ap listedOf (sym (a .read)) in
-    let h = shares n (a .doc .patterns) (a .doc .listed) (m .run) (a .run) in
-    let p : Plays (listedPatterns text) (cyclesOf n (m .run)) = subst (λ (l : List ListedRows). Plays l (cyclesOf n (m .run))) k (h .0) in
+    let k : listedIn mark n (a .doc .patterns) (a .doc .listed) ≡ listedPatterns mark text =
+    ap (λ (k : ℕ). listedIn mark k (a .doc .patterns) (a .doc .listed)) (sym w) ∙ ap (listedOf mark) (sym (a .read)) in
+    let h = shares mark n (a .doc .patterns) (a .doc .listed) (m .run) (a .run) in
+    let p : Plays mark (listedPatterns mark text) (cyclesOf n (m .run)) = subst (λ (l : List ListedRows). Plays mark l (cyclesOf n (m .run))) k (h .0) in
     record {
       as-many = ap length (sym k) ∙ h .1 ∙ a .listed;
-      as-cycles = plays-cycles _ _ p ∙ rows-are-cycles n (m .run);
-      as-rows = plays-rows _ _ p;
+      as-cycles = plays-cycles mark _ _ p ∙ rows-are-cycles n (m .run);
+      as-rows = plays-rows mark _ _ p;
       as-windows = λ before x after q.
-          window-rows m (joinedCycles before) (x .cycles) ∙ plays-one before x after _ (subst (λ (l : List ListedRows). Plays l (cyclesOf n (m .run))) q p);
+          window-rows m mark (joinedCycles before) (x .cycles) ∙ plays-one mark before x after _ (subst (λ (l : List ListedRows). Plays mark l (cyclesOf n (m .run))) q p);
     }

@@ -65,21 +65,21 @@ unfolding alone unplaced
 twins-alone b c h = ap (λ (x : Body). inner (entered listed 0 []) x done) h
 
 -- THE LAW, over what was read: every listed pattern of another name has as many cycles, and the same rows
-pub others-same : (name : List ℕ) (n : ℕ) (ps qs : Decls) → OthersTwins name ps qs → (l k : List Tok) → SameWords l k
-    → OthersSame name (listedIn n ps l) (listedIn n qs k)
+pub others-same : (mark : ℕ) (name : List ℕ) (n : ℕ) (ps qs : Decls) → OthersTwins name ps qs → (l k : List Tok) → SameWords l k
+    → OthersSame name (listedIn mark n ps l) (listedIn mark n qs k)
 unfolding listedIn OthersSame SameWords rowsOf
-others-same name n ps qs h [] [] s = tt
-others-same name n ps qs h [] (u ∷ k) s = absurd s
-others-same name n ps qs h (t ∷ l) [] s = absurd s
-others-same name n ps qs h (t ∷ l) (u ∷ k) s =
-    rw (← s .0) (by (find ps (t .word)) (find qs (t .word)) (found name ps qs h (t .word)) (others-same name n ps qs h l k (s .1)))
+others-same mark name n ps qs h [] [] s = tt
+others-same mark name n ps qs h [] (u ∷ k) s = absurd s
+others-same mark name n ps qs h (t ∷ l) [] s = absurd s
+others-same mark name n ps qs h (t ∷ l) (u ∷ k) s =
+    rw (← s .0) (by (find ps (t .word)) (find qs (t .word)) (found name ps qs h (t .word)) (others-same mark name n ps qs h l k (s .1)))
   where
-    by : (o q : Option Decl) → Found name (t .word) o q → OthersSame name (listedIn n ps l) (listedIn n qs k)
-        → OthersSame name (elim o [ none ↦ [] | some d ↦ rowsOf n (t .word) (d .body) ∷ listedIn n ps l ])
-        (elim q [ none ↦ [] | some d ↦ rowsOf n (t .word) (d .body) ∷ listedIn n qs k ])
+    by : (o q : Option Decl) → Found name (t .word) o q → OthersSame name (listedIn mark n ps l) (listedIn mark n qs k)
+        → OthersSame name (elim o [ none ↦ [] | some d ↦ rowsOf mark n (t .word) (d .body) ∷ listedIn mark n ps l ])
+        (elim q [ none ↦ [] | some d ↦ rowsOf mark n (t .word) (d .body) ∷ listedIn mark n qs k ])
     by none none f ih = tt
     by none (some c) f ih = absurd f
     by (some d) none f ih = absurd f
     by (some d) (some c) f ih =
         let same : (t .word ≡ name → ⊥) → Twins (alone (d .body)) (alone (c .body)) = λ z. twins-alone (d .body) (c .body) (f z) in
-        (refl, λ z. (twins-cycles (alone (d .body)) (alone (c .body)) (same z), twins-rows n (alone (d .body)) (alone (c .body)) (same z)), ih)
+        (refl, λ z. (twins-cycles (alone (d .body)) (alone (c .body)) (same z), twins-rows mark n (alone (d .body)) (alone (c .body)) (same z)), ih)

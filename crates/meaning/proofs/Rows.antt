@@ -7,7 +7,7 @@ use mathlib.Core.Bool.{Bool, true, false}
 use mathlib.Core.List.{List, [], _∷_, _++_}
 use lib.ListN.{length, replicate, length-append, length-set, length-replicate}
 use lib.Dec.{eqb}
-use Rattle.meaning.specs.Body.{Assigns, Args, mark, Setting, assigning, choosing, Kind, macro, procedure, listed, Way, looped, shifted, entered, Body, done, vec, set′, inner}
+use Rattle.meaning.specs.Body.{Assigns, Args, mark as hash, Setting, assigning, choosing, Kind, macro, procedure, listed, Way, looped, shifted, entered, Body, done, vec, set′, inner}
 use Rattle.meaning.specs.Run.{State, Cycle, Played, unassigned, cycles, turnsOf, shiftOf, put, puts, changed, cycleAt, follow, again, bare, entering, playing, play, start, cyclesOf}
 use Rattle.meaning.specs.Services.{shownAll, row, rows, rowWidth}
 
@@ -93,7 +93,7 @@ wide-either n false x y h k = k
 
 wide-put : (n : ℕ) (x : ℕ × ℕ) (s : State) → Wide n s → Wide n (put x s)
 unfolding put
-wide-put n x s w = wide-either n (eqb (x .1) mark) _ _ (length-set (s .pins) (x .0) _ ∙ w) (length-set (s .pins) (x .0) (x .1) ∙ w)
+wide-put n x s w = wide-either n (eqb (x .1) hash) _ _ (length-set (s .pins) (x .0) _ ∙ w) (length-set (s .pins) (x .0) (x .1) ∙ w)
 
 wide-puts : (n : ℕ) (xs : Assigns) (s : State) → Wide n s → Wide n (puts xs s)
 unfolding puts
@@ -120,18 +120,19 @@ every-cycle-wide n b = keeps-play n 0 b (start n) (length-replicate n unassigned
 
 -- ---- a row has one byte a signal, the digit, LF
 
-length-shown : (l : List ℕ) → length (shownAll l) ≡ length l
-unfolding shownAll
-length-shown [] = refl
-length-shown (c ∷ l) = ap suc (length-shown l)
+module _ (mark : ℕ) where
+  length-shown : (l : List ℕ) → length (shownAll mark l) ≡ length l
+  unfolding shownAll
+  length-shown [] = refl
+  length-shown (c ∷ l) = ap suc (length-shown l)
 
-pub row-width : (c : Cycle) (n : ℕ) → length (c .pins) ≡ n → length (row c) ≡ rowWidth n
-unfolding row rowWidth
-row-width c n h = length-append (shownAll (c .pins)) _ ∙ ap (λ (k : ℕ). k + 2) (length-shown (c .pins) ∙ h)
+  pub row-width : (c : Cycle) (n : ℕ) → length (c .pins) ≡ n → length (row mark c) ≡ rowWidth n
+  unfolding row rowWidth
+  row-width c n h = length-append (shownAll mark (c .pins)) _ ∙ ap (λ (k : ℕ). k + 2) (length-shown (c .pins) ∙ h)
 
-pub rows-width : (n : ℕ) (cs : List Cycle) → AllWide n cs → length (rows cs) ≡ length cs * rowWidth n
-unfolding rows
-rows-width n [] h = sym (zero-mul (rowWidth n))
-rows-width n (c ∷ cs) h =
-    length-append (row c) (rows cs) ∙ ap₂ (λ (a b : ℕ). a + b) (row-width c n (h .0)) (rows-width n cs (h .1))
-    ∙ add-comm (rowWidth n) (length cs * rowWidth n) ∙ sym (suc-mul (length cs) (rowWidth n))
+  pub rows-width : (n : ℕ) (cs : List Cycle) → AllWide n cs → length (rows mark cs) ≡ length cs * rowWidth n
+  unfolding rows
+  rows-width n [] h = sym (zero-mul (rowWidth n))
+  rows-width n (c ∷ cs) h =
+      length-append (row mark c) (rows mark cs) ∙ ap₂ (λ (a b : ℕ). a + b) (row-width c n (h .0)) (rows-width n cs (h .1))
+      ∙ add-comm (rowWidth n) (length cs * rowWidth n) ∙ sym (suc-mul (length cs) (rowWidth n))

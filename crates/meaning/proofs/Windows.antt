@@ -11,14 +11,15 @@ use lib.Dec.{leb}
 use borrow.Author.Tests.{le-leb}
 use Rattle.meaning.specs.Run.{Cycle, cycles, cyclesOf}
 use Rattle.meaning.specs.Meaning.{Answer, given, refused, answering, Meaning, meaning}
-use Rattle.meaning.specs.Services.{row, rows, rowWidth, Window, window, windowOf, windowRows, rowsDue, widthOf}
+use Rattle.meaning.specs.Services.{badMark, row, rows, rowWidth, Window, window, windowOf, rowsOut, windowRows, rowsDue, widthOf}
 use Rattle.meaning.specs.Windows.{Lent, rowsGiven, joined, Roomy, reach}
 use Rattle.meaning.proofs.Rows.{AllWide, rows-are-cycles, every-cycle-wide, rows-width}
 
-pub rows-++ : (cs ds : List Cycle) → rows (cs ++ ds) ≡ rows cs ++ rows ds
+pub rows-++ : (mark : ℕ) (cs ds : List Cycle) → rows mark (cs ++ ds) ≡ rows mark cs ++ rows mark ds
 unfolding rows
-rows-++ [] ds = refl
-rows-++ (c ∷ cs) ds = ap (λ (l : List ℕ). row c ++ l) (rows-++ cs ds) ∙ sym (append-assoc (row c) (rows cs) (rows ds))
+rows-++ mark [] ds = refl
+rows-++ mark (c ∷ cs) ds =
+    ap (λ (l : List ℕ). row mark c ++ l) (rows-++ mark cs ds) ∙ sym (append-assoc (row mark c) (rows mark cs) (rows mark ds))
 
 wide-take : (n k : ℕ) (cs : List Cycle) → AllWide n cs → AllWide n (take k cs)
 wide-take n zero cs h = tt
@@ -36,44 +37,45 @@ take-min zero l = simp unary-clauses
 take-min (suc k) [] = simp unary-clauses
 take-min (suc k) (x ∷ l) = simp unary-clauses (ap (λ r. x ∷ r) (take-min k l))
 
-module _ (m : Meaning) where
+module _ (m : Meaning) (mark : ℕ) where
   abbrev all : List Cycle
   all = cyclesOf (length (m .signals)) (m .run)
 
   -- the rows of a window are those of the next `wanted` cycles, as far as there are any
-  pub window-rows : (first wanted : ℕ) → windowRows m first wanted ≡ rows (take wanted (drop first all))
+  pub window-rows : (first wanted : ℕ) → windowRows m first wanted mark ≡ rows mark (take wanted (drop first all))
   unfolding windowRows rowsDue
   window-rows first wanted =
       let n : cycles 0 (m .run) - first ≡ length (drop first all) = ap (λ (k : ℕ). k - first) (sym (rows-are-cycles (length (m .signals)) (m .run))) ∙ sym (length-drop first all) in
-      ap (λ (k : ℕ). rows (take (min wanted k) (drop first all))) n ∙ ap rows (take-min wanted (drop first all))
+      ap (λ (k : ℕ). rows mark (take (min wanted k) (drop first all))) n ∙ ap (rows mark) (take-min wanted (drop first all))
 
-  pub window-width : (first wanted : ℕ) → length (windowRows m first wanted) ≡ rowsDue m first wanted * widthOf m
+  pub window-width : (first wanted : ℕ) → length (windowRows m first wanted mark) ≡ rowsDue m first wanted * widthOf m
   unfolding windowRows rowsDue widthOf
   window-width first wanted =
       let n = length (m .signals) in
       let d = drop first all in
       let k = min wanted (cycles 0 (m .run) - first) in
       let l : length d ≡ cycles 0 (m .run) - first = length-drop first all ∙ ap (λ (k : ℕ). k - first) (rows-are-cycles n (m .run)) in
-      rows-width n (take k d) (wide-take n k d (wide-drop n first all (every-cycle-wide n (m .run))))
+      rows-width mark n (take k d) (wide-take n k d (wide-drop n first all (every-cycle-wide n (m .run))))
       ∙ ap (λ (j : ℕ). j * rowWidth n) (length-take-le k d (omega arith))
 
   -- where there is room, a window gives them
-  window-gives : (text : List ℕ) → meaning text ≡ given m → (first wanted : ℕ) (buffer : List ℕ) → rowsDue m first wanted * widthOf m ≤ length buffer
-      → rowsGiven (widthOf m) (window text first wanted buffer) ≡ rows (take wanted (drop first all))
-  unfolding window answering windowOf rowsGiven
-  window-gives text e first wanted buffer h =
-      ap (λ (a : Answer Meaning). rowsGiven (widthOf m) (answering a λ m. windowOf m first wanted buffer)) e
-      ∙ rw (le-leb (rowsDue m first wanted * widthOf m) (length buffer) h, windowOf)
-      (take-at (windowRows m first wanted) (drop (rowsDue m first wanted * widthOf m) buffer) (rowsDue m first wanted * widthOf m) (window-width first wanted))
+  window-gives : (text : List ℕ) → meaning text ≡ given m → badMark mark ≡ false → (first wanted : ℕ) (buffer : List ℕ)
+      → rowsDue m first wanted * widthOf m ≤ length buffer
+      → rowsGiven (widthOf m) (window text first wanted mark buffer) ≡ rows mark (take wanted (drop first all))
+  unfolding window answering windowOf rowsOut rowsGiven
+  window-gives text e good first wanted buffer h =
+      ap (λ (a : Answer Meaning). rowsGiven (widthOf m) (answering a λ m. windowOf m first wanted mark buffer)) e
+      ∙ rw (good, le-leb (rowsDue m first wanted * widthOf m) (length buffer) h, windowOf, rowsOut)
+      (take-at (windowRows m first wanted mark) (drop (rowsDue m first wanted * widthOf m) buffer) (rowsDue m first wanted * widthOf m) (window-width first wanted))
       ∙ window-rows first wanted
 
-  -- THE LAW: laid end to end from any cycle
-  pub windows-join : (text : List ℕ) → meaning text ≡ given m → (first : ℕ) (ls : List Lent) → Roomy m first ls
-      → joined text (widthOf m) first ls ≡ rows (take (reach ls) (drop first all))
+  -- THE LAW: laid end to end from any cycle, all with one mark
+  pub windows-join : (text : List ℕ) → meaning text ≡ given m → badMark mark ≡ false → (first : ℕ) (ls : List Lent) → Roomy m first ls
+      → joined text (widthOf m) mark first ls ≡ rows mark (take (reach ls) (drop first all))
   unfolding joined Roomy reach rows
-  windows-join text e first [] h = refl
-  windows-join text e first (l ∷ ls) h =
-      ap₂ (λ (a b : List ℕ). a ++ b) (window-gives text e first (l .wanted) (l .buffer) (h .0)) (windows-join text e (first + l .wanted) ls (h .1))
-      ∙ ap (λ (d : List Cycle). rows (take (l .wanted) (drop first all)) ++ rows (take (reach ls) d)) (sym (drop-drop (l .wanted) first all))
-      ∙ sym (rows-++ (take (l .wanted) (drop first all)) (take (reach ls) (drop (l .wanted) (drop first all))))
-      ∙ ap rows (sym (take-add (l .wanted) (reach ls) (drop first all)))
+  windows-join text e good first [] h = refl
+  windows-join text e good first (l ∷ ls) h =
+      ap₂ (λ (a b : List ℕ). a ++ b) (window-gives text e good first (l .wanted) (l .buffer) (h .0)) (windows-join text e good (first + l .wanted) ls (h .1))
+      ∙ ap (λ (d : List Cycle). rows mark (take (l .wanted) (drop first all)) ++ rows mark (take (reach ls) d)) (sym (drop-drop (l .wanted) first all))
+      ∙ sym (rows-++ mark (take (l .wanted) (drop first all)) (take (reach ls) (drop (l .wanted) (drop first all))))
+      ∙ ap (rows mark) (sym (take-add (l .wanted) (reach ls) (drop first all)))

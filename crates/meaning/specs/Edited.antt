@@ -57,7 +57,7 @@ pub record PatternBlock (text : List ℕ) (p q : ℕ) (name : List ℕ) : Type 0
 
 -- ---- what each listed pattern gives
 
--- its name, how many cycles it has, and their rows
+-- its name, how many cycles it has, and their rows with some mark
 pub record ListedRows : Type 0 where
   pub name : List ℕ
   pub cycles : ℕ
@@ -67,20 +67,20 @@ pub record ListedRows : Type 0 where
 unfoldable pub alone : Body → Body
 alone b = inner (entered listed 0 []) b done
 
-unfoldable pub rowsOf : ℕ → List ℕ → Body → ListedRows
-rowsOf n w b = record { name = w; cycles = cycles 0 (alone b); rows = rows (cyclesOf n (alone b)) }
+unfoldable pub rowsOf : ℕ → ℕ → List ℕ → Body → ListedRows
+rowsOf mark n w b = record { name = w; cycles = cycles 0 (alone b); rows = rows mark (cyclesOf n (alone b)) }
 
 -- the listed names one by one, over n signals
-unfoldable pub listedIn : ℕ → Decls → List Tok → List ListedRows
-listedIn n ps [] = []
-listedIn n ps (t ∷ l) = elim (find ps (t .word)) [ none ↦ [] | some d ↦ rowsOf n (t .word) (d .body) ∷ listedIn n ps l ]
+unfoldable pub listedIn : ℕ → ℕ → Decls → List Tok → List ListedRows
+listedIn mark n ps [] = []
+listedIn mark n ps (t ∷ l) = elim (find ps (t .word)) [ none ↦ [] | some d ↦ rowsOf mark n (t .word) (d .body) ∷ listedIn mark n ps l ]
 
-unfoldable pub listedOf : Res Read → List ListedRows
-listedOf (ok d ts) = listedIn (length (d .signals)) (d .patterns) (d .listed)
-listedOf (refuse n p) = []
+unfoldable pub listedOf : ℕ → Res Read → List ListedRows
+listedOf mark (ok d ts) = listedIn mark (length (d .signals)) (d .patterns) (d .listed)
+listedOf mark (refuse n p) = []
 
-unfoldable pub listedPatterns : List ℕ → List ListedRows
-listedPatterns text = listedOf (document (toks text 0))
+unfoldable pub listedPatterns : ℕ → List ℕ → List ListedRows
+listedPatterns mark text = listedOf mark (document (toks text 0))
 
 -- ---- the same but for one name: number by number the same name is listed, and under any other the same rows, as many
 

@@ -15,6 +15,7 @@ pub mod Meaning
 pub mod Services
 pub mod Charts
 pub mod Windows
+pub mod Marks
 pub mod Edited
 pub mod Open
 pub mod Samples

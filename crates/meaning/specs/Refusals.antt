@@ -29,7 +29,7 @@ badGroup = 10
 abbrev pub badWaveform : ℕ
 badWaveform = 11
 
--- not a waveform character; signal twice; length wrong or above 4,096
+-- not a waveform character; signal twice; length wrong or above 4,096; a letter, digit or LF as mark
 abbrev pub badData : ℕ
 badData = 12
 

@@ -5,7 +5,7 @@ use mathlib.Core.List.{List, [], _∷_, _++_}
 use lib.ListN.{replicate}
 use Rattle.tokens.specs.Written.{bytes, lines}
 use Rattle.meaning.specs.Meaning.{Answer, given, refused}
-use Rattle.meaning.specs.Services.{check, Counts, Which, signal, table, nameOf, window, Window, waveform, Waveform}
+use Rattle.meaning.specs.Services.{check, Counts, Which, signal, table, nameOf, dot, question, window, Window, waveform, Waveform}
 
 -- ---- texts
 
@@ -101,8 +101,8 @@ pub data Ask : Type 0 where
   checks : List ℕ → Ask
   -- a text, the signal or table, its number
   names : List ℕ → Which → ℕ → Ask
-  -- a text, the first cycle, the wanted count, and so many bytes `#` lent
-  windows : List ℕ → ℕ → ℕ → ℕ → Ask
+  -- a text, the first cycle, the wanted count, the mark, and so many bytes `#` lent
+  windows : List ℕ → ℕ → ℕ → ℕ → ℕ → Ask
   -- a text, table, signal and character, and so many times and letters lent
   waves : List ℕ → ℕ → ℕ → ℕ → ℕ → Ask
 
@@ -117,7 +117,7 @@ unfoldable pub told : Ask → Answer (List ℕ)
 unfolding numbers
 told (checks t) = numbers (λ c. c .signals ∷ c .tables ∷ c .listed ∷ c .cycles ∷ c .size ∷ []) (check t)
 told (names t w k) = numbers (λ x. x .0 ∷ x .1 ∷ []) (nameOf t w k)
-told (windows t first wanted room) = numbers (λ w. w .count ∷ w .visits ∷ w .buffer) (window t first wanted (replicate room 35))
+told (windows t first wanted mark room) = numbers (λ w. w .count ∷ w .visits ∷ w .buffer) (window t first wanted mark (replicate room 35))
 told (waves t k s c room) = numbers (λ w. w .count ∷ w .times ++ w .letters) (waveform t k s c (replicate room 35) (replicate room 35))
 
 -- Document 01's samples (a) to (k)
@@ -127,25 +127,25 @@ edges =
     -- (a)
     (checks worked, given (2 ∷ 1 ∷ 1 ∷ 7 ∷ 10 ∷ []))
     -- (b)
-    ∷ (windows worked 0 0 0, given (0 ∷ 16 ∷ []))
+    ∷ (windows worked 0 0 dot 0, given (0 ∷ 16 ∷ []))
     -- (b)
-    ∷ (windows worked 3 0 0, given (0 ∷ 17 ∷ []))
+    ∷ (windows worked 3 0 dot 0, given (0 ∷ 17 ∷ []))
     -- (b)
-    ∷ (windows worked 6 0 0, given (0 ∷ 22 ∷ []))
+    ∷ (windows worked 6 0 dot 0, given (0 ∷ 22 ∷ []))
     -- (b)
-    ∷ (windows worked 7 0 0, given (0 ∷ 10 ∷ []))
+    ∷ (windows worked 7 0 dot 0, given (0 ∷ 10 ∷ []))
     -- (c); the rest of the buffer stays
-    ∷ (windows worked 2 2 10, given (2 ∷ 16 ∷ bytes "1H0\n0H0\n##"))
+    ∷ (windows worked 2 2 dot 10, given (2 ∷ 16 ∷ bytes "1H0\n0H0\n##"))
     -- (d)
-    ∷ (windows worked 7 5 2, given (0 ∷ 10 ∷ bytes "##"))
+    ∷ (windows worked 7 5 dot 2, given (0 ∷ 10 ∷ bytes "##"))
     -- (d)
-    ∷ (windows worked 18446744073709551615 18446744073709551615 2, given (0 ∷ 10 ∷ bytes "##"))
+    ∷ (windows worked 18446744073709551615 18446744073709551615 dot 2, given (0 ∷ 10 ∷ bytes "##"))
     -- (e)
     ∷ (checks (playing ("Pattern p { W t0; C { B = X; } Loop 2 { V { A = 1; } V { ab = 0H; } }" ∷ " Macro m { A = 101; B = L; } }" ∷ [])), refused 13 409)
     -- (f)
-    ∷ (windows (playing ("Pattern p { W t0; C { B = X; } Loop 2 { V { A = 1; } V { ab = 0H; } }" ∷ " Macro m { A = 1; B = ; } }" ∷ [])) 4 9 4, given (1 ∷ 22 ∷ bytes "1H0\n"))
+    ∷ (windows (playing ("Pattern p { W t0; C { B = X; } Loop 2 { V { A = 1; } V { ab = 0H; } }" ∷ " Macro m { A = 1; B = ; } }" ∷ [])) 4 9 dot 4, given (1 ∷ 22 ∷ bytes "1H0\n"))
     -- (g)
-    ∷ (windows (playing ("Pattern p { W t0; C { B = X; } Loop 2 { V { A = 1; } V { ab = 0H; } }" ∷ " Macro m { A = \\r4 01; B = \\r7 L; } }" ∷ [])) 4 9 32, given (8 ∷ 22 ∷ bytes "0L0\n1L0\n0L0\n1L0\n0L0\n1L0\n0L0\n1L0\n"))
+    ∷ (windows (playing ("Pattern p { W t0; C { B = X; } Loop 2 { V { A = 1; } V { ab = 0H; } }" ∷ " Macro m { A = \\r4 01; B = \\r7 L; } }" ∷ [])) 4 9 dot 32, given (8 ∷ 22 ∷ bytes "0L0\n1L0\n0L0\n1L0\n0L0\n1L0\n0L0\n1L0\n"))
     -- (h)
     ∷ (checks (grouping "SignalGroups { ab = 'A-A'; }" ([])), refused 10 59)
     -- (h)
@@ -165,21 +165,21 @@ unfoldable pub between : List Sample
 unfolding bytes lines worked figure14 playing grouping bodied timed listing signed both
 between =
     -- a procedure begins with the caller's table and nothing assigned; its caller's values and table come back
-    (windows (both "MacroDefs { } Procedures { keep { V { A = 0; } } change { W t1; V { A = 1; } } }" ("Pattern p { W t0; C { B = 1; } V { A = 1; } Call keep; V { } Call change; V { } }" ∷ [])) 0 9 20, given (5 ∷ 14 ∷ bytes "110\n0.0\n110\n1.1\n110\n"))
+    (windows (both "MacroDefs { } Procedures { keep { V { A = 0; } } change { W t1; V { A = 1; } } }" ("Pattern p { W t0; C { B = 1; } V { A = 1; } Call keep; V { } Call change; V { } }" ∷ [])) 0 9 dot 20, given (5 ∷ 14 ∷ bytes "110\n0.0\n110\n1.1\n110\n"))
     -- a macro runs in place: its table and its values stay
-    ∷ (windows (both "MacroDefs { m { W t1; C { B = 1; } } }" ("Pattern p { W t0; V { A = 0; } Macro m; V { } }" ∷ [])) 0 9 8, given (2 ∷ 9 ∷ bytes "0.0\n011\n"))
+    ∷ (windows (both "MacroDefs { m { W t1; C { B = 1; } } }" ("Pattern p { W t0; V { A = 0; } Macro m; V { } }" ∷ [])) 0 9 dot 8, given (2 ∷ 9 ∷ bytes "0.0\n011\n"))
     -- the second turn differs from the first
-    ∷ (windows (playing ("Pattern p { W t0; Loop 3 { V { B = L; } C { A = 1; } } }" ∷ [])) 0 9 12, given (3 ∷ 10 ∷ bytes ".L0\n1L0\n1L0\n"))
+    ∷ (windows (playing ("Pattern p { W t0; Loop 3 { V { B = L; } C { A = 1; } } }" ∷ [])) 0 9 dot 12, given (3 ∷ 10 ∷ bytes ".L0\n1L0\n1L0\n"))
     -- the patterns listed, the last and the repeated one too; each begins anew
-    ∷ (windows (listing "PatternBurst b { PatList { p; q; p; } }" ("Pattern p { W t0; V { A = 0; } }" ∷ "Pattern r { }" ∷ "Pattern q { W t0; V { B = H; } V { A = 1; } }" ∷ [])) 0 9 16, given (4 ∷ 5 ∷ bytes "0.0\n.H0\n1H0\n0.0\n"))
+    ∷ (windows (listing "PatternBurst b { PatList { p; q; p; } }" ("Pattern p { W t0; V { A = 0; } }" ∷ "Pattern r { }" ∷ "Pattern q { W t0; V { B = H; } V { A = 1; } }" ∷ [])) 0 9 dot 16, given (4 ∷ 5 ∷ bytes "0.0\n.H0\n1H0\n0.0\n"))
     -- an empty list
     ∷ (checks (listing "PatternBurst b { PatList { } }" ("Pattern p { }" ∷ [])), given (2 ∷ 1 ∷ 0 ∷ 0 ∷ 0 ∷ []))
     -- groups in the order of their terms; brackets; minus
-    ∷ (windows (grouping "SignalGroups { ba = 'B+A'; ab = 'ba-B+B'; a = '(A+B)-(B)'; c = 'A-A+B'; }" ("Pattern p { W t0; V { ba = L1; } V { a = 0; c = H; } }" ∷ [])) 0 9 8, given (2 ∷ 6 ∷ bytes "1L0\n0H0\n"))
+    ∷ (windows (grouping "SignalGroups { ba = 'B+A'; ab = 'ba-B+B'; a = '(A+B)-(B)'; c = 'A-A+B'; }" ("Pattern p { W t0; V { ba = L1; } V { a = 0; c = H; } }" ∷ [])) 0 9 dot 8, given (2 ∷ 6 ∷ bytes "1L0\n0H0\n"))
     -- a repeat says its whole word, between words that stand once
-    ∷ (windows (playing ("Pattern p { W t0; Macro m { A = 1 \\r2 01 10; B = \\r3 LH; } }" ∷ [])) 0 9 28, given (7 ∷ 14 ∷ bytes "1L0\n0H0\n1L0\n0H0\n1L0\n1H0\n0H0\n"))
+    ∷ (windows (playing ("Pattern p { W t0; Macro m { A = 1 \\r2 01 10; B = \\r3 LH; } }" ∷ [])) 0 9 dot 28, given (7 ∷ 14 ∷ bytes "1L0\n0H0\n1L0\n0H0\n1L0\n1H0\n0H0\n"))
     -- a Shift is entered at its turn
-    ∷ (windows worked 5 1 4, given (1 ∷ 22 ∷ bytes "0H0\n"))
+    ∷ (windows worked 5 1 dot 4, given (1 ∷ 22 ∷ bytes "0H0\n"))
     ∷ []
 
 -- each refusal, 1 to 19, with its place
@@ -269,7 +269,18 @@ refusals =
     -- a buffer too short
     ∷ (waves worked 0 1 72 1, refused 19 0)
     -- rows that do not fit
-    ∷ (windows worked 6 5 3, refused 19 0)
+    ∷ (windows worked 6 5 dot 3, refused 19 0)
+    -- another mark stands where the dot would, and nowhere else
+    ∷ (windows (playing ("Pattern p { W t0; Loop 3 { V { B = L; } C { A = 1; } } }" ∷ [])) 0 9 question 12, given (3 ∷ 10 ∷ bytes "?L0\n1L0\n1L0\n"))
+    -- a byte that no text may have is a mark too
+    ∷ (windows (playing ("Pattern p { W t0; V { B = L; } }" ∷ [])) 0 1 255 4, given (1 ∷ 5 ∷ 255 ∷ bytes "L0\n"))
+    -- a letter, a digit or LF is none, also where no row is wanted, and before the room is asked for
+    ∷ (windows worked 0 0 65 0, refused 12 0)
+    ∷ (windows worked 0 0 122 0, refused 12 0)
+    ∷ (windows worked 6 5 48 3, refused 12 0)
+    ∷ (windows worked 6 5 10 3, refused 12 0)
+    -- but the text's refusals come first
+    ∷ (windows (playing ("Pattern p { V { D = 1; } }" ∷ [])) 0 0 57 0, refused 6 328)
     ∷ []
 
 unfoldable pub samples : List Sample

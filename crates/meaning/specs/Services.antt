@@ -1,12 +1,13 @@
 -- The services as functions of the text, the numbers and the lent bytes (document 01, "The services"). The token service is that of `tokens`.
 use Prim.Native.Nat.{ℕ, zero, suc, _+_, _*_, _-_, min}
-use mathlib.Core.Bool.{Bool, true, false, _&&_}
+use mathlib.Core.Bool.{Bool, true, false, _&&_, _||_}
 use mathlib.Core.Option.{Option, none, some}
 use mathlib.Core.List.{List, [], _∷_, _++_}
 use lib.ListN.{length, take, drop}
 use lib.Dec.{leb, eqb}
+use Rattle.tokens.specs.Bytes.{letter, digit}
 use Rattle.tokens.specs.Tokens.{Tok}
-use Rattle.meaning.specs.Refusals.{noSuch, noRoom}
+use Rattle.meaning.specs.Refusals.{badData, noSuch, noRoom}
 use Rattle.meaning.specs.Timing.{Event, Wave, Tables}
 use Rattle.meaning.specs.Run.{Cycle, unassigned, size, cycles, cyclesOf, visits}
 use Rattle.meaning.specs.Meaning.{Answer, given, refused, answering, tableAt, Meaning, meaning, firsts}
@@ -51,25 +52,36 @@ nameOf text w k = answering (meaning text) λ m. nameAt (namesOf w m) k
 
 -- ---- Window: rows, and the visits
 
--- what stands in a row for a signal: its character, or `.`
-unfoldable pub shown : ℕ → ℕ
-shown c = elim (eqb c unassigned) [ true ↦ 46 | false ↦ c ]
+-- the marks that stand for an unassigned pin in filed listings, and where none is chosen
+abbrev pub dot : ℕ
+dot = 46
 
-unfoldable pub shownAll : List ℕ → List ℕ
-shownAll [] = []
-shownAll (c ∷ cs) = shown c ∷ shownAll cs
+abbrev pub question : ℕ
+question = 63
+
+-- no mark: it could be a pin's character or the table's digit, or would end the row
+unfoldable pub badMark : ℕ → Bool
+badMark mark = letter mark || digit mark || eqb mark 10
+
+-- what stands in a row for a signal: its character, or the mark
+unfoldable pub shown : ℕ → ℕ → ℕ
+shown mark c = elim (eqb c unassigned) [ true ↦ mark | false ↦ c ]
+
+unfoldable pub shownAll : ℕ → List ℕ → List ℕ
+shownAll mark [] = []
+shownAll mark (c ∷ cs) = shown mark c ∷ shownAll mark cs
 
 -- the table's number as a digit (a cycle without one is refused 17)
 unfoldable pub digitOf : Option ℕ → ℕ
 digitOf none = 48
 digitOf (some k) = 48 + k
 
-unfoldable pub row : Cycle → List ℕ
-row c = shownAll (c .pins) ++ digitOf (c .table) ∷ 10 ∷ []
+unfoldable pub row : ℕ → Cycle → List ℕ
+row mark c = shownAll mark (c .pins) ++ digitOf (c .table) ∷ 10 ∷ []
 
-unfoldable pub rows : List Cycle → List ℕ
-rows [] = []
-rows (c ∷ cs) = row c ++ rows cs
+unfoldable pub rows : ℕ → List Cycle → List ℕ
+rows mark [] = []
+rows mark (c ∷ cs) = row mark c ++ rows mark cs
 
 -- the bytes of a row over n signals
 unfoldable pub rowWidth : ℕ → ℕ
@@ -87,23 +99,27 @@ rowsDue m first wanted = min wanted (cycles 0 (m .run) - first)
 unfoldable pub widthOf : Meaning → ℕ
 widthOf m = rowWidth (length (m .signals))
 
-unfoldable pub windowRows : Meaning → ℕ → ℕ → List ℕ
-windowRows m first wanted = rows (take (rowsDue m first wanted) (drop first (cyclesOf (length (m .signals)) (m .run))))
+unfoldable pub windowRows : Meaning → ℕ → ℕ → ℕ → List ℕ
+windowRows m first wanted mark = rows mark (take (rowsDue m first wanted) (drop first (cyclesOf (length (m .signals)) (m .run))))
 
-unfoldable pub windowOf : Meaning → ℕ → ℕ → List ℕ → Answer Window
-windowOf m first wanted buffer =
+unfoldable pub rowsOut : Meaning → ℕ → ℕ → ℕ → List ℕ → Answer Window
+rowsOut m first wanted mark buffer =
     let bytes = rowsDue m first wanted * widthOf m in
     elim (leb bytes (length buffer)) [
       | false ↦ refused noRoom 0
       | true ↦ given (record {
         count = rowsDue m first wanted;
         visits = visits 0 (m .run) first;
-        buffer = windowRows m first wanted ++ drop bytes buffer;
+        buffer = windowRows m first wanted mark ++ drop bytes buffer;
       })
     ]
 
-unfoldable pub window : List ℕ → ℕ → ℕ → List ℕ → Answer Window
-window text first wanted buffer = answering (meaning text) λ m. windowOf m first wanted buffer
+-- a mark is refused for itself, whatever rows are due
+unfoldable pub windowOf : Meaning → ℕ → ℕ → ℕ → List ℕ → Answer Window
+windowOf m first wanted mark buffer = elim (badMark mark) [ true ↦ refused badData 0 | false ↦ rowsOut m first wanted mark buffer ]
+
+unfoldable pub window : List ℕ → ℕ → ℕ → ℕ → List ℕ → Answer Window
+window text first wanted mark buffer = answering (meaning text) λ m. windowOf m first wanted mark buffer
 
 -- ---- Waveform: the events of a table, signal and character
 

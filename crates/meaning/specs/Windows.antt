@@ -1,4 +1,4 @@
--- Windows laid end to end (document 01, "The services"; the third demand): what they give, joined.
+-- Windows laid end to end (document 01, "The services"; the third demand), all with one mark: what they give, joined.
 use Prim.Native.Nat.{ℕ, _+_, _*_, _≤_}
 use mathlib.Core.List.{List, [], _∷_, _++_}
 use lib.ListN.{length, take}
@@ -16,10 +16,10 @@ rowsGiven width (given w) = take (w .count * width) (w .buffer)
 rowsGiven width (refused n p) = []
 
 -- the rows of windows on a text, the first of them at a cycle, each of the others where the one before ends
-unfoldable pub joined : List ℕ → ℕ → ℕ → List Lent → List ℕ
-joined text width first [] = []
-joined text width first (l ∷ ls) =
-    rowsGiven width (window text first (l .wanted) (l .buffer)) ++ joined text width (first + l .wanted) ls
+unfoldable pub joined : List ℕ → ℕ → ℕ → ℕ → List Lent → List ℕ
+joined text width mark first [] = []
+joined text width mark first (l ∷ ls) =
+    rowsGiven width (window text first (l .wanted) mark (l .buffer)) ++ joined text width mark (first + l .wanted) ls
 
 -- each is lent room enough
 unfoldable pub Roomy : Meaning → ℕ → List Lent → Type 0

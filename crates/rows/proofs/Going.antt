@@ -90,13 +90,14 @@ module _ {signals : ℕ} where
         pass = λ x. refl;
         walking = still-past (w .walking) (length l) (w .pass) h;
         spending = spent-all (w .budget) v (w .walking) enough;
-        written = λ entry cs long x. subst (Written signals entry b) (sym (append-nil cs) ∙ ap (λ (l : List Cycle). cs ++ l) (sym none)) x;
+        marked = refl;
+        written = λ entry cs long x. subst (Written (w .mark) signals entry b) (sym (append-nil cs) ∙ ap (λ (l : List Cycle). cs ++ l) (sym none)) x;
         long = refl;
       }
 
   pub went-spent : (w : Walk) (v : ℕ) (b : List ℕ) → over w ≡ false → (w .walking ≡ true → v ≤ w .budget) → Went signals [] v w (spent w v) b b
   went-spent w v b going enough =
-      subst (λ (n : ℕ). Went signals [] v w (record { pass = n; row = w .row; show = w .show; budget = spent w v .budget; walking = w .walking }) b b)
+      subst (λ (n : ℕ). Went signals [] v w (record { pass = n; row = w .row; show = w .show; budget = spent w v .budget; walking = w .walking; mark = w .mark }) b b)
       (sub-zero (w .pass)) (went-past [] v w b going enough (omega arith))
 
   -- ---- one part behind the other
@@ -123,7 +124,8 @@ module _ {signals : ℕ} where
           walking = still ∙ still-both (length a) (length b) (w .pass) (w .walking) ∙ ap (λ (n : ℕ). w .walking && leb n (w .pass)) (sym (length-append a b));
           spending = spent-both (w .budget) v (w .walking) (leb (length a) (w .pass)) u (w′ .budget) (w″ .budget) (p .spending)
               (q .spending ∙ ap (λ (k : Bool). w″ .budget + spends k u) (p .walking));
-          written = λ entry cs h k. subst (Written signals entry z) (append-assoc cs shown more ∙ ap (λ (l : List Cycle). cs ++ l) (sym all))
+          marked = q .marked ∙ p .marked;
+          written = λ entry cs h k. subst (Written (w″ .mark) signals entry z) (append-assoc cs shown more ∙ ap (λ (l : List Cycle). cs ++ l) (sym all))
               (q .written entry (cs ++ shown) (omega (arith, length-append cs shown, p .rows)) (p .written entry cs h k));
           long = q .long ∙ p .long;
         }
@@ -143,7 +145,8 @@ module _ {signals : ℕ} where
           walking = done .0 ∙ sym (reached-both (length a) (length b) (w .pass) (w .walking) reached)
               ∙ ap (λ (n : ℕ). w .walking && leb n (w .pass)) (sym (length-append a b));
           spending = spent-over (w .budget) v (w .walking) (leb (length a) (w .pass)) u (w′ .budget) (p .spending) reached;
-          written = λ entry cs h k. subst (λ (l : List Cycle). Written signals entry y (cs ++ l)) (sym all) (p .written entry cs h k);
+          marked = p .marked;
+          written = λ entry cs h k. subst (λ (l : List Cycle). Written (w′ .mark) signals entry y (cs ++ l)) (sym all) (p .written entry cs h k);
           long = p .long;
         }
 
@@ -156,6 +159,7 @@ module _ {signals : ℕ} where
       pass = p .pass;
       walking = p .walking;
       spending = spent-into (w .budget) v (w .walking) c (w′ .budget) enough (p .spending);
+      marked = p .marked;
       written = p .written;
       long = p .long;
     }
@@ -172,7 +176,8 @@ module _ {signals : ℕ} where
           walking = p .walking ∙ ap (λ (k : Bool). k && leb (length b) (w .pass - length a)) (still-past (w .walking) (length a) (w .pass) h)
               ∙ still-both (length a) (length b) (w .pass) (w .walking) ∙ ap (λ (n : ℕ). w .walking && leb n (w .pass)) (sym (length-append a b));
           spending = p .spending;
-          written = λ entry cs g k. subst (λ (l : List Cycle). Written signals entry y (cs ++ l)) (sym all) (p .written entry cs g k);
+          marked = p .marked;
+          written = λ entry cs g k. subst (λ (l : List Cycle). Written (w′ .mark) signals entry y (cs ++ l)) (sym all) (p .written entry cs g k);
           long = p .long;
         }
 

@@ -54,7 +54,7 @@ spent-one {w} {x} enough s = spent-all (w .budget) 1 (w .walking) enough ∙ ap 
 
 module _ {signals : ℕ} {w x : Walk} (c : Cycle) (b : List ℕ) (pass : w .pass ≡ 0) (enough : w .walking ≡ true → 1 ≤ w .budget) (s : x ≡ spent w 1) where
   -- no row is to be shown
-  pub went-unshown : w .show ≡ 0 → Went signals (c ∷ []) 1 w (record { pass = 0; row = w .row; show = 0; budget = x .budget; walking = false }) b b
+  pub went-unshown : w .show ≡ 0 → Went signals (c ∷ []) 1 w (record { pass = 0; row = w .row; show = 0; budget = x .budget; walking = false; mark = w .mark }) b b
   went-unshown none =
       let all : seen (w .pass) (w .show) (c ∷ []) ≡ [] = ap (λ (m : ℕ). seen (w .pass) m (c ∷ [])) none in
       let count : length (seen (w .pass) (w .show) (c ∷ [])) ≡ 0 = ap length all in
@@ -64,14 +64,16 @@ module _ {signals : ℕ} {w x : Walk} (c : Cycle) (b : List ℕ) (pass : w .pass
         pass = λ h. omega arith;
         walking = reached-one (w .walking) (w .pass) pass;
         spending = spent-one enough s;
-        written = λ entry cs h k. subst (Written signals entry b) (sym (append-nil cs) ∙ ap (λ (l : List Cycle). cs ++ l) (sym all)) k;
+        marked = refl;
+        written = λ entry cs h k. subst (Written (w .mark) signals entry b) (sym (append-nil cs) ∙ ap (λ (l : List Cycle). cs ++ l) (sym all)) k;
         long = refl;
       }
 
   -- THE ROW, in its part of the buffer, which comes back
   pub went-shown : 0 < w .show → (at : ℕ) → at ≡ w .row * (signals + 2) → length (c .pins) ≡ signals → (ys : List ℕ)
-      → ys ≡ row c ++ drop (rowWidth signals) (take (length b - at) (drop at b)) → length ys ≡ length (take (length b - at) (drop at b))
-      → Went signals (c ∷ []) 1 w (record { pass = 0; row = w .row + 1; show = w .show - 1; budget = x .budget; walking = false }) b (take at b ++ (ys ++ drop (length b - at) (drop at b)))
+      → ys ≡ row (w .mark) c ++ drop (rowWidth signals) (take (length b - at) (drop at b)) → length ys ≡ length (take (length b - at) (drop at b))
+      → Went signals (c ∷ []) 1 w (record { pass = 0; row = w .row + 1; show = w .show - 1; budget = x .budget; walking = false; mark = w .mark }) b
+      (take at b ++ (ys ++ drop (length b - at) (drop at b)))
   unfolding rowWidth
   went-shown some at place wide ys is same =
       let all : seen (w .pass) (w .show) (c ∷ []) ≡ c ∷ [] = ap (λ (n : ℕ). seen n (w .show) (c ∷ [])) pass ∙ sym (through-one c (w .show) some .shown) in
@@ -82,7 +84,8 @@ module _ {signals : ℕ} {w x : Walk} (c : Cycle) (b : List ℕ) (pass : w .pass
         pass = λ h. omega arith;
         walking = reached-one (w .walking) (w .pass) pass;
         spending = spent-one enough s;
-        written = λ entry cs h k. subst (λ (l : List Cycle). Written signals entry (take at b ++ (ys ++ drop (length b - at) (drop at b))) (cs ++ l)) (sym all)
+        marked = refl;
+        written = λ entry cs h k. subst (λ (l : List Cycle). Written (w .mark) signals entry (take at b ++ (ys ++ drop (length b - at) (drop at b))) (cs ++ l)) (sym all)
             (written-row k at (place ∙ ap (λ (n : ℕ). n * (signals + 2)) (sym h)) c wide ys is);
         long = same-len-mid at (length b - at) b ys same;
       }

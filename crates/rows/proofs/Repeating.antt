@@ -66,60 +66,60 @@ unfolding copies
 copies-turn zero l = append-nil l
 copies-turn (suc n) l = ap (λ (x : List Cycle). l ++ x) (copies-turn n l) ∙ sym (append-assoc l (copies n l) l)
 
-rows-turn : (n : ℕ) (l : List Cycle) → rows l ++ rows (copies n l) ≡ rows (copies n l) ++ rows l
-rows-turn n l = sym (rows-++ l (copies n l)) ∙ ap rows (copies-turn n l) ∙ rows-++ (copies n l) l
+rows-turn : (mark n : ℕ) (l : List Cycle) → rows mark l ++ rows mark (copies n l) ≡ rows mark (copies n l) ++ rows mark l
+rows-turn mark n l = sym (rows-++ mark l (copies n l)) ∙ ap (rows mark) (copies-turn n l) ∙ rows-++ mark (copies n l) l
 
-module _ (signals : ℕ) where
-  even-front : (m : ℕ) (l : List Cycle) → AllWide signals l → Even signals (take m l)
-  even-front zero l h = even-none signals
-  even-front (suc m) [] h = even-none signals
-  even-front (suc m) (c ∷ l) h = even-both signals (c ∷ []) (take m l) (even-one signals c (h .0)) (even-front m l (h .1))
+module _ (mark signals : ℕ) where
+  even-front : (m : ℕ) (l : List Cycle) → AllWide signals l → Even mark signals (take m l)
+  even-front zero l h = even-none mark signals
+  even-front (suc m) [] h = even-none mark signals
+  even-front (suc m) (c ∷ l) h = even-both mark signals (c ∷ []) (take m l) (even-one mark signals c (h .0)) (even-front m l (h .1))
 
-  even-copied : (n m : ℕ) (l : List Cycle) → AllWide signals l → Even signals (seen 0 m (copies n l))
+  even-copied : (n m : ℕ) (l : List Cycle) → AllWide signals l → Even mark signals (seen 0 m (copies n l))
   unfolding copies
-  even-copied zero m l h = subst (Even signals) (sym (take-nil m)) (even-none signals)
+  even-copied zero m l h = subst (Even mark signals) (sym (take-nil m)) (even-none mark signals)
   even-copied (suc n) m l h =
-      subst (Even signals) (sym (seen-copies 0 m n l (omega arith)))
-      (even-both signals (take m l) (seen 0 (m - (length l - 0)) (copies n l)) (even-front m l h) (even-copied n (m - (length l - 0)) l h))
+      subst (Even mark signals) (sym (seen-copies 0 m n l (omega arith)))
+      (even-both mark signals (take m l) (seen 0 (m - (length l - 0)) (copies n l)) (even-front m l h) (even-copied n (m - (length l - 0)) l h))
 
-  rows-front : (m : ℕ) (cs : List Cycle) → Even signals (take m cs) → take (length (take m cs) * rowWidth signals) (rows cs) ≡ rows (take m cs)
+  rows-front : (m : ℕ) (cs : List Cycle) → Even mark signals (take m cs) → take (length (take m cs) * rowWidth signals) (rows mark cs) ≡ rows mark (take m cs)
   rows-front m cs h =
-      ap (take (length (take m cs) * rowWidth signals)) (ap rows (sym (take-append-drop m cs)) ∙ rows-++ (take m cs) (drop m cs))
-      ∙ take-at (rows (take m cs)) (rows (drop m cs)) (length (take m cs) * rowWidth signals) h
+      ap (take (length (take m cs) * rowWidth signals)) (ap (rows mark) (sym (take-append-drop m cs)) ∙ rows-++ mark (take m cs) (drop m cs))
+      ∙ take-at (rows mark (take m cs)) (rows mark (drop m cs)) (length (take m cs) * rowWidth signals) h
 
 -- ---- the rows
 
-module _ {signals : ℕ} {entry before after : List ℕ} {at step count : ℕ} (ds l : List Cycle) (y : Written signals entry before (ds ++ l)) (wide : AllWide signals l)
+module _ {mark signals : ℕ} {entry before after : List ℕ} {at step count : ℕ} (ds l : List Cycle) (y : Written mark signals entry before (ds ++ l)) (wide : AllWide signals l)
     (x : Extends before at step count after) (room : at + count ≤ length before) (place : at ≡ length (ds ++ l) * rowWidth signals)
     (turn : step ≡ length l * rowWidth signals) (some : 0 < step) where
-  bytes : length (rows l) ≡ step
-  bytes = rows-width signals l wide ∙ sym turn
+  bytes : length (rows mark l) ≡ step
+  bytes = rows-width mark signals l wide ∙ sym turn
 
-  both : length (rows ds) + step ≡ at
-  both = omega (arith, bytes, length-append (rows ds) (rows l), ap length (rows-++ ds l), y .even)
+  both : length (rows mark ds) + step ≡ at
+  both = omega (arith, bytes, length-append (rows mark ds) (rows mark l), ap length (rows-++ mark ds l), y .even)
 
   -- the turn's rows stand before the place
-  parted : after ≡ rows ds ++ (rows l ++ drop at after)
+  parted : after ≡ rows mark ds ++ (rows mark l ++ drop at after)
   parted =
-      let front : take at before ≡ rows (ds ++ l) = ap (take at) (y .is) ∙ take-at (rows (ds ++ l)) _ at (y .even ∙ sym place) in
-      sym (take-append-drop at after) ∙ ap (λ (k : List ℕ). k ++ drop at after) (front-kept x room ∙ front ∙ rows-++ ds l)
-      ∙ append-assoc (rows ds) (rows l) (drop at after)
+      let front : take at before ≡ rows mark (ds ++ l) = ap (take at) (y .is) ∙ take-at (rows mark (ds ++ l)) _ at (y .even ∙ sym place) in
+      sym (take-append-drop at after) ∙ ap (λ (k : List ℕ). k ++ drop at after) (front-kept x room ∙ front ∙ rows-++ mark ds l)
+      ∙ append-assoc (rows mark ds) (rows mark l) (drop at after)
 
-  from-turn : drop (at - step) after ≡ rows l ++ drop at after
-  from-turn = ap (drop (at - step)) parted ∙ drop-at (rows ds) (rows l ++ drop at after) (at - step) (omega (arith, both))
+  from-turn : drop (at - step) after ≡ rows mark l ++ drop at after
+  from-turn = ap (drop (at - step)) parted ∙ drop-at (rows mark ds) (rows mark l ++ drop at after) (at - step) (omega (arith, both))
 
   -- THE LAW: as many rows of further turns as there are bytes
-  pub written-again : (n m : ℕ) → count ≡ length (seen 0 m (copies n l)) * rowWidth signals → Written signals entry after ((ds ++ l) ++ seen 0 m (copies n l))
+  pub written-again : (n m : ℕ) → count ≡ length (seen 0 m (copies n l)) * rowWidth signals → Written mark signals entry after ((ds ++ l) ++ seen 0 m (copies n l))
   written-again n m e =
       let new = seen 0 m (copies n l) in
-      let even = even-copied signals n m l wide in
-      let front = rows-front signals m (copies n l) even in
-      let long : count ≤ length (rows (copies n l)) = omega (arith, ap length front, length-take (length new * rowWidth signals) (rows (copies n l))) in
-      let run : take count (drop at after) ≡ rows new =
-      alike (rows l) (drop at after) (rows (copies n l)) (omega (arith, bytes)) (rows-turn n l) count long (run-repeats x room (omega (arith, both)) ∙ ap (take count) from-turn)
-      ∙ ap (λ (k : ℕ). take k (rows (copies n l))) e ∙ front in
+      let even = even-copied mark signals n m l wide in
+      let front = rows-front mark signals m (copies n l) even in
+      let long : count ≤ length (rows mark (copies n l)) = omega (arith, ap length front, length-take (length new * rowWidth signals) (rows mark (copies n l))) in
+      let run : take count (drop at after) ≡ rows mark new =
+      alike (rows mark l) (drop at after) (rows mark (copies n l)) (omega (arith, bytes)) (rows-turn mark n l) count long (run-repeats x room (omega (arith, both)) ∙ ap (take count) from-turn)
+      ∙ ap (λ (k : ℕ). take k (rows mark (copies n l))) e ∙ front in
       let rest : drop count (drop at after) ≡ drop (length new * rowWidth signals) (drop at before) =
       drop-drop count at after ∙ rest-kept x room ∙ sym (drop-drop count at before) ∙ ap (λ (k : ℕ). drop k (drop at before)) e in
-      subst (λ (b : List ℕ). Written signals entry b ((ds ++ l) ++ new))
+      subst (λ (b : List ℕ). Written mark signals entry b ((ds ++ l) ++ new))
       (ap (λ (k : List ℕ). k ++ drop at after) (sym (front-kept x room)) ∙ take-append-drop at after)
       (written-more y at place new even (drop at after) (sym (take-append-drop count (drop at after)) ∙ ap₂ (λ (a b : List ℕ). a ++ b) run rest))

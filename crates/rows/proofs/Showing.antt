@@ -20,13 +20,13 @@ use Rattle.rows.specs.Went.{Cycled}
 
 -- ---- the row
 
-pub shown-none : (b : ℕ) → b ≡ 0 → shown b ≡ 46
+pub shown-none : (mark b : ℕ) → b ≡ 0 → shown mark b ≡ mark
 unfolding shown
-shown-none b h = rw (eq-eqb b 0 h, shown)
+shown-none mark b h = rw (eq-eqb b 0 h, shown)
 
-pub shown-char : (b : ℕ) → (b ≡ 0 → ⊥) → shown b ≡ b
+pub shown-char : (mark b : ℕ) → (b ≡ 0 → ⊥) → shown mark b ≡ b
 unfolding shown
-shown-char b h = rw (ne-eqb b 0 h, shown)
+shown-char mark b h = rw (ne-eqb b 0 h, shown)
 
 pub digit-some : (table : ℕ) → table < tablesMost → digitOf (tableOf table) ≡ 48 + table
 unfolding digitOf
@@ -40,14 +40,15 @@ pub cycled-wide : {signals table : ℕ} {values : List ℕ} {c : Cycle} → Cycl
 cycled-wide {signals} {table} {values} z h = ap length (z .pins-are) ∙ length-take-le signals values h
 
 -- one byte a signal: a row has two more
-shown-length : (l : List ℕ) → length (shownAll l) ≡ length l
+shown-length : (mark : ℕ) (l : List ℕ) → length (shownAll mark l) ≡ length l
 unfolding row rowWidth
-shown-length l = omega (arith, row-width (record { at = 0; table = none; pins = l }) (length l) refl, length-append (shownAll l) (digitOf none ∷ 10 ∷ []))
+shown-length mark l =
+    omega (arith, row-width mark (record { at = 0; table = none; pins = l }) (length l) refl, length-append (shownAll mark l) (digitOf none ∷ 10 ∷ []))
 
-shown-more : (l : List ℕ) (b : ℕ) → shownAll (l ++ b ∷ []) ≡ shownAll l ++ shown b ∷ []
+shown-more : (mark : ℕ) (l : List ℕ) (b : ℕ) → shownAll mark (l ++ b ∷ []) ≡ shownAll mark l ++ shown mark b ∷ []
 unfolding shownAll
-shown-more [] b = refl
-shown-more (x ∷ l) b = ap (λ (r : List ℕ). shown x ∷ r) (shown-more l b)
+shown-more mark [] b = refl
+shown-more mark (x ∷ l) b = ap (λ (r : List ℕ). shown mark x ∷ r) (shown-more mark l b)
 
 -- ---- the part
 
@@ -59,46 +60,46 @@ over-all (x ∷ xs) [] h = absurd (omega arith)
 over-all (x ∷ xs) (b ∷ part) h = ap (λ (l : List ℕ). x ∷ l) (over-all xs part (omega arith))
 
 -- the first s signals stand there
-pub record Showed (values before : List ℕ) (s : ℕ) (part : List ℕ) : Type 0 where
-  pub is : part ≡ over (shownAll (take s values)) before
+pub record Showed (mark : ℕ) (values before : List ℕ) (s : ℕ) (part : List ℕ) : Type 0 where
+  pub is : part ≡ over (shownAll mark (take s values)) before
 
-module _ {values before : List ℕ} where
-  pub showed-none : Showed values before 0 before
+module _ {mark : ℕ} {values before : List ℕ} where
+  pub showed-none : Showed mark values before 0 before
   unfolding over shownAll
   showed-none = record { is = refl }
 
-  module _ {s : ℕ} {part : List ℕ} (x : Showed values before s part) where
+  module _ {s : ℕ} {part : List ℕ} (x : Showed mark values before s part) where
     pub showed-length : length part ≡ length before
-    showed-length = ap length (x .is) ∙ over-length (shownAll (take s values)) before
+    showed-length = ap length (x .is) ∙ over-length (shownAll mark (take s values)) before
 
-    pub showed-all : (n : ℕ) → s ≡ n → Showed values before n part
+    pub showed-all : (n : ℕ) → s ≡ n → Showed mark values before n part
     showed-all n e = record { is = rw (← e) (x .is) }
 
     module _ (h : s ≤ length values) where
-      wide : length (shownAll (take s values)) ≡ s
-      wide = shown-length (take s values) ∙ length-take-le s values h
+      wide : length (shownAll mark (take s values)) ≡ s
+      wide = shown-length mark (take s values) ∙ length-take-le s values h
 
-      stored : (b : ℕ) → set part s b ≡ over (shownAll (take s values) ++ b ∷ []) before
-      stored b = ap₂ (λ (l : List ℕ) (n : ℕ). set l n b) (x .is) (sym wide) ∙ over-set (shownAll (take s values)) before b
+      stored : (b : ℕ) → set part s b ≡ over (shownAll mark (take s values) ++ b ∷ []) before
+      stored b = ap₂ (λ (l : List ℕ) (n : ℕ). set l n b) (x .is) (sym wide) ∙ over-set (shownAll mark (take s values)) before b
 
       -- the digit and LF behind them
       pub showed-row : {c : Cycle} {table : ℕ} (digit : ℕ) → Cycled s values table c → digit ≡ digitOf (tableOf table) → rowWidth s ≤ length before
-          → set (set part s digit) (s + 1) 10 ≡ row c ++ drop (rowWidth s) before
+          → set (set part s digit) (s + 1) 10 ≡ row mark c ++ drop (rowWidth s) before
       unfolding row
       showed-row {c} {table} digit z e room =
-          let front = shownAll (take s values) ++ digit ∷ [] in
-          let at : s + 1 ≡ length front = omega (arith, wide, length-append (shownAll (take s values)) (digit ∷ [])) in
-          let all : row c ≡ front ++ 10 ∷ [] =
-          ap₂ (λ (l : List ℕ) (o : Option ℕ). shownAll l ++ digitOf o ∷ 10 ∷ []) (z .pins-are) (z .table-is)
-          ∙ ap (λ (k : ℕ). shownAll (take s values) ++ k ∷ 10 ∷ []) (sym e) ∙ sym (append-assoc (shownAll (take s values)) (digit ∷ []) (10 ∷ [])) in
-          let width = row-width c s (cycled-wide z h) in
+          let front = shownAll mark (take s values) ++ digit ∷ [] in
+          let at : s + 1 ≡ length front = omega (arith, wide, length-append (shownAll mark (take s values)) (digit ∷ [])) in
+          let all : row mark c ≡ front ++ 10 ∷ [] =
+          ap₂ (λ (l : List ℕ) (o : Option ℕ). shownAll mark l ++ digitOf o ∷ 10 ∷ []) (z .pins-are) (z .table-is)
+          ∙ ap (λ (k : ℕ). shownAll mark (take s values) ++ k ∷ 10 ∷ []) (sym e) ∙ sym (append-assoc (shownAll mark (take s values)) (digit ∷ []) (10 ∷ [])) in
+          let width = row-width mark c s (cycled-wide z h) in
           ap₂ (λ (l : List ℕ) (n : ℕ). set l n 10) (stored digit) at ∙ over-set front before 10 ∙ ap (λ (l : List ℕ). over l before) (sym all)
-          ∙ over-all (row c) before (omega (arith, width)) ∙ ap (λ (n : ℕ). row c ++ drop n before) width
+          ∙ over-all (row mark c) before (omega (arith, width)) ∙ ap (λ (n : ℕ). row mark c ++ drop n before) width
 
-    pub showed-more : s < length values → (b : ℕ) → b ≡ shown (getD values s 0) → Showed values before (s + 1) (set part s b)
+    pub showed-more : s < length values → (b : ℕ) → b ≡ shown mark (getD values s 0) → Showed mark values before (s + 1) (set part s b)
     showed-more h b e =
         let t : take (s + 1) values ≡ take s values ++ getD values s 0 ∷ [] = rw add-one (take-suc values s 0 h) in
         record {
-          is = stored (omega arith) b ∙ ap (λ (k : ℕ). over (shownAll (take s values) ++ k ∷ []) before) e
-              ∙ ap (λ (l : List ℕ). over l before) (sym (shown-more (take s values) (getD values s 0)) ∙ ap shownAll (sym t));
+          is = stored (omega arith) b ∙ ap (λ (k : ℕ). over (shownAll mark (take s values) ++ k ∷ []) before) e
+              ∙ ap (λ (l : List ℕ). over l before) (sym (shown-more mark (take s values) (getD values s 0)) ∙ ap (shownAll mark) (sym t));
         }

@@ -8,12 +8,12 @@ use Rattle.rows.specs.declared.Walk.{Walk}
 
 module _ (w : Walk) (cost : ℕ) where
   left-to-spend : ℕ → Walk
-  left-to-spend n = record { pass = w .pass; row = w .row; show = w .show; budget = n; walking = w .walking }
+  left-to-spend n = record { pass = w .pass; row = w .row; show = w .show; budget = n; walking = w .walking; mark = w .mark }
 
   pub spent-walking : w .walking ≡ true
-      → _≡_ {A = Walk} (record { pass = w .pass; row = w .row; show = w .show; budget = w .budget - cost; walking = true }) (spent w cost)
+      → _≡_ {A = Walk} (record { pass = w .pass; row = w .row; show = w .show; budget = w .budget - cost; walking = true; mark = w .mark }) (spent w cost)
   spent-walking e =
-      ap (λ (k : Bool). record { pass = w .pass; row = w .row; show = w .show; budget = w .budget - spends k cost; walking = k }) (sym e)
+      ap (λ (k : Bool). record { pass = w .pass; row = w .row; show = w .show; budget = w .budget - spends k cost; walking = k; mark = w .mark }) (sym e)
 
   pub spent-none : w .walking ≡ false → w ≡ spent w cost
   unfolding left-to-spend

@@ -50,7 +50,7 @@ copied-count n m k l e = length-seen 0 m (copies n l) ∙ ap (min m) (sub-zero (
 -- THE TURNS, as far as rows are to be shown
 pub turns-again : {signals k : ℕ} (n : ℕ) (w : Walk) {before after : List ℕ} {count : ℕ} → count ≡ min (w .show) (n * k) → 0 < k
     → (w .row + w .show) * rowWidth signals ≤ length before → Extends before (w .row * (signals + 2)) (k * (signals + 2)) (count * (signals + 2)) after
-    → Again signals k n w (record { pass = 0; row = w .row + count; show = w .show - count; budget = w .budget; walking = false }) before after
+    → Again signals k n w (record { pass = 0; row = w .row + count; show = w .show - count; budget = w .budget; walking = false; mark = w .mark }) before after
 unfolding rowWidth
 turns-again {signals} {k} n w {before} {after} {count} e some room x = record {
   pass = refl;
@@ -58,6 +58,7 @@ turns-again {signals} {k} n w {before} {after} {count} e some room x = record {
   show = ap (λ (i : ℕ). w .show - i) e;
   budget = refl;
   walking = refl;
+  marked = refl;
   written = λ entry ds l turn wide all y.
       written-again ds l y wide x (more-below signals w (length before) room count (omega arith)) (ap (λ (i : ℕ). i * (signals + 2)) (sym all))
       (ap (λ (i : ℕ). i * (signals + 2)) (sym turn)) (some-bytes signals k some) n (w .show)

@@ -32,6 +32,7 @@ pub record Again (signals k n : ℕ) (w w′ : Walk) (before after : List ℕ) :
   pub show : w′ .show ≡ w .show - min (w .show) (n * k)
   pub budget : w′ .budget ≡ w .budget
   pub walking : w′ .walking ≡ false
-  pub written : (entry : List ℕ) (ds l : List Cycle) → length l ≡ k → AllWide signals l → length (ds ++ l) ≡ w .row → Written signals entry before (ds ++ l)
-      → Written signals entry after ((ds ++ l) ++ seen 0 (w .show) (copies n l))
+  pub marked : w′ .mark ≡ w .mark
+  pub written : (entry : List ℕ) (ds l : List Cycle) → length l ≡ k → AllWide signals l → length (ds ++ l) ≡ w .row
+      → Written (w .mark) signals entry before (ds ++ l) → Written (w′ .mark) signals entry after ((ds ++ l) ++ seen 0 (w .show) (copies n l))
   pub long : length after ≡ length before

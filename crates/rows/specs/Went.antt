@@ -29,11 +29,11 @@ spends true v = v
 spends false v = 0
 
 abbrev pub spent : Walk → ℕ → Walk
-spent w v = record { pass = w .pass; row = w .row; show = w .show; budget = w .budget - spends (w .walking) v; walking = w .walking }
+spent w v = record { pass = w .pass; row = w .row; show = w .show; budget = w .budget - spends (w .walking) v; walking = w .walking; mark = w .mark }
 
 -- so many cycles are passed
 abbrev pub past : Walk → ℕ → Walk
-past w n = record { pass = w .pass - n; row = w .row; show = w .show; budget = w .budget; walking = w .walking }
+past w n = record { pass = w .pass - n; row = w .row; show = w .show; budget = w .budget; walking = w .walking; mark = w .mark }
 
 -- ---- THE PROMISE of what goes through cycles l, v being the visits in them at the cycle looked for
 
@@ -45,9 +45,10 @@ pub record Went (signals : ℕ) (l : List Cycle) (v : ℕ) (w w′ : Walk) (befo
   -- the cycle looked for is not among them
   pub walking : w′ .walking ≡ (w .walking && leb (length l) (w .pass))
   pub spending : w .budget ≡ w′ .budget + spends (w .walking) v
-  -- the rows, behind those that were written before
-  pub written : (entry : List ℕ) (cs : List Cycle) → length cs ≡ w .row → Written signals entry before cs
-      → Written signals entry after (cs ++ seen (w .pass) (w .show) l)
+  -- the rows, behind those that were written before, with the same mark
+  pub marked : w′ .mark ≡ w .mark
+  pub written : (entry : List ℕ) (cs : List Cycle) → length cs ≡ w .row → Written (w .mark) signals entry before cs
+      → Written (w′ .mark) signals entry after (cs ++ seen (w .pass) (w .show) l)
   pub long : length after ≡ length before
 
 -- a cycle as the pins and the table have it

@@ -11,14 +11,15 @@ ghost use Rattle.pins.specs.Shown.{valuesLength};
 ghost use Rattle.rows.specs.Went.{over as isOver, Going, spent, past as passed, Went, Cycled};
 ghost use Rattle.rows.specs.Again.{Copies, Extends, Again};
 
-// How far a window is: cycles still to pass; rows written, and rows still to show; what may still be spent on the way; and is the cycle that it begins with
-// still to be reached?
+// How far a window is: cycles still to pass; rows written, and rows still to show; what may still be spent on the way; is the cycle that it begins with
+// still to be reached? And the mark that stands in its rows for an unassigned pin.
 pub struct Walk {
     pub pass: usize,
     pub row: usize,
     pub show: usize,
     pub budget: usize,
     pub walking: bool,
+    pub mark: u8,
 }
 
 // Is nothing left to do?
@@ -40,6 +41,7 @@ pub fn spend(w: Walk, cost: usize) -> Walk
             show: w.show,
             budget: w.budget - cost,
             walking: true,
+            mark: w.mark,
         };
     }
     w
@@ -56,19 +58,20 @@ pub fn past(w: Walk, cycles: usize) -> Walk
         show: w.show,
         budget: w.budget,
         walking: w.walking,
+        mark: w.mark,
     }
 }
 
-// A row at the front: each signal's character, `.` where it is unassigned, the table's number as a digit, LF.
-fn put_row(part: &mut [u8], values: &[u8], signals: usize, table: usize)
+// A row at the front: each signal's character, the mark where it is unassigned, the table's number as a digit, LF.
+fn put_row(part: &mut [u8], values: &[u8], signals: usize, table: usize, mark: u8)
     requires { ⌜ (signals ≤ signalsMost) × (length (now values) ≡ valuesLength) × (rowWidth signals ≤ length (now part)) ⌝ }
-    ensures { λ _. ⌜ ((c : Cycle) → Cycled signals (now (values .entry)) table c → now (part .exit) ≡ rowOf c ++ drop (rowWidth signals) (now (part .entry))) × (length (now (part .exit)) ≡ length (now (part .entry))) ⌝ }
+    ensures { λ _. ⌜ ((c : Cycle) → Cycled signals (now (values .entry)) table c → now (part .exit) ≡ rowOf mark c ++ drop (rowWidth signals) (now (part .entry))) × (length (now (part .exit)) ≡ length (now (part .entry))) ⌝ }
 {
     let mut s = 0;
     while s < signals {
         let b = values[s];
         if b == 0 {
-            part[s] = b'.';
+            part[s] = mark;
         } else {
             part[s] = b;
         }
@@ -98,16 +101,18 @@ pub fn cycle(values: &[u8], signals: usize, table: usize, w: Walk, buffer: &mut 
             show: 0,
             budget: x.budget,
             walking: false,
+            mark: w.mark,
         };
     }
     let part = &mut buffer[w.row * (signals + 2)..];
-    put_row(part, values, signals, table);
+    put_row(part, values, signals, table, w.mark);
     Walk {
         pass: 0,
         row: w.row + 1,
         show: w.show - 1,
         budget: x.budget,
         walking: false,
+        mark: w.mark,
     }
 }
 
@@ -158,5 +163,6 @@ pub fn again(w: Walk, cycles: usize, turns: usize, signals: usize, buffer: &mut 
         show: w.show - count,
         budget: w.budget,
         walking: false,
+        mark: w.mark,
     }
 }

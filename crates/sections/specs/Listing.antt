@@ -11,7 +11,7 @@ use Rattle.tokens.specs.Tokens.{Tok}
 use Rattle.meaning.specs.Bounds.{nameMost}
 use Rattle.meaning.specs.Run.{cycles, cyclesOf}
 use Rattle.meaning.specs.Meaning.{given, refused, firsts, Meaning, meaning}
-use Rattle.meaning.specs.Services.{rows, rowWidth}
+use Rattle.meaning.specs.Services.{dot, rows, rowWidth}
 use Rattle.walks.specs.Seen.{seen}
 use Rattle.pages.specs.Pages.{decimal, Puts}
 use Rattle.sections.specs.declared.Page.{Page}
@@ -57,11 +57,11 @@ rowsListed m = listedOf (cycles 0 (m .run))
 unfoldable pub refusal : ℕ → ℕ → List ℕ
 refusal n p = ended (bytes "REFUSED " ++ decimal n ++ bytes " AT " ++ decimal p)
 
--- THE LISTING
+-- THE LISTING: filed ones have the dot
 unfoldable pub listing : List ℕ → List ℕ
 listing text =
     elim (meaning text) [
-      | given m ↦ front m ++ rows (seen 0 (rowsListed m) (cyclesOf (length (m .signals)) (m .run)))
+      | given m ↦ front m ++ rows dot (seen 0 (rowsListed m) (cyclesOf (length (m .signals)) (m .run)))
       | refused n p ↦ refusal n p
     ]
 

@@ -112,7 +112,7 @@ module _ {text : List ℕ} {signals : ℕ} {values : List ℕ} {table : ℕ} {fe
       unspent : w .walking ≡ false → spent w 1 ≡ w
       unspent e =
           let b : w .budget - spends (w .walking) 1 ≡ w .budget = rw e (sub-zero (w .budget)) in
-          ap (λ (k : ℕ). record { pass = w .pass; row = w .row; show = w .show; budget = k; walking = w .walking }) b
+          ap (λ (k : ℕ). record { pass = w .pass; row = w .row; show = w .show; budget = k; walking = w .walking; mark = w .mark }) b
 
       midway-went : over w ≡ false → w .walking ≡ false → Went signals (whole .1) 1 w₀ w before buffer
       unfolding again

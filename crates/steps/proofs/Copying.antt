@@ -77,9 +77,11 @@ module _ {signals : ℕ} {l : List Cycle} {v : ℕ} {w w′ : Walk} {x y : List 
         pass = λ h. omega (arith, a .pass, from-first);
         walking = a .walking ∙ sym (still-none (w .walking) (length (l ++ copies n l)) (w .pass) (omega (arith, from-first, length-append l (copies n l))));
         spending = p .spending ∙ ap (λ (m : ℕ). m + spends (w .walking) v) (sym (a .budget));
+        marked = a .marked ∙ p .marked;
         written = λ entry cs h q. (
-            let one : Written signals entry y (cs ++ l) = subst (λ (m : List Cycle). Written signals entry y (cs ++ m)) shown (p .written entry cs h q) in
-            subst (Written signals entry z) (append-assoc cs l more ∙ ap (λ (m : List Cycle). cs ++ m) (sym (shown-all n)))
+            let one : Written (w′ .mark) signals entry y (cs ++ l) =
+            subst (λ (m : List Cycle). Written (w′ .mark) signals entry y (cs ++ m)) shown (p .written entry cs h q) in
+            subst (Written (w″ .mark) signals entry z) (append-assoc cs l more ∙ ap (λ (m : List Cycle). cs ++ m) (sym (shown-all n)))
             (a .written entry cs l even wide (length-append cs l ∙ omega (arith, whole)) one));
         long = a .long ∙ p .long;
       }

@@ -45,7 +45,7 @@ spends-none false = refl
 pub went-none : {signals : ℕ} (w : Walk) (now : List ℕ) → over w ≡ false → Went signals [] 0 w w now now
 went-none {signals} w now more =
     let e : w .budget - spends (w .walking) 0 ≡ w .budget = ap (λ (n : ℕ). w .budget - n) (spends-none (w .walking)) ∙ sub-zero (w .budget) in
-    subst (λ (n : ℕ). Went signals [] 0 w (record { pass = w .pass; row = w .row; show = w .show; budget = n; walking = w .walking }) now now) e
+    subst (λ (n : ℕ). Went signals [] 0 w (record { pass = w .pass; row = w .row; show = w .show; budget = n; walking = w .walking; mark = w .mark }) now now) e
     (went-spent w 0 now more (λ q. omega arith))
 
 -- ---- the parts, by the first statement

@@ -7,10 +7,10 @@ use mathlib.Core.Option.{Option, none, some}
 use mathlib.Core.List.{List, [], _∷_, _++_}
 use lib.Dec.{leb}
 use lib.ListN.{length, take, drop}
-use Rattle.meaning.specs.Refusals.{noRoom}
+use Rattle.meaning.specs.Refusals.{badData, noRoom}
 use Rattle.meaning.specs.Run.{Cycle, size, visits, cyclesOf}
 use Rattle.meaning.specs.Meaning.{Answer, given, refused, answering, Meaning, meaning}
-use Rattle.meaning.specs.Services.{Counts, rows, Window, rowsDue, widthOf, windowOf, window, Waveform}
+use Rattle.meaning.specs.Services.{Counts, badMark, rows, Window, rowsDue, widthOf, rowsOut, windowOf, window, Waveform}
 use Rattle.meaning.specs.Charts.{Chart}
 use Rattle.meaning.specs.Windows.{Lent, rowsGiven, joined, Roomy, reach}
 use Rattle.meaning.proofs.Accepted.{visits-bounded}
@@ -44,32 +44,38 @@ room-given : {A : Type 0} (enough : Bool) (x y : A) → _≡_ {A = Answer A} (gi
 room-given true x y e = cc
 room-given false x y e = let z : _≡_ {A = ℕ} 0 1 = cc in absurd (omega arith)
 
-pub visits-told : (text : List ℕ) (m : Meaning) → meaning text ≡ given m → (first wanted : ℕ) {before after : List ℕ} {n v : ℕ}
-    → Views (window text first wanted before) before after (Rows n v) → Costs m first wanted n v
-unfolding window answering windowOf
-visits-told text m e first wanted {before} {after} {n} {v} h =
-    let w = room-given (leb (rowsDue m first wanted * widthOf m) (length before)) (record { count = n; visits = v; buffer = after }) _
-    (h .answers ∙ ap (λ (a : Answer Meaning). answering a (λ m. windowOf m first wanted before)) e) in
+-- and the mark was one
+mark-given : {A : Type 0} (bad : Bool) (x : A) (a : Answer A) → given x ≡ elim bad [ true ↦ refused badData 0 | false ↦ a ] → given x ≡ a
+mark-given true x a e = let z : _≡_ {A = ℕ} 0 1 = cc in absurd (omega arith)
+mark-given false x a e = e
+
+pub visits-told : (text : List ℕ) (m : Meaning) → meaning text ≡ given m → (first wanted mark : ℕ) {before after : List ℕ} {n v : ℕ}
+    → Views (window text first wanted mark before) before after (Rows n v) → Costs m first wanted n v
+unfolding window answering windowOf rowsOut
+visits-told text m e first wanted mark {before} {after} {n} {v} h =
+    let told = mark-given (badMark mark) (record { count = n; visits = v; buffer = after }) _
+    (h .answers ∙ ap (λ (a : Answer Meaning). answering a (λ m. windowOf m first wanted mark before)) e) in
+    let w = room-given (leb (rowsDue m first wanted * widthOf m) (length before)) (record { count = n; visits = v; buffer = after }) _ told in
     let k : v ≡ visits 0 (m .run) first = ap (λ (w : Window). w .visits) w in
     record { rows-are = ap (λ (w : Window). w .count) w; visits-are = k; visits-few = rw k (visits-bounded text m e first) }
 
 -- ---- windows laid end to end give the run's rows from their first cycle on, as far as they reach
 
 -- what is in the buffers is what the definition gives
-fronts-joined : (text : List ℕ) (width first : ℕ) (cs : List Call) → Kept text first cs → fronts width cs ≡ joined text width first (lent cs)
+fronts-joined : (text : List ℕ) (width mark first : ℕ) (cs : List Call) → Kept text mark first cs → fronts width cs ≡ joined text width mark first (lent cs)
 unfolding fronts Kept joined lent
-fronts-joined text width first [] h = refl
-fronts-joined text width first (c ∷ cs) h =
-    ap₂ (λ (a b : List ℕ). a ++ b) (ap (rowsGiven width) (h .0 .answers)) (fronts-joined text width (first + c .wanted) cs (h .1))
+fronts-joined text width mark first [] h = refl
+fronts-joined text width mark first (c ∷ cs) h =
+    ap₂ (λ (a b : List ℕ). a ++ b) (ap (rowsGiven width) (h .0 .answers)) (fronts-joined text width mark (first + c .wanted) cs (h .1))
 
 module _ (text : List ℕ) (m : Meaning) (e : meaning text ≡ given m) where
   abbrev all : List Cycle
   all = cyclesOf (length (m .signals)) (m .run)
 
   -- THE LAW
-  pub calls-join : (first : ℕ) (cs : List Call) → Kept text first cs → Roomy m first (lent cs)
-      → fronts (widthOf m) cs ≡ rows (take (reach (lent cs)) (drop first all))
-  calls-join first cs h room = fronts-joined text (widthOf m) first cs h ∙ windows-join m text e first (lent cs) room
+  pub calls-join : (mark : ℕ) → badMark mark ≡ false → (first : ℕ) (cs : List Call) → Kept text mark first cs → Roomy m first (lent cs)
+      → fronts (widthOf m) cs ≡ rows mark (take (reach (lent cs)) (drop first all))
+  calls-join mark good first cs h room = fronts-joined text (widthOf m) mark first cs h ∙ windows-join m mark text e good first (lent cs) room
 
 -- ---- one answer only, and one content of each buffer afterwards
 

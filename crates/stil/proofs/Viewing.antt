@@ -9,10 +9,10 @@ use lib.Dec.{leb, ltb}
 use lib.ListN.{length, drop}
 use borrow.Author.Tests.{le-leb, lt-leb, leb-true, ltb-true, ltb-false}
 use Rattle.meaning.specs.Bounds.{sizeMost, cyclesMost}
-use Rattle.meaning.specs.Refusals.{noRoom}
+use Rattle.meaning.specs.Refusals.{badData, noRoom}
 use Rattle.meaning.specs.Run.{size, cycles, visits}
 use Rattle.meaning.specs.Meaning.{Answer, given, refused, answering, fitting, Meaning, meaning}
-use Rattle.meaning.specs.Services.{Counts, counts, rows, rowWidth, Window, rowsDue, widthOf, windowRows, windowOf, window}
+use Rattle.meaning.specs.Services.{Counts, counts, badMark, rows, rowWidth, Window, rowsDue, widthOf, windowRows, rowsOut, windowOf, window}
 use Rattle.timing.specs.declared.Watch.{Watch}
 use Rattle.arguments.proofs.Lists.{both}
 use Rattle.assigns.proofs.Table.{or-false}
@@ -43,12 +43,18 @@ spared-all (given x) = refl
 spared-all (refused n p) = refl
 
 -- a text's refusal is the window's
-pub view-refused : (text : List ℕ) {n p : ℕ} (first wanted : ℕ) (buffer : List ℕ) (spare : Bool) → meaning text ≡ refused n p
-    → Views (spared spare (window text first wanted buffer)) buffer buffer (Refused n p)
+pub view-refused : (text : List ℕ) {n p : ℕ} (first wanted mark : ℕ) (buffer : List ℕ) (spare : Bool) → meaning text ≡ refused n p
+    → Views (spared spare (window text first wanted mark buffer)) buffer buffer (Refused n p)
 unfolding window answering
-view-refused text first wanted buffer spare e = views-refused (rw (e, window))
+view-refused text first wanted mark buffer spare e = views-refused (rw (e, window))
 
 -- ---- an accepted text
+
+-- what is no mark is refused for itself
+pub view-unmarked : (text : List ℕ) {m : Meaning} (first wanted mark : ℕ) (buffer : List ℕ) (spare : Bool) → meaning text ≡ given m → badMark mark ≡ true
+    → Views (spared spare (window text first wanted mark buffer)) buffer buffer (Refused badData 0)
+unfolding window answering windowOf
+view-unmarked text first wanted mark buffer spare e bad = views-refused (rw (e, bad, window, windowOf))
 
 -- no room for the rows, or for what else is handed out
 room : (spare : Bool) (bytes long : ℕ) → (spare && leb bytes long) ≡ not (not spare || ltb long bytes)
@@ -94,9 +100,9 @@ module _ {w : Watch} {text places lists tplaces waves book marks list : List ℕ
     pub few-due : due ≤ cyclesMost
     few-due = omega (arith, few-cycles)
 
-    module _ (buffer : List ℕ) (spare : Bool) {y : Bool} (e : (not spare || ltb (length buffer) (due * (v .parts .signals + 2))) ≡ y) (a : meaning text ≡ given it) where
+    module _ (mark : ℕ) (good : badMark mark ≡ false) (buffer : List ℕ) (spare : Bool) {y : Bool} (e : (not spare || ltb (length buffer) (due * (v .parts .signals + 2))) ≡ y) (a : meaning text ≡ given it) where
       abbrev answer : Answer Window
-      answer = spared spare (window text first wanted buffer)
+      answer = spared spare (window text first wanted mark buffer)
 
       enough : (spare && leb (rowsDue it first wanted * widthOf it) (length buffer)) ≡ not y
       unfolding widthOf rowWidth
@@ -108,12 +114,13 @@ module _ {w : Watch} {text places lists tplaces waves book marks list : List ℕ
         | true ↦ given (record {
           count = rowsDue it first wanted;
           visits = visits 0 (it .run) first;
-          buffer = windowRows it first wanted ++ drop (rowsDue it first wanted * widthOf it) buffer;
+          buffer = windowRows it first wanted mark ++ drop (rowsDue it first wanted * widthOf it) buffer;
         })
       ]
-      unfolding window answering windowOf
+      unfolding window answering windowOf rowsOut
       answered =
-          ap (λ (x : Answer Meaning). spared spare (answering x (λ m. windowOf m first wanted buffer))) a
+          ap (λ (x : Answer Meaning). spared spare (answering x (λ m. windowOf m first wanted mark buffer))) a
+          ∙ ap (λ (b : Bool). spared spare (elim b [ true ↦ refused badData 0 | false ↦ rowsOut it first wanted mark buffer ])) good
           ∙ spared-room spare (leb (rowsDue it first wanted * widthOf it) (length buffer)) _
           ∙ rw enough
 
@@ -132,7 +139,7 @@ module _ {w : Watch} {text places lists tplaces waves book marks list : List ℕ
         room = ltb-false (length buffer) (due * (v .parts .signals + 2)) (or-false (not spare) _ (e ∙ z) .1);
       }
 
-      pub view-given : {r : ℕ} {after : List ℕ} → y ≡ false → Windows (v .parts .signals) first due buffer it r after
+      pub view-given : {r : ℕ} {after : List ℕ} → y ≡ false → Windows (v .parts .signals) first due mark buffer it r after
           → Views answer buffer after (Rows due r)
       unfolding windowRows widthOf
       view-given z s = views-given ((rw z at answered) ∙ rw (← due-is, signals-counted f, ← s .visits-are, ← s .rows-are))

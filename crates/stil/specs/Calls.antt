@@ -1,4 +1,4 @@
--- Calls of the service Window laid end to end (document 01, the third demand): what they leave in their buffers.
+-- Calls of the service Window laid end to end (document 01, the third demand), all with one mark: what they leave in their buffers.
 use Prim.Native.Nat.{ℕ, _+_}
 use mathlib.Core.List.{List, [], _∷_, _++_}
 use Rattle.meaning.specs.Services.{window}
@@ -20,10 +20,10 @@ lent [] = []
 lent (c ∷ cs) = record { wanted = c .wanted; buffer = c .before } ∷ lent cs
 
 -- each keeps the service's promise, the first at a cycle, each of the others where the one before ends
-unfoldable pub Kept : List ℕ → ℕ → List Call → Type 0
-Kept text first [] = Unit {0}
-Kept text first (c ∷ cs) =
-    Views (window text first (c .wanted) (c .before)) (c .before) (c .after) (c .answer) × Kept text (first + c .wanted) cs
+unfoldable pub Kept : List ℕ → ℕ → ℕ → List Call → Type 0
+Kept text mark first [] = Unit {0}
+Kept text mark first (c ∷ cs) =
+    Views (window text first (c .wanted) mark (c .before)) (c .before) (c .after) (c .answer) × Kept text mark (first + c .wanted) cs
 
 -- the fronts of their buffers, as many rows as each answer counts, joined
 unfoldable pub fronts : ℕ → List Call → List ℕ

@@ -9,7 +9,7 @@ ghost use Rattle.tokens.specs.Tokens.{nextToken};
 ghost use Rattle.intake.specs.Intake.{chunked, closed as closedOf};
 ghost use Rattle.meaning.specs.Bounds.{signalsMost, tablesMost, entryMost};
 ghost use Rattle.meaning.specs.Meaning.{given, firsts};
-ghost use Rattle.meaning.specs.Services.{check as checkOf, nameAt, nameOf, window as windowOf, waveform as waveformOf};
+ghost use Rattle.meaning.specs.Services.{check as checkOf, nameAt, nameOf, badMark, window as windowOf, waveform as waveformOf};
 ghost use Rattle.meaning.specs.Charts.{waveforms as waveformsOf};
 ghost use Rattle.words.specs.Table.{names};
 ghost use Rattle.timing.specs.Marks.{tableSize};
@@ -34,6 +34,8 @@ const TEXT_MOST: usize = 65_536;
 
 // Refusals.
 const TOO_MANY: u8 = 8;
+
+const BAD_MARK: u8 = 12;
 
 const NOT_PLAYABLE: u8 = 17;
 
@@ -458,7 +460,14 @@ fn rows_due(cycles: usize, first: usize, wanted: usize) -> usize
     left
 }
 
-// A text that 1 to 16 leave: 17, 19, or the rows. There is room for what else is handed out (`spare`), or that is 19 too.
+// Is it a letter, a digit or LF?
+fn is_no_mark(b: u8) -> bool
+    ensures { λ r. ⌜ r ≡ badMark b ⌝ }
+{
+    (65 <= b) & (b <= 90) | (97 <= b) & (b <= 122) | (48 <= b) & (b <= 57) | (b == 10)
+}
+
+// A text that 1 to 16 leave: 17, 12 for its mark, 19, or the rows. There is room for what else is handed out (`spare`), or that is 19 too.
 fn view<'a>(
     text: &'a [u8],
     places: &'a [usize],
@@ -472,11 +481,12 @@ fn view<'a>(
     v: Verdict,
     first: usize,
     wanted: usize,
+    mark: u8,
     spare: bool,
     buffer: &mut [u8],
 ) -> Shown
     requires { ⌜ SomeFound (now text) (now places) (now lists) (now tplaces) (now waves) (now book) (now rows) (now list) (now used) v ⌝ }
-    ensures { λ r. ⌜ Views (spared spare (windowOf (now (text .entry)) first wanted (now (buffer .entry)))) (now (buffer .entry)) (now (buffer .exit)) r ⌝ }
+    ensures { λ r. ⌜ Views (spared spare (windowOf (now (text .entry)) first wanted mark (now (buffer .entry)))) (now (buffer .entry)) (now (buffer .exit)) r ⌝ }
 {
     let parts = v.parts;
     let total = v.total;
@@ -494,6 +504,9 @@ fn view<'a>(
     );
     if f.failed {
         return Shown::Refused(NOT_PLAYABLE, f.place);
+    }
+    if is_no_mark(mark) {
+        return Shown::Refused(BAD_MARK, 0);
     }
     let due = rows_due(total.cycles, first, wanted);
     if !spare | (buffer.len() < due * (parts.signals + 2)) {
@@ -515,14 +528,22 @@ fn view<'a>(
         total.size,
         first,
         due,
+        mark,
         buffer,
     );
     Shown::Rows(due, visits)
 }
 
 // Any text.
-fn viewed(text: &[u8], first: usize, wanted: usize, spare: bool, buffer: &mut [u8]) -> Shown
-    ensures { λ r. ⌜ Views (spared spare (windowOf (now (text .entry)) first wanted (now (buffer .entry)))) (now (buffer .entry)) (now (buffer .exit)) r ⌝ }
+fn viewed(
+    text: &[u8],
+    first: usize,
+    wanted: usize,
+    mark: u8,
+    spare: bool,
+    buffer: &mut [u8],
+) -> Shown
+    ensures { λ r. ⌜ Views (spared spare (windowOf (now (text .entry)) first wanted mark (now (buffer .entry)))) (now (buffer .entry)) (now (buffer .exit)) r ⌝ }
 {
     let mut places = [0usize; signals::PLACES];
     let mut lists = [0u16; signals::LISTS];
@@ -560,16 +581,17 @@ fn viewed(text: &[u8], first: usize, wanted: usize, spare: bool, buffer: &mut [u
         v,
         first,
         wanted,
+        mark,
         spare,
         buffer,
     )
 }
 
-// The rows of so many cycles from the cycle `first` on, as far as there are so many, to the front of the buffer.
-pub fn window(text: &[u8], first: usize, wanted: usize, buffer: &mut [u8]) -> Shown
-    ensures { λ r. ⌜ Views (windowOf (now (text .entry)) first wanted (now (buffer .entry))) (now (buffer .entry)) (now (buffer .exit)) r ⌝ }
+// The rows of so many cycles from the cycle `first` on, as far as there are so many, to the front of the buffer; the mark stands for an unassigned pin.
+pub fn window(text: &[u8], first: usize, wanted: usize, mark: u8, buffer: &mut [u8]) -> Shown
+    ensures { λ r. ⌜ Views (windowOf (now (text .entry)) first wanted mark (now (buffer .entry))) (now (buffer .entry)) (now (buffer .exit)) r ⌝ }
 {
-    viewed(text, first, wanted, true, buffer)
+    viewed(text, first, wanted, mark, true, buffer)
 }
 
 // ---- Waveform
@@ -750,18 +772,19 @@ pub extern "C" fn lutemeteor_name(text: &[u8], table: u8, number: usize, numbers
     }
 }
 
-// Window: the rows, and how many there are, and the visits. A buffer without room for its part is 19.
+// Window: the rows, with a mark for unassigned pins, and how many there are, and the visits. A buffer without room for its part is 19.
 #[no_mangle]
 pub extern "C" fn lutemeteor_window(
     text: &[u8],
     first: usize,
     wanted: usize,
+    mark: u8,
     buffer: &mut [u8],
     numbers: &mut [u64],
 ) -> u64
-    ensures { λ r. ⌜ Opens (windowOf (now (text .entry)) first wanted (now (buffer .entry))) (now (buffer .entry)) (now (buffer .exit)) (now (numbers .entry)) r (now (numbers .exit)) ⌝ }
+    ensures { λ r. ⌜ Opens (windowOf (now (text .entry)) first wanted mark (now (buffer .entry))) (now (buffer .entry)) (now (buffer .exit)) (now (numbers .entry)) r (now (numbers .exit)) ⌝ }
 {
-    match viewed(text, first, wanted, 2 <= numbers.len(), buffer) {
+    match viewed(text, first, wanted, mark, 2 <= numbers.len(), buffer) {
         Shown::Refused(n, p) => pack(n, p),
         Shown::Rows(count, visits) => {
             numbers[0] = count as u64;

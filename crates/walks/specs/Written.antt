@@ -7,10 +7,10 @@ use Rattle.meaning.specs.Run.{Cycle}
 use Rattle.meaning.specs.Services.{rows, rowWidth}
 
 -- cycles over so many signals: each row is as wide as the others
-abbrev pub Even : ℕ → List Cycle → Type 0
-Even signals cs = length (rows cs) ≡ length cs * rowWidth signals
+abbrev pub Even : (mark signals : ℕ) → List Cycle → Type 0
+Even mark signals cs = length (rows mark cs) ≡ length cs * rowWidth signals
 
--- the rows of the cycles cs, in a buffer that was `entry` before
-pub record Written (signals : ℕ) (entry buffer : List ℕ) (cs : List Cycle) : Type 0 where
-  pub even : Even signals cs
-  pub is : buffer ≡ rows cs ++ drop (length cs * rowWidth signals) entry
+-- the rows of the cycles cs, with a mark, in a buffer that was `entry` before
+pub record Written (mark signals : ℕ) (entry buffer : List ℕ) (cs : List Cycle) : Type 0 where
+  pub even : Even mark signals cs
+  pub is : buffer ≡ rows mark cs ++ drop (length cs * rowWidth signals) entry

@@ -23,7 +23,7 @@ use Rattle.windows.specs.Run.{way, entry}
 -- no cycle
 went-none : {n : ℕ} (w : Walk) (b : List ℕ) → over w ≡ false → Went n [] 0 w w b b
 went-none {n} w b more =
-    subst (λ (k : ℕ). Went n [] 0 w (record { pass = w .pass; row = w .row; show = w .show; budget = k; walking = w .walking }) b b)
+    subst (λ (k : ℕ). Went n [] 0 w (record { pass = w .pass; row = w .row; show = w .show; budget = k; walking = w .walking; mark = w .mark }) b b)
     (free (w .walking)) (went-spent w 0 b more (λ e. omega arith))
   where
     free : (k : Bool) → w .budget - spends k 0 ≡ w .budget

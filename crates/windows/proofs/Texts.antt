@@ -46,8 +46,8 @@ read-once : {ts us vs : Toks} {d e : Read} → PartsOf ts d us → PartsOf ts e 
 read-once p q = (cc, cc)
 
 -- the walk at its beginning
-abbrev pub outset : (budget first due : ℕ) → Walk
-outset budget first due = record { pass = first; row = 0; show = due; budget = budget; walking = true }
+abbrev pub outset : (budget first due mark : ℕ) → Walk
+outset budget first due mark = record { pass = first; row = 0; show = due; budget = budget; walking = true; mark = mark }
 
 -- ---- an accepted text that the tables hold
 
@@ -86,9 +86,9 @@ module _ {text places lists tplaces waves book rows list : List ℕ} {known : Kn
       ap₂ (λ (tabs : Tables) (n : ℕ). firstFailing tabs (play 0 (m .run) (start n) .1)) (is-whole .tables ∙ same .1) (sym n ∙ ap length (same .0)) ∙ is-accepted .plays
 
   -- with ten times the run's size to spend, it begins before all patterns
-  pub run-begins : {budget : ℕ} → 10 * sized ≤ budget
-      → Before (env .tables) signals env (d .patterns) (m .run) (listFrom text list listed 0) (outset budget first due) (outset budget first due) before before
-  run-begins enough =
+  pub run-begins : {budget mark : ℕ} → 10 * sized ≤ budget
+      → Before (env .tables) signals env (d .patterns) (m .run) (listFrom text list listed 0) (outset budget first due mark) (outset budget first due mark) before before
+  run-begins {budget} {mark} enough =
       let e : listed - 0 ≡ listed = omega arith in
       let l : d .listed ≡ listFrom text list listed 0 = h .runs .tabled .listed-are ∙ (rw (h .runs .listed-is, e)) in
       before-all
@@ -126,30 +126,31 @@ module _ {text places lists tplaces waves book rows list : List ℕ} {known : Kn
 
   -- ---- THE ANSWER
 
-  module _ {budget : ℕ} {w : Walk} {buffer : List ℕ}
-      (g : Went signals (play 0 (m .run) (start signals) .1) (visits 0 (m .run) first) (outset budget first due) w before buffer) where
-    pub windows-are : Windows signals first due before m (budget - w .budget) buffer
+  module _ {budget mark : ℕ} {w : Walk} {buffer : List ℕ}
+      (g : Went signals (play 0 (m .run) (start signals) .1) (visits 0 (m .run) first) (outset budget first due mark) w before buffer) where
+    pub windows-are : Windows signals first due mark before m (budget - w .budget) buffer
     unfolding cyclesOf
     windows-are =
         let l = cyclesOf signals (m .run) in
         let count : length (seen first due l) ≡ due = length-seen first due l ∙ omega (arith, rows-are-cycles signals (m .run), h .due-there) in
         record {
           visits-are = omega (arith, g .spending);
-          rows-are = g .written before [] refl (written-none signals before) .is ∙ ap (λ (k : ℕ). rowsOf (seen first due l) ++ drop (k * rowWidth signals) before) count;
+          rows-are = g .written before [] refl (written-none mark signals before) .is
+              ∙ ap₂ (λ (u k : ℕ). rowsOf u (seen first due l) ++ drop (k * rowWidth signals) before) (g .marked) count;
         }
 
 -- ---- the loop
 
-module _ (text places lists tplaces waves book rows list : List ℕ) (known : Known) (signals listed patterns sized first due budget : ℕ) (before : List ℕ) where
+module _ (text places lists tplaces waves book rows list : List ℕ) (known : Known) (signals listed patterns sized first due budget mark : ℕ) (before : List ℕ) where
   -- from the listed name of number k on, whatever accepted text the tables hold, its patterns are still to be gone through
   pub record Unseen (k : ℕ) (x : Arrays) (w : Walk) (buffer : List ℕ) : Type 0 where
     pub arrays-sized : Sized (ground text places lists tplaces book rows waves known signals) 0 x
     pub left : (p : Parts) (d : Read) (m : Meaning) (h : Accepts text places lists tplaces waves book rows list known signals listed patterns sized first due before p d m)
-        → Before (h .runs .tabled .parts .env .tables) signals (h .runs .tabled .parts .env) (d .patterns) (m .run) (listFrom text list listed k) (outset budget first due) w before buffer
+        → Before (h .runs .tabled .parts .env .tables) signals (h .runs .tabled .parts .env) (d .patterns) (m .run) (listFrom text list listed k) (outset budget first due mark) w before buffer
 
   -- before the first
   pub unseen : SomeText text places lists tplaces waves book rows list known signals listed patterns sized first due before → 10 * sized ≤ budget
-      → Unseen 0 (arrays (replicate 640 0) (replicate 2_304 0) (replicate 128 0)) (outset budget first due) before
+      → Unseen 0 (arrays (replicate 640 0) (replicate 2_304 0) (replicate 128 0)) (outset budget first due mark) before
   unseen s enough = record {
     arrays-sized = opening-sized text places lists tplaces waves book rows list known signals listed patterns
         (record { parts = s .parts; read = s .read; body = s .it .run; runs = s .accepts .runs });

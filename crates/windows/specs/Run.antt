@@ -62,6 +62,6 @@ pub record SomeText (text places lists tplaces waves book rows list : List ℕ) 
   pub accepts : Accepts text places lists tplaces waves book rows list known signals listed patterns sized first due buffer parts read it
 
 -- THE PROMISE: the visits, and the rows that are due at the front of the buffer, whose rest stays
-pub record Windows (signals first due : ℕ) (before : List ℕ) (m : Meaning) (r : ℕ) (after : List ℕ) : Type 0 where
+pub record Windows (signals first due mark : ℕ) (before : List ℕ) (m : Meaning) (r : ℕ) (after : List ℕ) : Type 0 where
   pub visits-are : r ≡ visits 0 (m .run) first
-  pub rows-are : after ≡ rows (seen first due (cyclesOf signals (m .run))) ++ drop (due * rowWidth signals) before
+  pub rows-are : after ≡ rows mark (seen first due (cyclesOf signals (m .run))) ++ drop (due * rowWidth signals) before

@@ -73,7 +73,7 @@ fn pattern<'a>(
     r.walk
 }
 
-// The rows that are due from the cycle `first` on, to the front of the buffer; and the visits there.
+// The rows that are due from the cycle `first` on, with a mark for unassigned pins, to the front of the buffer; and the visits there.
 pub fn window<'a>(
     text: &'a [u8],
     places: &'a [usize],
@@ -90,10 +90,11 @@ pub fn window<'a>(
     size: usize,
     first: usize,
     due: usize,
+    mark: u8,
     buffer: &mut [u8],
 ) -> usize
     requires { ⌜ SomeText (now text) (now places) (now lists) (now tplaces) (now waves) (now book) (now rows) (now list) known signals listed patterns size first due (now buffer) ⌝ }
-    ensures { λ r. ⌜ ((p : Parts) (d : Read) (m : Meaning) → Accepts (now (text .entry)) (now (places .entry)) (now (lists .entry)) (now (tplaces .entry)) (now (waves .entry)) (now (book .entry)) (now (rows .entry)) (now (list .entry)) known signals listed patterns size first due (now (buffer .entry)) p d m → Windows signals first due (now (buffer .entry)) m r (now (buffer .exit))) ⌝ }
+    ensures { λ r. ⌜ ((p : Parts) (d : Read) (m : Meaning) → Accepts (now (text .entry)) (now (places .entry)) (now (lists .entry)) (now (tplaces .entry)) (now (waves .entry)) (now (book .entry)) (now (rows .entry)) (now (list .entry)) known signals listed patterns size first due (now (buffer .entry)) p d m → Windows signals first due mark (now (buffer .entry)) m r (now (buffer .exit))) ⌝ }
 {
     let mut values = [0u8; pins::VALUES];
     let mut feeds = [0usize; pins::FEEDS];
@@ -105,6 +106,7 @@ pub fn window<'a>(
         show: due,
         budget,
         walking: true,
+        mark,
     };
     let mut k = 0;
     while k < listed {

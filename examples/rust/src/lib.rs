@@ -74,8 +74,9 @@ impl<'t> Text<'t> {
         Ok(&self.0[place..place + length])
     }
 
-    /// The rows of `wanted` cycles from the cycle `first` on, as far as there are so many, to the front of `rows`.
-    pub fn window(self, first: u64, wanted: u64, rows: &mut [u8]) -> Result<Window, Refused> {
+    /// The rows of `wanted` cycles from the cycle `first` on, as far as there are so many, to the front of `rows`; `mark`
+    /// stands for an unassigned pin.
+    pub fn window(self, first: u64, wanted: u64, mark: u8, rows: &mut [u8]) -> Result<Window, Refused> {
         let mut n = [0; 2];
         answered(unsafe {
             raw::lutemeteor_window(
@@ -83,6 +84,7 @@ impl<'t> Text<'t> {
                 self.0.len(),
                 first,
                 wanted,
+                mark,
                 rows.as_mut_ptr(),
                 rows.len(),
                 n.as_mut_ptr(),

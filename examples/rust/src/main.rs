@@ -10,6 +10,9 @@ use stil::{Kind, Refused, Text, ROW_MOST, TEXT_MOST};
 const ROWS: usize = 5;
 const BESIDE: usize = 36;
 
+/// The mark for an unassigned pin, as in filed listings.
+const UNASSIGNED: u8 = b'.';
+
 /// A page that is written at the end, so that a refused text has nothing but its refusal there.
 type Page = Vec<u8>;
 
@@ -80,7 +83,7 @@ fn waveform(text: Text, table: u64, signal: u64, character: u8, page: &mut Page)
 
 /// The waveform of the last signal that has a character in a row, if there is one.
 fn waveform_in(text: Text, row: &[u8], signals: usize, page: &mut Page) -> Result<(), Refused> {
-    match row[..signals].iter().rposition(|&character| character != b'.') {
+    match row[..signals].iter().rposition(|&character| character != UNASSIGNED) {
         Some(signal) => waveform(text, (row[signals] - b'0') as u64, signal as u64, row[signal], page),
         None => Ok(()),
     }
@@ -89,7 +92,7 @@ fn waveform_in(text: Text, row: &[u8], signals: usize, page: &mut Page) -> Resul
 fn middle(text: Text, signals: usize, cycles: u64, page: &mut Page) -> Result<(), Refused> {
     let mut rows = [0; ROWS * ROW_MOST];
     let first = cycles.saturating_sub(ROWS as u64) / 2;
-    let window = text.window(first, ROWS as u64, &mut rows)?;
+    let window = text.window(first, ROWS as u64, UNASSIGNED, &mut rows)?;
     page.extend(format!("CYCLES {cycles}\nROWS {} FROM {first}\n", window.rows).bytes());
     page.extend(&rows[..window.rows as usize * (signals + 2)]);
     page.extend(format!("VISITS {}\n", window.visits).bytes());

@@ -15,6 +15,7 @@ extern "C" {
         length: usize,
         first: u64,
         wanted: u64,
+        mark: u8,
         rows: *mut u8,
         rows_room: usize,
         numbers: *mut u64,

@@ -11,10 +11,10 @@ use Rattle.rows.proofs.put_row.Statement.{statement}
 use Rattle.rows.proofs.put_row.Tie as tie
 
 abbrev Inv-loop : tie.InvT-loop
-Inv-loop part₀ values signals table s₀ part s = (s ≤ signals) × Showed values part₀ s part
+Inv-loop part₀ values signals table mark s₀ part s = (s ≤ signals) × Showed mark values part₀ s part
 
 abbrev μ-loop : tie.MeasureT-loop
-μ-loop part₀ values signals table s₀ part s = signals - s
+μ-loop part₀ values signals table mark s₀ part s = signals - s
 
 loop-holds : tie.Need-loop-holds Inv-loop μ-loop
 loop-holds c = (omega arith, showed-none)
@@ -42,7 +42,7 @@ loop-again c =
     let x = turn .loop .inv .1 in
     let inside : turn .loop .s < length (turn .before .args .values .now) = omega arith in (
       omega arith,
-      ⊎-elim (λ w. rw (w .1) (showed-more x inside _ (sym (shown-none _ (w .0 .taken))))) (λ w. rw (w .1) (showed-more x inside _ (sym (shown-char _ (w .0 .left)))))
+      ⊎-elim (λ w. rw (w .1) (showed-more x inside _ (sym (shown-none _ _ (w .0 .taken))))) (λ w. rw (w .1) (showed-more x inside _ (sym (shown-char _ _ (w .0 .left)))))
           (c .if1 .came),
     )
 

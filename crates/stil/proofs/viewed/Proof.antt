@@ -39,7 +39,7 @@ decide-requires c κs = (record { sized = record { all = refl; rows = refl }; ta
 
 returns : tie.Need-returns
 returns c =
-    view-refused _ _ _ _ (c .before .before .before .before .before .before .before .before .before .before .before .before .before .before .before .before .before .before .before .before .before .before .args .spare) (meaning-refused _ (c .before .before .before .before .before .before .before .before .before .before .decide .ensures .0 .refuses (c .if1 .taken)))
+    view-refused _ _ _ _ _ (c .before .before .before .before .before .before .before .before .before .before .before .before .before .before .before .before .before .before .before .before .before .before .args .spare) (meaning-refused _ (c .before .before .before .before .before .before .before .before .before .before .decide .ensures .0 .refuses (c .if1 .taken)))
 
 slice-aggregate-view : tie.Need-slice-aggregate-view
 slice-aggregate-view c = search needs

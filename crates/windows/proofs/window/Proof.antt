@@ -18,18 +18,18 @@ use Rattle.windows.proofs.window.Statement.{statement}
 use Rattle.windows.proofs.window.Tie as tie
 
 abbrev Inv-loop : tie.InvT-loop
-Inv-loop text places lists tplaces book rows waves list known signals listed patterns size first due buffer₀ values₀ feeds₀ args₀ budget w₀ k₀ buffer values feeds args w k =
-    Unseen text places lists tplaces waves book rows list known signals listed patterns size first due budget buffer₀ k (arrays values feeds args) w buffer
+Inv-loop text places lists tplaces book rows waves list known signals listed patterns size first due mark buffer₀ values₀ feeds₀ args₀ budget w₀ k₀ buffer values feeds args w k =
+    Unseen text places lists tplaces waves book rows list known signals listed patterns size first due budget mark buffer₀ k (arrays values feeds args) w buffer
 
 abbrev μ-loop : tie.MeasureT-loop
-μ-loop text places lists tplaces book rows waves list known signals listed patterns size first due buffer₀ values₀ feeds₀ args₀ budget w₀ k₀ buffer values feeds args w k =
+μ-loop text places lists tplaces book rows waves list known signals listed patterns size first due mark buffer₀ values₀ feeds₀ args₀ budget w₀ k₀ buffer values feeds args w k =
     listed - k
 
 mul-budget : tie.Need-mul-budget Inv-loop μ-loop
 mul-budget c = omega (arith, size-fits (c .before .before .before .before .before .before .before .before .before .pre .accepts))
 
 loop-holds : tie.Need-loop-holds Inv-loop μ-loop
-loop-holds c = unseen _ _ _ _ _ _ _ _ _ _ _ _ _ _ _ _ _ (c .before .before .before .before .before .before .before .before .before .pre) (omega arith)
+loop-holds c = unseen _ _ _ _ _ _ _ _ _ _ _ _ _ _ _ _ _ _ (c .before .before .before .before .before .before .before .before .before .pre) (omega arith)
 
 slice-aggregate-pattern : tie.Need-slice-aggregate-pattern Inv-loop μ-loop
 slice-aggregate-pattern c = search needs
@@ -86,7 +86,7 @@ Accepting c =
 -- behind the loop all is gone through, whichever way it was left
 gone : (c : tie.Left-loop Inv-loop μ-loop) (p : Parts) (d : Read) (m : Meaning) → Accepting (begin (c .before)) p d m
     → Went (begin (c .before) .args .signals) (play 0 (m .run) (opening (begin (c .before) .args .signals)) .1) (visits 0 (m .run) (begin (c .before) .args .first))
-    (outset (begin (c .before) .args .size * 10) (begin (c .before) .args .first) (begin (c .before) .args .due)) (c .loop-test .w) (begin (c .before) .args .buffer .now) (c .loop-test .buffer)
+    (outset (begin (c .before) .args .size * 10) (begin (c .before) .args .first) (begin (c .before) .args .due) (begin (c .before) .args .mark)) (c .loop-test .w) (begin (c .before) .args .buffer .now) (c .loop-test .buffer)
 gone c p d m h =
     let left = c .before .loop .inv .left p d m h in
     ⊎-elim
