@@ -11,6 +11,7 @@ use crate::waveform::Waveform;
 use crate::waveforms::Waveforms;
 use crate::{call::outcome, tally::say, window::Window};
 use second::generate::random::Random;
+use second::DOT;
 
 /// Calls of one text, besides one of Check; a refused text has one of each, but of Token as many as any other.
 #[derive(Clone, Copy)]
@@ -19,6 +20,8 @@ pub struct Often {
     pub waveforms: usize,
     pub lists: usize,
     pub windows: usize,
+    /// Whether windows are asked for with other marks than the dot.
+    pub marks: bool,
     /// Up to this many cycles, windows are asked for at each of them.
     pub every: u64,
     /// At most so many tokens are asked for one by one, and so many at places that are drawn.
@@ -31,7 +34,8 @@ pub struct Often {
 impl Often {
     /// Without the calls that the linked library has no function for.
     fn linked(self) -> Often {
-        Often { lists: if proved::WAVEFORMS { self.lists } else { 0 }, ..self }
+        let lists = if proved::WAVEFORMS { self.lists } else { 0 };
+        Often { lists, marks: self.marks && proved::MARKS, ..self }
     }
 }
 
@@ -79,10 +83,10 @@ impl Comparison {
             self.waveforms.compare(named, &Waveforms::draw(document, random), proved, second);
         }
         for _ in 0..times(often.windows) {
-            self.window.compare(named, &Window::draw(document, random), proved, second);
+            self.window.compare(named, &Window::draw(document, often.marks, random), proved, second);
         }
         if let Some(document) = document.filter(|document| document.extent.cycles <= often.every) {
-            let calls = Window::every(document);
+            let calls = Window::every(document, often.marks);
             calls.iter().for_each(|call| self.window.compare(named, call, proved, second));
         }
         self.places(named, proved, second, often, random);
@@ -119,7 +123,7 @@ impl Comparison {
     /// Windows of which rows and visits are known: first, wanted, rows, visits.
     pub fn windows(&mut self, named: &str, text: &[u8], due: &[(u64, u64, &str, u64)]) {
         for &(first, wanted, rows, visits) in due {
-            let call = Window { first, wanted, rows: rows.len(), room: Window::DUE };
+            let call = Window { first, wanted, mark: DOT, rows: rows.len(), room: Window::DUE };
             let (answer, mut lent) = outcome(&call, &Proved(text));
             let left = lent.slices();
             let numbers = [rows.lines().count() as u64, visits];
@@ -145,8 +149,8 @@ impl Comparison {
     /// A line for each service, and one for what is not linked.
     pub fn lines(&self) -> String {
         let lines: String = self.tallies().iter().map(|tally| tally.line() + "\n").collect();
-        let unlinked =
-            if proved::WAVEFORMS { "" } else { "Waveforms is not compared: Cargo.toml says that it is not linked\n" };
-        lines + unlinked
+        let unlinked = proved::FEATURES.iter().filter(|(_, linked)| !linked);
+        let say = |feature| format!("Not compared, since Cargo.toml does not name it: {feature}\n");
+        lines + &unlinked.map(|(feature, _)| say(feature)).collect::<String>()
     }
 }

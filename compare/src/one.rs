@@ -13,6 +13,7 @@ use crate::waveform::Waveform;
 use crate::waveforms::Waveforms;
 use second::timing::Asked;
 use second::waveforms::ASKED;
+use second::DOT;
 use std::process::ExitCode;
 
 /// The second reader, which reads its text here at each call, as the proved one does.
@@ -35,8 +36,8 @@ impl Reader for Anew<'_> {
         Second::new(self.0).waveforms(list, lent)
     }
 
-    fn window(&self, first: u64, wanted: u64, rows: &mut [u8], numbers: &mut [u64]) -> u64 {
-        Second::new(self.0).window(first, wanted, rows, numbers)
+    fn window(&self, first: u64, wanted: u64, mark: u8, rows: &mut [u8], numbers: &mut [u64]) -> u64 {
+        Second::new(self.0).window(first, wanted, mark, rows, numbers)
     }
 
     fn token(&self, at: u64, numbers: &mut [u64]) -> u64 {
@@ -109,5 +110,5 @@ fn window(text: &[u8], first: u64, wanted: u64) -> Result<Box<dyn Call>, String>
     if due > 1 << 30 {
         return Err(format!("too many rows to be lent room for: {wanted}"));
     }
-    Ok(Box::new(Window { first, wanted, rows: due as usize, room: Window::DUE }))
+    Ok(Box::new(Window { first, wanted, mark: DOT, rows: due as usize, room: Window::DUE }))
 }

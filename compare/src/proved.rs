@@ -1,9 +1,26 @@
 //! The proved reader, behind its C interface.
 
 use crate::lent::Slices;
-use crate::raw::{lutemeteor_check, lutemeteor_name, lutemeteor_token, lutemeteor_waveform, lutemeteor_window};
+#[cfg(not(feature = "marks"))]
+use crate::raw::lutemeteor_window;
+use crate::raw::{lutemeteor_check, lutemeteor_name, lutemeteor_token, lutemeteor_waveform};
 use crate::reader::Reader;
 use second::timing::Asked;
+
+#[cfg(feature = "marks")]
+extern "C" {
+    fn lutemeteor_window(
+        text: *const u8,
+        length: usize,
+        first: u64,
+        wanted: u64,
+        mark: u8,
+        rows: *mut u8,
+        rows_room: usize,
+        numbers: *mut u64,
+        room: usize,
+    ) -> u64;
+}
 
 #[cfg(feature = "waveforms")]
 extern "C" {
@@ -25,6 +42,11 @@ extern "C" {
 
 /// Whether the linked library has waveforms by the list, as Cargo.toml says; else they are not compared.
 pub const WAVEFORMS: bool = cfg!(feature = "waveforms");
+
+/// Whether its window takes a mark; else each is asked for with the dot, which it shows then.
+pub const MARKS: bool = cfg!(feature = "marks");
+
+pub const FEATURES: [(&str, bool); 2] = [("waveforms", WAVEFORMS), ("marks", MARKS)];
 
 /// The proved reader with one text, which it reads at each call.
 pub struct Proved<'t>(pub &'t [u8]);
@@ -84,13 +106,16 @@ impl Reader for Proved<'_> {
         panic!("Cargo.toml says that the linked library has no waveforms by the list")
     }
 
-    fn window(&self, first: u64, wanted: u64, rows: &mut [u8], numbers: &mut [u64]) -> u64 {
+    #[cfg_attr(not(feature = "marks"), allow(unused_variables))]
+    fn window(&self, first: u64, wanted: u64, mark: u8, rows: &mut [u8], numbers: &mut [u64]) -> u64 {
         unsafe {
             lutemeteor_window(
                 self.0.as_ptr(),
                 self.0.len(),
                 first,
                 wanted,
+                #[cfg(feature = "marks")]
+                mark,
                 rows.as_mut_ptr(),
                 rows.len(),
                 numbers.as_mut_ptr(),

@@ -5,7 +5,7 @@ use second::refusal::{Answer, BUFFER_TOO_SHORT, NO_SUCH_ITEM};
 use second::services::Summary;
 use second::timing::Asked;
 use second::waveforms::accept_list;
-use second::{token, Declared, Document, Located, Refusal, Waveforms};
+use second::{accept_mark, token, Declared, Document, Located, Refusal, Waveforms};
 
 /// Each service gives 0 for an answer, else 32 times the place plus the number of the refusal; then every lent slice is as it was,
 /// but for what a list of waveforms had served before.
@@ -19,7 +19,7 @@ pub trait Reader {
     /// One number: all events, or how many waveforms were served before the first that is refused.
     fn waveforms(&self, list: &[u64], lent: Slices) -> u64;
     /// Two numbers: rows and visits.
-    fn window(&self, first: u64, wanted: u64, rows: &mut [u8], numbers: &mut [u64]) -> u64;
+    fn window(&self, first: u64, wanted: u64, mark: u8, rows: &mut [u8], numbers: &mut [u64]) -> u64;
     /// Three numbers: 1, place and length; or three times 0 where there is no further token.
     fn token(&self, at: u64, numbers: &mut [u64]) -> u64;
 }
@@ -101,10 +101,11 @@ impl Reader for Second<'_> {
         }))
     }
 
-    fn window(&self, first: u64, wanted: u64, rows: &mut [u8], numbers: &mut [u64]) -> u64 {
+    fn window(&self, first: u64, wanted: u64, mark: u8, rows: &mut [u8], numbers: &mut [u64]) -> u64 {
         told(self.document().and_then(|document| {
+            accept_mark(mark)?;
             let numbers = numbers.get_mut(..2).ok_or_else(too_short)?;
-            let window = document.window(first, wanted, rows)?;
+            let window = document.window(first, wanted, mark, rows)?;
             numbers.copy_from_slice(&[window.rows, window.visits]);
             Ok(())
         }))

@@ -2,6 +2,7 @@
 
 mod intake;
 mod lists;
+mod marks;
 
 use crate::comparison::{Comparison, Often};
 use crate::lent::Slices;
@@ -81,6 +82,19 @@ slips! {
     WindowRest,
     WindowShortByWanted,
     WindowWritesThoughRefused,
+    WindowMarkDot,
+    WindowMarkOther,
+    WindowMarkCut,
+    WindowMarkLetter,
+    WindowMarkDigit,
+    WindowMarkEnd,
+    WindowMarkReturn,
+    WindowMarkHigh,
+    WindowMarkUnshown,
+    WindowMarkBeforeText,
+    WindowMarkBehindRoom,
+    WindowMarkBehindRows,
+    WindowMarkBehindNumbers,
     TokenCut,
     TokenCutShort,
     TokenWholeWord,
@@ -166,7 +180,7 @@ impl Reader for Slipping<'_> {
         self.list(list, lent)
     }
 
-    fn window(&self, mut first: u64, mut wanted: u64, rows: &mut [u8], numbers: &mut [u64]) -> u64 {
+    fn window(&self, mut first: u64, mut wanted: u64, mark: u8, rows: &mut [u8], numbers: &mut [u64]) -> u64 {
         match self.slip {
             Slip::WindowFirstCut => first &= 0xffff_ffff,
             Slip::WindowWantedCut => wanted &= 0xffff_ffff,
@@ -176,7 +190,7 @@ impl Reader for Slipping<'_> {
         if self.slips(Slip::WindowShortByWanted, wanted > 1 << 40) && width > 0 {
             return 19;
         }
-        let answer = self.second.window(first, wanted, rows, numbers);
+        let answer = self.marked(first, wanted, mark, rows, numbers);
         if self.slips(Slip::WindowWritesThoughRefused, answer == 19 && rows.len() > 1) {
             rows[1] = b'.';
         }
@@ -272,7 +286,7 @@ fn opens_comment(text: &[u8], at: u64) -> bool {
 }
 
 const OFTEN: Often =
-    Often { names: 5, waveforms: 5, lists: 5, windows: 5, every: 20, tokens: 100, places: 20, bytes: 100 };
+    Often { names: 5, waveforms: 5, lists: 5, windows: 5, marks: true, every: 20, tokens: 100, places: 20, bytes: 100 };
 
 fn found(slip: Slip) -> bool {
     let mut comparison = Comparison::new();

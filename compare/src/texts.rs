@@ -8,20 +8,21 @@ use second::generate::random::Random;
 use second::generate::{large, nested, text, LARGE_KINDS};
 
 const SEEDED: Often =
-    Often { names: 2, waveforms: 3, lists: 3, windows: 4, every: 0, tokens: 400, places: 16, bytes: 64 };
+    Often { names: 2, waveforms: 3, lists: 3, windows: 4, marks: true, every: 0, tokens: 400, places: 16, bytes: 64 };
 const EACH: Often = Often { every: 200, bytes: 4_096, ..SEEDED };
 const SPECIAL: Often = Often {
     names: 100,
     waveforms: 200,
     lists: 200,
     windows: 200,
+    marks: true,
     every: 200,
     tokens: 10_000,
     places: 200,
     bytes: 10_000,
 };
 const LARGE: Often =
-    Often { names: 0, waveforms: 0, lists: 2, windows: 1, every: 0, tokens: 1_000, places: 100, bytes: 0 };
+    Often { names: 0, waveforms: 0, lists: 2, windows: 1, marks: true, every: 0, tokens: 1_000, places: 100, bytes: 0 };
 
 /// One seed in so many has a text made for 17 as well, and one in so many a window at each cycle and a token at each byte.
 const NESTED: u64 = 2;

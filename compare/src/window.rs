@@ -6,12 +6,13 @@ use crate::reader::Reader;
 use second::bounds::MAX_CYCLES;
 use second::edges::edge;
 use second::generate::random::Random;
-use second::Document;
+use second::{Document, DOT, MARK};
 
 #[derive(Debug)]
 pub struct Window {
     pub first: u64,
     pub wanted: u64,
+    pub mark: u8,
     pub rows: usize,
     pub room: usize,
 }
@@ -23,22 +24,25 @@ const FEW_BYTES: u64 = 1 << 13;
 impl Window {
     pub const DUE: usize = 2;
 
-    pub fn draw(document: Option<&Document>, random: &mut Random) -> Window {
+    /// With any mark, or with the dot alone.
+    pub fn draw(document: Option<&Document>, marks: bool, random: &mut Random) -> Window {
         let cycles = document.map_or(7, |document| document.extent.cycles);
         let first = draw_first(document, cycles, random);
         let left = cycles.saturating_sub(first);
         let wanted = draw_wanted(left, random);
         let width = document.map_or(4, |document| document.row_width()) as u64;
         let rows = draw_room(wanted.min(left) * width, random);
-        Window { first, wanted, rows, room: room_around(Window::DUE, random) }
+        let mark = if marks { draw_mark(random) } else { DOT };
+        Window { first, wanted, mark, rows, room: room_around(Window::DUE, random) }
     }
 
     /// At every cycle of a short run: none, one and two rows, and all in just enough room and in too little.
-    pub fn every(document: &Document) -> Vec<Window> {
+    pub fn every(document: &Document, marks: bool) -> Vec<Window> {
+        let mark = if marks { MARK } else { DOT };
         let (cycles, width) = (document.extent.cycles, document.row_width() as u64);
         let at = |first: u64, wanted: u64, more: i64| {
             let need = wanted.min(cycles.saturating_sub(first)) * width;
-            Window { first, wanted, rows: (need as i64 + more).max(0) as usize, room: Window::DUE }
+            Window { first, wanted, mark, rows: (need as i64 + more).max(0) as usize, room: Window::DUE }
         };
         let asks = [(0, 0), (1, 0), (2, 3), (u64::MAX, 0), (u64::MAX, -1)];
         (0..=cycles + 1).flat_map(|first| asks.map(|(wanted, more)| at(first, wanted, more))).collect()
@@ -75,6 +79,17 @@ fn draw_wanted(left: u64, random: &mut Random) -> u64 {
     wanted[random.below(wanted.len())]
 }
 
+/// Mostly one that is allowed; else one next to those that are not, or any.
+fn draw_mark(random: &mut Random) -> u8 {
+    let near = *b"/0 9:@AMZ[`amz{\t\n\x0b\r.?\x80\xb0\xe1\x8a\xff\0";
+    match random.below(4) {
+        0 => near[random.below(near.len())],
+        1 => random.draw() as u8,
+        2 => DOT,
+        _ => MARK,
+    }
+}
+
 /// Room around the bytes that are due, as far as so many are lent at all; seldom very many.
 fn draw_room(due: u64, random: &mut Random) -> usize {
     let rooms = [due, due, due, due + 1, due + 100, due.saturating_sub(1), due / 2, 0];
@@ -88,6 +103,6 @@ impl Call for Window {
     }
 
     fn make(&self, reader: &dyn Reader, lent: Slices) -> u64 {
-        reader.window(self.first, self.wanted, lent.bytes, lent.numbers)
+        reader.window(self.first, self.wanted, self.mark, lent.bytes, lent.numbers)
     }
 }

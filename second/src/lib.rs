@@ -29,6 +29,7 @@ pub use document::Document;
 pub use intake::{Intake, Progress};
 pub use listing::listing;
 pub use refusal::Refusal;
-pub use services::{check, name, waveform, window, Declared, Summary, Window};
+pub use rows::{DOT, MARK};
+pub use services::{accept_mark, check, name, waveform, window, Declared, Summary, Window};
 pub use tokens::{token, Located};
 pub use waveforms::{waveforms, Waveforms};

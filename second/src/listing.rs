@@ -3,6 +3,7 @@
 use crate::bounds::MAX_LISTING;
 use crate::document::Document;
 use crate::refusal::{Answer, Refusal};
+use crate::rows::DOT;
 use crate::services::Declared;
 
 pub fn listing(text: &[u8]) -> Answer<Vec<u8>> {
@@ -19,7 +20,7 @@ pub fn listing(text: &[u8]) -> Answer<Vec<u8>> {
     }
     let start = out.len();
     out.resize(start + document.extent.cycles as usize * document.row_width(), 0);
-    document.window(0, document.extent.cycles, &mut out[start..])?;
+    document.window(0, document.extent.cycles, DOT, &mut out[start..])?;
     Ok(out)
 }
 

@@ -3,7 +3,7 @@
 use second::listing::refusal_line;
 use second::refusal::Answer;
 use second::timing::Asked;
-use second::{bounds, listing, token, Declared, Document, Refusal};
+use second::{accept_mark, bounds, listing, token, Declared, Document, Refusal, MARK};
 use std::ffi::OsString;
 use std::fs::File;
 use std::io::{self, BufWriter, Read, Write};
@@ -14,7 +14,7 @@ const HELP: &str = "\
 check FILE..
 name FILE signal N
 name FILE table N
-window FILE FIRST COUNT
+window FILE FIRST COUNT [MARK]
 waveform FILE TABLE SIGNAL CHARACTER
 tokens FILE
 list FILE
@@ -52,7 +52,7 @@ fn answer(words: &[OsString], out: &mut dyn Write) -> Done {
     match command.as_bytes() {
         b"check" => check(rest, out),
         b"name" => name(exactly(rest, ["FILE", "signal or table", "N"])?, out),
-        b"window" => window(exactly(rest, ["FILE", "FIRST", "COUNT"])?, out),
+        b"window" => window(rest, out),
         b"waveform" => waveform(exactly(rest, ["FILE", "TABLE", "SIGNAL", "CHARACTER"])?, out),
         b"tokens" => tokens(exactly(rest, ["FILE"])?, out),
         b"list" => list(exactly(rest, ["FILE"])?, out),
@@ -88,6 +88,13 @@ fn number(word: &OsString) -> Result<u64, Fault> {
     let digits = !bytes.is_empty() && bytes.iter().all(u8::is_ascii_digit);
     let value = word.to_str().filter(|_| digits).and_then(|word| word.parse().ok());
     value.ok_or_else(|| Fault(format!("not a number: {}", word.to_string_lossy())))
+}
+
+fn one_byte(word: &OsString) -> Result<u8, Fault> {
+    match *word.as_bytes() {
+        [byte] => Ok(byte),
+        _ => Err(Fault(format!("not one byte: {}", word.to_string_lossy()))),
+    }
 }
 
 /// Writes the answer, or the one line of its refusal.
@@ -140,22 +147,28 @@ fn name([file, kind, which]: &[OsString; 3], out: &mut dyn Write) -> Done {
     })
 }
 
-fn window([file, first, count]: &[OsString; 3], out: &mut dyn Write) -> Done {
+/// The last word, a mark, may be missing.
+fn window(words: &[OsString], out: &mut dyn Write) -> Done {
+    let (words, more) = words.split_at(words.len().min(3));
+    let [file, first, count] = exactly(words, ["FILE", "FIRST", "COUNT"])?;
+    let chosen = if more.is_empty() { None } else { Some(&exactly(more, ["MARK"])?[0]) };
     let (first, count) = (number(first)?, number(count)?);
+    let mark = chosen.map_or(Ok(MARK), one_byte)?;
     let text = text_of(file)?;
-    write_answer(out, Document::read(&text), |out, document| write_rows(out, &document, first, count))
+    let answer = Document::read(&text).and_then(|document| accept_mark(mark).map(|()| document));
+    write_answer(out, answer, |out, document| write_rows(out, &document, first, count, mark))
 }
 
-fn write_rows(out: &mut dyn Write, document: &Document, first: u64, count: u64) -> io::Result<()> {
+fn write_rows(out: &mut dyn Write, document: &Document, first: u64, count: u64, mark: u8) -> io::Result<()> {
     let due = count.min(document.extent.cycles.saturating_sub(first));
     let width = document.row_width();
     let mut buffer = vec![0; due.min(ROWS_AT_ONCE) as usize * width];
     let fails = |refusal: Refusal| io::Error::new(io::ErrorKind::Other, refusal_line(refusal));
-    let visits = document.window(first, 0, &mut []).map_err(fails)?.visits;
+    let visits = document.window(first, 0, mark, &mut []).map_err(fails)?.visits;
     let mut written = 0;
     while written < due {
-        let rows =
-            document.window(first + written, (due - written).min(ROWS_AT_ONCE), &mut buffer).map_err(fails)?.rows;
+        let wanted = (due - written).min(ROWS_AT_ONCE);
+        let rows = document.window(first + written, wanted, mark, &mut buffer).map_err(fails)?.rows;
         out.write_all(&buffer[..rows as usize * width])?;
         written += rows;
     }
@@ -164,10 +177,7 @@ fn write_rows(out: &mut dyn Write, document: &Document, first: u64, count: u64) 
 
 fn waveform([file, table, signal, character]: &[OsString; 4], out: &mut dyn Write) -> Done {
     let (table, signal) = (number(table)?, number(signal)?);
-    let character = match *character.as_bytes() {
-        [byte] => byte,
-        _ => return Err(Fault(format!("not one byte: {}", character.to_string_lossy()))),
-    };
+    let character = one_byte(character)?;
     let text = text_of(file)?;
     let (mut times, mut letters) = ([0; bounds::MAX_EVENTS], [0; bounds::MAX_EVENTS]);
     let asked = Asked { table, signal, character };

@@ -5,31 +5,34 @@ use crate::document::Document;
 use crate::frame::Frame;
 use crate::statements::{Act, Range, Statement, Use};
 
-/// How a signal without a value is shown.
-const UNASSIGNED: u8 = b'.';
+/// How a signal without a value is shown where nothing else is chosen.
+pub const MARK: u8 = b'?';
+/// The mark of filed listings.
+pub const DOT: u8 = b'.';
 
 /// The row as it would be written now.
 #[derive(Clone, Copy)]
 struct Row([u8; MAX_SIGNALS + 2]);
 
 impl Row {
-    fn fresh(signals: usize) -> Row {
-        let mut row = Row([UNASSIGNED; MAX_SIGNALS + 2]);
+    fn fresh(signals: usize, mark: u8) -> Row {
+        let mut row = Row([mark; MAX_SIGNALS + 2]);
         row.0[signals + 1] = b'\n';
         row
     }
 }
 
 /// Fills `rows`, a whole number of rows that are all there, from cycle `first` on; gives the visits.
-pub fn write(document: &Document, first: u64, rows: &mut [u8]) -> u64 {
-    let row = Row::fresh(document.pins.signals);
-    let mut player = Player { document, row, width: document.row_width(), rows, written: 0, visits: 0 };
+pub fn write(document: &Document, first: u64, mark: u8, rows: &mut [u8]) -> u64 {
+    let row = Row::fresh(document.pins.signals, mark);
+    let mut player = Player { document, mark, row, width: document.row_width(), rows, written: 0, visits: 0 };
     player.run(first);
     player.visits
 }
 
 struct Player<'d, 't, 'b> {
     document: &'d Document<'t>,
+    mark: u8,
     row: Row,
     width: usize,
     rows: &'b mut [u8],
@@ -54,7 +57,7 @@ impl<'d> Player<'d, '_, '_> {
         let mut left = Some(first);
         for &pattern in &self.document.run {
             let body = &self.document.patterns[pattern];
-            self.row = Row::fresh(self.document.pins.signals);
+            self.row = Row::fresh(self.document.pins.signals, self.mark);
             left = match left {
                 Some(place) => {
                     self.visits += 1 + body.extent.size;
@@ -133,7 +136,7 @@ impl<'d> Player<'d, '_, '_> {
     /// The caller's table stays, its values are put by.
     fn begin_procedure(&mut self) -> Row {
         let caller = self.row;
-        self.row.0[..self.document.pins.signals].fill(UNASSIGNED);
+        self.row.0[..self.document.pins.signals].fill(self.mark);
         caller
     }
 }

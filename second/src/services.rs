@@ -39,8 +39,17 @@ pub fn name(text: &[u8], declared: Declared, number: u64) -> Answer<Located> {
     Ok(name.located())
 }
 
-pub fn window(text: &[u8], first: u64, wanted: u64, buffer: &mut [u8]) -> Answer<Window> {
-    Document::read(text)?.window(first, wanted, buffer)
+/// The mark shows a signal that is unassigned.
+pub fn window(text: &[u8], first: u64, wanted: u64, mark: u8, buffer: &mut [u8]) -> Answer<Window> {
+    Document::read(text)?.window(first, wanted, mark, buffer)
+}
+
+/// A mark that could be taken for a waveform character, or for a row's end, is refused, whatever rows are due.
+pub fn accept_mark(mark: u8) -> Answer<()> {
+    if mark.is_ascii_alphanumeric() || mark == b'\n' {
+        return Err(Refusal::new(BAD_DATA, 0));
+    }
+    Ok(())
 }
 
 pub fn waveform(
@@ -74,12 +83,13 @@ impl Document<'_> {
         }
     }
 
-    pub fn window(&self, first: u64, wanted: u64, buffer: &mut [u8]) -> Answer<Window> {
+    pub fn window(&self, first: u64, wanted: u64, mark: u8, buffer: &mut [u8]) -> Answer<Window> {
+        accept_mark(mark)?;
         let rows = wanted.min(self.extent.cycles.saturating_sub(first));
         let bytes = rows * self.row_width() as u64;
         let due = usize::try_from(bytes).ok().and_then(|bytes| buffer.get_mut(..bytes));
         let due = due.ok_or_else(|| Refusal::new(BUFFER_TOO_SHORT, 0))?;
-        Ok(Window { rows, visits: rows::write(self, first, due) })
+        Ok(Window { rows, visits: rows::write(self, first, mark, due) })
     }
 
     pub fn waveform(&self, asked: Asked, times: &mut [u64], letters: &mut [u8]) -> Answer<u64> {

@@ -57,6 +57,23 @@ fn single_answers() {
 }
 
 #[test]
+fn windows_with_a_mark() {
+    let text = &file("marks.stil", SAMPLE.replace("C { B = X; } ", "").as_bytes());
+    answers(&["window", text, "0", "2"], "1?0\n0H0\nVISITS 14\n");
+    answers(&["window", text, "0", "1", "?"], "1?0\nVISITS 14\n");
+    answers(&["window", text, "0", "1", "."], "1.0\nVISITS 14\n");
+    answers(&["window", text, "0", "1", " "], "1 0\nVISITS 14\n");
+    answers(&["window", text, "7", "1", "#"], "VISITS 9\n");
+    for mark in ["0", "9", "a", "z", "A", "Z", "X", "\n"] {
+        answers(&["window", text, "0", "1", mark], "REFUSED 12 AT 0\n");
+        answers(&["window", text, "7", "0", mark], "REFUSED 12 AT 0\n");
+    }
+    answers(&["window", &file("marks-hurt.stil", b"STIL 2.0;"), "0", "1", "a"], "REFUSED 4 AT 5\n");
+    let listed = run(&["list", text]).stdout;
+    assert!(listed.windows(4).any(|row| row == b"1.0\n"));
+}
+
+#[test]
 fn refusals_are_answers() {
     let hurt = &file("refused.stil", b"STIL 1.0; Signals { }");
     for words in [
@@ -102,6 +119,14 @@ fn faults_of_the_command_line() {
     turned_down(&["window", good, "0", "18446744073709551616"], "18446744073709551616");
     turned_down(&["window", good, "+1", "0"], "+1");
     turned_down(&["window", good, "", "0"], "not a number");
+    turned_down(&["window", good, "0"], "COUNT");
+    turned_down(&["window", good, "0", "0", ""], "not one byte");
+    turned_down(&["window", good, "0", "0", "??"], "??");
+    turned_down(&["window", good, "0", "0", "é"], "é");
+    turned_down(&["window", good, "0", "0", "?", "more"], "more");
+    turned_down(&["window", good, "x", "0", "??"], "x");
+    turned_down(&["window", "/nowhere.stil", "0", "0", "??"], "??");
+    turned_down(&["window", "/nowhere.stil", "0", "0", "a"], "/nowhere.stil");
     turned_down(&["waveform", good, "0", "0", "01"], "01");
     turned_down(&["waveform", good, "0", "0", ""], "not one byte");
     turned_down(&["list", "/nowhere.stil"], "/nowhere.stil");

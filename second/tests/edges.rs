@@ -4,7 +4,7 @@ mod common;
 use common::{build, judge, No, Ok5, SAMPLE};
 use second::edges::edge;
 use second::generate::random::Random;
-use second::{check, listing, name, token, waveform, window, Declared, Document, Located, Refusal};
+use second::{check, listing, name, token, waveform, window, Declared, Document, Located, Refusal, MARK};
 use std::collections::BTreeSet;
 
 fn many(count: usize, item: impl Fn(usize) -> String) -> String {
@@ -113,7 +113,7 @@ fn names_where_they_are_declared() {
 fn windows_write_only_what_is_due() {
     let ask = |first, wanted, room: usize| {
         let mut buffer = vec![b'-'; room];
-        let answer = window(SAMPLE.as_bytes(), first, wanted, &mut buffer);
+        let answer = window(SAMPLE.as_bytes(), first, wanted, MARK, &mut buffer);
         (answer.map(|window| window.rows), String::from_utf8(buffer).expect("plain"))
     };
     let short = Err(Refusal { number: 19, place: 0 });

@@ -1,7 +1,7 @@
 //! What the generator reaches, and that large texts are accepted.
 
 use second::generate::{large, run, sized, text, LARGE_KINDS, RUN_KINDS, SIZED_KINDS};
-use second::{check, listing, name, token, waveform, window, Declared, Refusal};
+use second::{check, listing, name, token, waveform, window, Declared, Refusal, MARK};
 use std::time::Instant;
 
 const SEEDS: u64 = 20_000;
@@ -48,7 +48,7 @@ fn large_texts_are_accepted() {
         println!("{kind}: {} bytes, {} cycles, size {}, checked in {each:?}", made.len(), answer.cycles, answer.size);
         let mut buffer = vec![0; 1000 * (answer.signals as usize + 2)];
         let last = answer.cycles - answer.cycles.min(1000);
-        assert!(window(&made, last, 1000, &mut buffer).is_ok());
+        assert!(window(&made, last, 1000, MARK, &mut buffer).is_ok());
         assert!(made.len() > 50_000 && made.len() <= 65_536, "{kind} is {} bytes", made.len());
     }
     assert!(large("other").is_none());
@@ -84,7 +84,8 @@ fn long_runs_are_accepted() {
 fn all_refuse(text: &[u8], refusal: Refusal) {
     let (mut rows, mut times, mut letters) = ([7; 64], [7; 64], [7; 64]);
     for number in [0, 1, u64::MAX] {
-        assert_eq!(window(text, number, number, &mut rows), Err(refusal));
+        assert_eq!(window(text, number, number, MARK, &mut rows), Err(refusal));
+        assert_eq!(window(text, number, number, b'A', &mut rows), Err(refusal));
         assert_eq!(waveform(text, number, number, b'0', &mut times, &mut letters), Err(refusal));
         assert_eq!(name(text, Declared::Signal, number), Err(refusal));
         assert_eq!(name(text, Declared::Table, number), Err(refusal));

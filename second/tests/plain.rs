@@ -5,7 +5,7 @@ use second::document::Document;
 use second::generate::{nested, text};
 use second::run::check_cycles;
 use second::statements::{Act, Range, Statement, Use};
-use second::Refusal;
+use second::{Refusal, DOT};
 use std::collections::HashMap;
 
 const MOST_CYCLES: u64 = 6_000;
@@ -164,7 +164,7 @@ fn compare(seed: u64, document: &Document) -> bool {
     while from <= cycles + 1 {
         for wanted in [0, 1, 7, cycles] {
             let mut buffer = vec![b'-'; plain.rows.len() + 3];
-            let window = document.window(from, wanted, &mut buffer).expect("room");
+            let window = document.window(from, wanted, DOT, &mut buffer).expect("room");
             let rows = wanted.min(cycles.saturating_sub(from));
             assert_eq!(window.rows, rows, "seed {seed}");
             assert_eq!(window.visits, visits_of_run(document, from), "seed {seed} at {from}");

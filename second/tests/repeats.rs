@@ -4,7 +4,7 @@ mod common;
 use common::{build, judge, rows, No, Ok5};
 use second::bounds::MAX_TEXT;
 use second::generate::{nested, text};
-use second::{check, listing, token, window, Located, Refusal};
+use second::{check, listing, token, window, Located, Refusal, DOT};
 use std::collections::HashMap;
 
 /// The macro's Shift plays these characters on A, one a cycle.
@@ -53,7 +53,8 @@ fn windows_begin_anywhere_in_a_repeated_word() {
     for first in 0..=11 {
         for wanted in 0..=12 - first {
             let mut buffer = vec![b'-'; 60];
-            let rows = window(text.as_bytes(), first as u64, wanted as u64, &mut buffer).expect("accepted").rows;
+            let window = window(text.as_bytes(), first as u64, wanted as u64, DOT, &mut buffer);
+            let rows = window.expect("accepted").rows;
             let end = 5 * (first + wanted).min(11);
             assert_eq!(buffer[..5 * rows as usize], due.as_bytes()[5 * first..end], "{wanted} from {first}");
         }

@@ -2,7 +2,7 @@
 
 mod common;
 use common::{build, judge, rows, unmark, No, Ok5, SAMPLE};
-use second::{check, listing, window, Refusal, Summary, Window};
+use second::{check, listing, window, Refusal, Summary, Window, MARK};
 
 const LISTING: &str = "SIGNALS 2\nA\nB\nTABLES 1\nt0\nCYCLES 7\n1X0\n0H0\n1H0\n0H0\n1L0\n0H0\n1H0\n";
 
@@ -18,7 +18,7 @@ fn refused(text: &str, number: u8) {
 
 fn read(text: &str, first: u64, wanted: u64) -> (Window, String) {
     let mut buffer = [b'-'; 64];
-    let window = window(text.as_bytes(), first, wanted, &mut buffer).expect("accepted");
+    let window = window(text.as_bytes(), first, wanted, MARK, &mut buffer).expect("accepted");
     (window, String::from_utf8(buffer.to_vec()).expect("plain").trim_end_matches('-').to_string())
 }
 
@@ -161,7 +161,7 @@ fn visits_past_statements_without_cycles_and_into_later_patterns() {
     let burst = "PatternBurst b { PatList { e; p; e; p; } } PatternExec { PatternBurst b; }
         Pattern e { } Pattern p { W t0; Macro e; Call q; Loop 3 { C { } V { } } Macro s { A = 010; B = 11; } }";
     let text = build("burst", burst);
-    let visits = |first| window(text.as_bytes(), first, 0, &mut []).expect("accepted").visits;
+    let visits = |first| window(text.as_bytes(), first, 0, MARK, &mut []).expect("accepted").visits;
     // e is 1; p is 1 + W 1, Macro e 1, Call q 2, Loop 3, Macro s 4: 12. Its cycles are 1 + 3 + 3.
     assert_eq!(visits(0), 1 + 12 + 1 + 1 + 2 + 1);
     assert_eq!(visits(1), 1 + 12 + 1 + 1 + 2 + 3 + 2);
