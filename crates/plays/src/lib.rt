@@ -1,6 +1,6 @@
 // Playing bodies where the text holds them, to find the first cycle that fails: one without a table, or with an assigned character that has no waveform
 // in it. Every Loop plays its first turn, and its second where fewer than two second turns are open and it isn't the first again. A used body whose sum is known
-// (`marks`, `sums`) and granted is passed; only one that may fail is entered.
+// (`marks`, `sums`) and granted is passed; only one that may fail is entered, and once from the same pins and table, as long as that is remembered.
 ghost use mathlib.Core.Path.{_≡_};
 ghost use mathlib.Core.Bool.{true};
 ghost use mathlib.Core.List.{List};
@@ -93,25 +93,28 @@ fn memo_row(long: usize, at: usize) -> usize
     (at % rows) * MEMO_ROW
 }
 
+// What the memo keeps, as a number.
 fn number(n: u16) -> usize
     ensures { λ r. ⌜ r ≡ n ⌝ }
 {
     n as usize
 }
 
+// A number, as the memo keeps it.
 fn short(n: usize) -> u16
     ensures { λ r. ⌜ (n < 65_536 → r ≡ n) ⌝ }
 {
     (n % KEPT) as u16
 }
 
+// A pin, as the memo keeps it.
 fn wide(b: u8) -> u16
     ensures { λ r. ⌜ (r ≡ b) × (r % 256 ≡ b) ⌝ }
 {
     b as u16
 }
 
-// A pin, of the number that keeps it.
+// The pin that was kept.
 fn pin_of(n: u16) -> u8
     ensures { λ r. ⌜ r ≡ n % 256 ⌝ }
 {
@@ -154,7 +157,8 @@ fn is_pictured(memo: &[u16], o: usize, table: usize, values: &[u8], signals: usi
     requires { ⌜ (o + pictureSize ≤ length (now memo)) × (signals < pictureSize) × (signals ≤ length (now values)) ⌝ }
     ensures { λ r. ⌜ (r ≡ true → Pictures (now (memo .entry)) o signals table (now (values .entry))) ⌝ }
 {
-    if number(memo[o]) != table {
+    let first = number(memo[o]);
+    if first != table {
         return false;
     }
     let mut s = 0;
@@ -733,7 +737,7 @@ fn used<'a>(
     let mut kept = [0u8; sets::MOST];
     keep(values, &mut kept, signals, true);
     pins::supply(given, args, feeds, frame.level + 1);
-    let r = play_body(
+    let left = play_body(
         text,
         places,
         lists,
@@ -754,11 +758,11 @@ fn used<'a>(
         args,
         memo,
     );
-    if r.failed {
-        return r;
+    if left.failed {
+        return left;
     }
-    remember(memo, u, table, &kept, r.table, values, signals);
-    r
+    remember(memo, u, table, &kept, left.table, values, signals);
+    left
 }
 
 // The statement at the cursor, or the `}` there.

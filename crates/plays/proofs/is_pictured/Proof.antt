@@ -9,10 +9,10 @@ use Rattle.plays.proofs.is_pictured.Statement.{statement}
 use Rattle.plays.proofs.is_pictured.Tie as tie
 
 abbrev Inv-loop : tie.InvT-loop
-Inv-loop memo o table values signals s₀ s = (s ≤ signals) × Pictures memo o s table values
+Inv-loop memo o table values signals first s₀ s = (s ≤ signals) × Pictures memo o s table values
 
 abbrev μ-loop : tie.MeasureT-loop
-μ-loop memo o table values signals s₀ s = signals - s
+μ-loop memo o table values signals first s₀ s = signals - s
 
 mul-number : tie.Need-mul-number Inv-loop μ-loop
 mul-number c = search needs

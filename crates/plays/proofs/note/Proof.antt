@@ -64,7 +64,7 @@ same-length : tie.Need-same-length
 same-length c = search needs
 
 returns : tie.Need-returns
-returns c = 
+returns c =
     let u = c .before .before .before .before .before .pre .1 in
     note-written _ _ _ _ _ _ _ (c .before .before .before .before .before .pre .0) (c .before .before .before .short .ensures (u .seconds)) (c .before .before .short2 .ensures (u .fault)) (c .before .short3 .ensures (u .at)) (c .short4 .ensures (u .end))
 

@@ -53,7 +53,7 @@ loop-less : tie.Need-loop-less Inv-loop μ-loop
 loop-less c = omega arith
 
 loop-again : tie.Need-loop-again Inv-loop μ-loop
-loop-again c = 
+loop-again c =
     let inv = c .before .before .before .loop .inv in
     let room = length-set (c .before .before .before .before .before .before .before .args .memo .now) (c .before .before .before .before .before .before .before .args .o) (c .before .before .before .before .short .result) in
     let d = drawn-next (c .wide .result) (inv .1) (inv .2) (omega arith) (omega (arith, inv .1 .long, room)) (c .wide .ensures .1) in
@@ -63,7 +63,7 @@ same-length : tie.Need-same-length Inv-loop μ-loop
 same-length c = c .before .loop .inv .1 .long ∙ length-set (c .before .before .before .before .before .args .memo .now) (c .before .before .before .before .before .args .o) (c .before .before .short .result)
 
 returns : tie.Need-returns Inv-loop μ-loop
-returns c = 
+returns c =
     let inv = c .before .loop .inv in
     (writes-then (writes-next writes-none (c .before .before .before .before .before .args .o) (c .before .before .short .result) (omega arith) (omega arith)) (inv .1), pictures-all (omega arith) (inv .2))
 

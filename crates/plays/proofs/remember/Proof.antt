@@ -22,7 +22,7 @@ returns-2 : tie.Need-returns-2
 returns-2 c = row-kept
 
 note-requires : tie.Need-note-requires
-note-requires c κs = 
+note-requires c κs =
     let r = room-short (c .before .before .before .before .before .before .before .before .args .memo .now) (c .before .before .before .before .memo-row .result) (c .before .before .before .before .before .before .before .before .args .table) (c .before .before .before .before .before .before .before .before .args .behind) (c .before .before .before .if1 .left) in
     (r .0, c .before .before .is-short .ensures (not-false _ (c .before .if2 .left)))
 
@@ -30,7 +30,7 @@ add-picture : tie.Need-add-picture
 add-picture c = search needs
 
 picture-requires : tie.Need-picture-requires
-picture-requires c κs = 
+picture-requires c κs =
     let r = room-short (c .before .before .before .before .before .before .before .before .before .before .before .before .args .memo .now) (c .before .before .before .before .before .before .before .before .memo-row .result) (c .before .before .before .before .before .before .before .before .before .before .before .before .args .table) (c .before .before .before .before .before .before .before .before .before .before .before .before .args .behind) (c .before .before .before .before .before .before .before .if1 .left) in
     (r .1, omega (arith, r .0, c .before .before .before .note .ensures .0 .long), c .before .before .before .before .before .before .before .before .before .before .before .before .pre .0, c .before .before .before .before .before .before .before .before .before .before .before .before .pre .1)
 
@@ -38,7 +38,7 @@ add-picture-2 : tie.Need-add-picture-2
 add-picture-2 c = search needs
 
 picture-requires-2 : tie.Need-picture-requires-2
-picture-requires-2 c κs = 
+picture-requires-2 c κs =
     let r = room-short (c .before .before .before .before .before .before .before .before .before .before .before .before .before .before .before .before .args .memo .now) (c .before .before .before .before .before .before .before .before .before .before .before .before .memo-row .result) (c .before .before .before .before .before .before .before .before .before .before .before .before .before .before .before .before .args .table) (c .before .before .before .before .before .before .before .before .before .before .before .before .before .before .before .before .args .behind) (c .before .before .before .before .before .before .before .before .before .before .before .if1 .left) in
     (r .2, omega (arith, r .0, c .before .before .before .before .before .before .before .note .ensures .0 .long, c .before .before .before .picture .ensures .0 .long), c .before .before .before .before .before .before .before .before .before .before .before .before .before .before .before .before .pre .0, c .before .before .before .before .before .before .before .before .before .before .before .before .before .before .before .before .pre .2)
 
