@@ -26,6 +26,15 @@ pub enum Within {
     Comment { open: usize, star: bool },
 }
 
+/// What a whole raw text in one chunk is stored as, in a store of as many bytes as any is filled with.
+pub fn stored(raw: &[u8]) -> Answer<Vec<u8>> {
+    let (mut intake, mut store) = (Intake::default(), vec![0; MAX_TEXT]);
+    intake.chunk(raw, &mut store)?;
+    intake.end(&mut store)?;
+    store.truncate(intake.stored);
+    Ok(store)
+}
+
 #[derive(Clone, Debug)]
 pub struct Intake {
     progress: Progress,

@@ -17,6 +17,7 @@ name FILE table N
 window FILE FIRST COUNT [MARK]
 waveform FILE TABLE SIGNAL CHARACTER
 tokens FILE
+intake FILE
 list FILE
 help
 ";
@@ -55,6 +56,7 @@ fn answer(words: &[OsString], out: &mut dyn Write) -> Done {
         b"window" => window(rest, out),
         b"waveform" => waveform(exactly(rest, ["FILE", "TABLE", "SIGNAL", "CHARACTER"])?, out),
         b"tokens" => tokens(exactly(rest, ["FILE"])?, out),
+        b"intake" => intake(exactly(rest, ["FILE"])?, out),
         b"list" => list(exactly(rest, ["FILE"])?, out),
         b"help" => {
             exactly(rest, [])?;
@@ -72,15 +74,19 @@ fn exactly<'w, const N: usize>(words: &'w [OsString], due: [&str; N]) -> Result<
     <&[OsString; N]>::try_from(words).map_err(|_| Fault(format!("one word too many: {}", words[N].to_string_lossy())))
 }
 
-/// A text's bytes, one past the bound at most: more cannot change that it is too long.
-fn read_text(file: &OsString) -> io::Result<Vec<u8>> {
-    let mut text = Vec::new();
-    File::open(file)?.take(bounds::MAX_TEXT as u64 + 1).read_to_end(&mut text)?;
-    Ok(text)
+/// A file's bytes, one past the bound at most: more cannot change that it is too long.
+fn read_file(file: &OsString, bound: usize) -> io::Result<Vec<u8>> {
+    let mut bytes = Vec::new();
+    File::open(file)?.take(bound as u64 + 1).read_to_end(&mut bytes)?;
+    Ok(bytes)
+}
+
+fn bytes_of(file: &OsString, bound: usize) -> Result<Vec<u8>, Fault> {
+    read_file(file, bound).map_err(|_| Fault(format!("cannot be read: {}", file.to_string_lossy())))
 }
 
 fn text_of(file: &OsString) -> Result<Vec<u8>, Fault> {
-    read_text(file).map_err(|_| Fault(format!("cannot be read: {}", file.to_string_lossy())))
+    bytes_of(file, bounds::MAX_TEXT)
 }
 
 fn number(word: &OsString) -> Result<u64, Fault> {
@@ -114,7 +120,7 @@ fn check(files: &[OsString], out: &mut dyn Write) -> Done {
     let (mut good, mut hurt, mut unread) = (0, 0, 0);
     for file in files {
         out.write_all(file.as_bytes())?;
-        match read_text(file).map(|text| second::check(&text)) {
+        match read_file(file, bounds::MAX_TEXT).map(|text| second::check(&text)) {
             Ok(Ok(sum)) => {
                 good += 1;
                 writeln!(out, " OK {} {} {} {} {}", sum.signals, sum.tables, sum.patterns, sum.cycles, sum.size)?;
@@ -206,6 +212,11 @@ fn tokens([file]: &[OsString; 1], out: &mut dyn Write) -> Done {
         }
     };
     write_answer(out, end, |out, count: u64| writeln!(out, "TOKENS {count}"))
+}
+
+fn intake([file]: &[OsString; 1], out: &mut dyn Write) -> Done {
+    let raw = bytes_of(file, bounds::MAX_RAW)?;
+    write_answer(out, second::intake::stored(&raw), |out, stored| out.write_all(&stored))
 }
 
 fn list([file]: &[OsString; 1], out: &mut dyn Write) -> Done {

@@ -31,6 +31,22 @@ fn turned_down(words: &[&str], named: &str) {
 }
 
 #[test]
+fn help_names_the_commands() {
+    let commands = [
+        "check FILE..",
+        "name FILE signal N",
+        "name FILE table N",
+        "window FILE FIRST COUNT [MARK]",
+        "waveform FILE TABLE SIGNAL CHARACTER",
+        "tokens FILE",
+        "intake FILE",
+        "list FILE",
+        "help",
+    ];
+    answers(&["help"], &(commands.join("\n") + "\n"));
+}
+
+#[test]
 fn check_goes_on_past_every_file() {
     let (good, hurt) = (file("good.stil", SAMPLE.as_bytes()), file("hurt.stil", b"STIL 2.0;"));
     let (long, none) = (file("long.stil", &[b' '; 200_000]), "/nowhere/at/all.stil");
@@ -99,6 +115,26 @@ fn tokens_up_to_the_refusal() {
 }
 
 #[test]
+fn the_stored_text_of_a_raw_one() {
+    let raw = b"// a reel\r\nSTIL  1.0;/* of\nlong ago */Signals{A/**/In;}\t// end";
+    answers(&["intake", &file("raw.stil", raw)], "\nSTIL 1.0;\nSignals{A In;} ");
+    answers(&["intake", &file("raw-none.stil", b"")], "");
+    answers(&["intake", &file("raw-slash.stil", b"a / b/")], "a / b/");
+    answers(&["intake", &file("raw-open.stil", b"a\n b/* c\n*")], "REFUSED 3 AT 4\n");
+    answers(&["intake", &file("raw-byte.stil", b"a\r\n/* \x80 */")], "REFUSED 2 AT 6\n");
+    // As many bytes are read as decide, so that what is far behind does not matter.
+    let of = |length: usize, end: &[u8]| [b"\n".as_slice(), &vec![b' '; length - 1], end].concat();
+    answers(&["intake", &file("raw-full.stil", &of(1_048_575, b"a"))], "\na");
+    answers(&["intake", &file("raw-past.stil", &of(1_048_576, b"a"))], "REFUSED 1 AT 1048576\n");
+    let past = &file("raw-far-past.stil", &of(1_048_576, &[0; 100_000]));
+    answers(&["intake", past], "REFUSED 1 AT 1048576\n");
+    let stores = |length: usize, end: &str| [&vec![b'a'; length], end.as_bytes()].concat();
+    answers(&["intake", &file("raw-fits.stil", &stores(65_535, "//"))], &("a".repeat(65_535) + " "));
+    answers(&["intake", &file("raw-more.stil", &stores(65_536, "a"))], "REFUSED 20 AT 65536\n");
+    answers(&["intake", &file("raw-close.stil", &stores(65_536, " \n"))], "REFUSED 20 AT 65538\n");
+}
+
+#[test]
 fn long_windows_in_parts() {
     let text = SAMPLE.replace("Loop 2", "Loop 100000");
     let output = run(&["window", &file("loop.stil", text.as_bytes()), "1", "200000"]);
@@ -131,5 +167,9 @@ fn faults_of_the_command_line() {
     turned_down(&["waveform", good, "0", "0", ""], "not one byte");
     turned_down(&["list", "/nowhere.stil"], "/nowhere.stil");
     turned_down(&["tokens"], "FILE");
+    turned_down(&["intake"], "FILE");
+    turned_down(&["intake", good, "more"], "more");
+    turned_down(&["intake", "/nowhere.stil"], "/nowhere.stil");
+    turned_down(&["intake", "/"], "cannot be read: /");
     turned_down(&["help", "me"], "me");
 }

@@ -86,8 +86,9 @@ fn argument<'a>(
     }
     let s = lists[i * signals::ROW + 1] as usize;
     let e = words::due(text, d, b"=");
-    let mut buffer = [0; ARGUMENT_MOST];
-    let f = data::data(text, e, false, &mut buffer);
+    // How many characters there are is asked, and not which.
+    let mut first = [0u8; 1];
+    let f = data::data(text, e, false, &mut first);
     let g = f.cursor;
     let r = words::refuse_if(g, ARGUMENT_MOST < f.n, BAD_DATA, f.last);
     if r.no != 0 {

@@ -212,7 +212,7 @@ times-ok t (b ∷ s) ts {n} {us} e = by (eqb b 114) (number s) refl e
     by true (some k) h e = between-by k h (leb 1 k && leb k repeatMost) refl (rw h at e)
     by false o h e = let z : _≡_ {A = ℕ} 0 1 = cc in absurd (omega arith)
 
--- `r` and a number t, and the word u whose first character is repeated
+-- `r` and a number t, and the word u that is repeated
 pub record Repeated (ts : Toks) (ds : List ℕ) (vs : Toks) : Type 0 where
   pub t : Tok
   pub u : Tok

@@ -1,4 +1,4 @@
--- What is left of an argument's characters, read from the text as they are needed: repeats are spelled out one by one.
+-- What is left of an argument's characters, read from the text as they are needed: a word that is repeated is read again.
 use Prim.Native.Nat.{ℕ, suc, _≤_, _<_, min}
 use mathlib.Core.Path.{_≡_}
 use mathlib.Core.Bool.{true, false}
