@@ -8,7 +8,7 @@ use mathlib.Core.Option.{Option, none, some}
 use mathlib.Core.List.{List, [], _∷_, _++_}
 use lib.Dec.{leb, ltb}
 use lib.ListN.{length}
-use borrow.Author.Tests.{leb-true, leb-false, ltb-true, ltb-false, le-leb}
+use borrow.Author.Tests.{leb-true, ltb-true, ltb-false, le-leb}
 use Rattle.tokens.specs.Tokens.{Tok, toks}
 use Rattle.meaning.specs.Body.{Body, done}
 use Rattle.meaning.specs.Run.{cycles}

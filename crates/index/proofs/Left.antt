@@ -21,9 +21,9 @@ use Rattle.meaning.specs.Statements.{Decl, Decls}
 use Rattle.meaning.specs.Edited.{alone}
 use Rattle.words.specs.Table.{nameOf, names, seconds}
 use Rattle.words.specs.Values.{told}
-use Rattle.words.proofs.Names.{over, found-by-number}
+use Rattle.words.proofs.Names.{found-by-number}
 use Rattle.measures.specs.Measures.{Measures}
-use Rattle.measures.specs.Book.{firstPattern, measureAt, Entry}
+use Rattle.measures.specs.Book.{firstPattern, measureAt}
 use Rattle.measures.proofs.Book.{part-listed}
 use Rattle.measures.proofs.Within.{cycles-within}
 use Rattle.texts.proofs.Runs.{listFrom, list-cut, found-none, found-pattern}
@@ -103,6 +103,11 @@ block-of (x ∷ xs) ks w d e = by (same (x .0 .word) w) e (block-of xs (drop 1 k
     by false e ih = ih e
 
 -- ---- the listed pattern of a number
+
+-- as the code finds it
+pub number-is : (text book part v w : List ℕ) (patterns i : ℕ) → part ≡ namesIn book → v ≡ w → told (ltb i patterns) i ≡ find (names text part patterns) v
+    → told (ltb i patterns) i ≡ find (names text (namesIn book) patterns) w
+number-is text book part v w patterns i p q e = e ∙ (rw (p, q))
 
 module _ {text book list : List ℕ} {patterns k : ℕ} {ps : Decls} {d : Decl} (n : Named text book list patterns k ps d) where
   -- the number that is found is a pattern's

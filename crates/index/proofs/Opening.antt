@@ -1,12 +1,10 @@
 -- THE KEYWORD'S PLACE: there stands the word `Pattern`, and behind it the pattern's name and `{`.
-use Prim.Native.Nat.{ℕ, zero, suc, _+_, _≤_}
+use Prim.Native.Nat.{ℕ, suc, _+_, _≤_}
 use native.Mathlib.Omega.{arith}
 use mathlib.Core.Path.{_≡_, refl, sym, ap, _∙_, subst}
 use mathlib.Core.Bool.{Bool, true, false}
 use mathlib.Core.Option.{Option, none, some}
 use mathlib.Core.List.{List, [], _∷_, _++_}
-use lib.Dec.{eqb}
-use lib.ListN.{drop, getD}
 use borrow.Author.Tests.{eq-eqb, ne-eqb}
 use Rattle.tokens.specs.Written.{bytes, same}
 use Rattle.tokens.specs.Tokens.{Tok, Toks, stop, tok, Mode, plain, inword, line, closing, opened, block, Act, go, token, bad, act, ended, done, lex, toks}
@@ -15,7 +13,7 @@ use Rattle.meaning.specs.Names.{find}
 use Rattle.meaning.specs.Groups.{groups}
 use Rattle.meaning.specs.Meaning.{given, firsts, Meaning, meaning}
 use Rattle.meaning.specs.Statements.{Decl, Decls, Env}
-use Rattle.meaning.specs.Document.{pattern, patterns, Read, document}
+use Rattle.meaning.specs.Document.{pattern, patterns, Read}
 use Rattle.meaning.specs.Edited.{fromToken}
 use Rattle.meaning.proofs.Others.{same-is}
 use Rattle.meaning.proofs.Accepted.{accepted}
@@ -24,7 +22,7 @@ use Rattle.held.proofs.Grammar.{moves-signals, moves-groups, moves-timing, move
 use Rattle.held.proofs.Bodies.{leads-bodies}
 use Rattle.held.proofs.Leads.{Leads, leads-bind, leads-while}
 use Rattle.held.proofs.Due.{new-is, due-is}
-use Rattle.held.proofs.Declared.{More, one-pattern}
+use Rattle.held.proofs.Declared.{one-pattern}
 use Rattle.held.proofs.Parts.{Parts, parts}
 use Rattle.index.specs.Index.{standsAt, keywordBefore, keywords, Block, blocks, Line, lineOf, linesFrom, linesOf, indexOf}
 

@@ -1,19 +1,21 @@
 -- The Pattern keywords, token by token and name by name.
-use Prim.Native.Nat.{ℕ, _+_, _*_, _<_}
+use Prim.Native.Nat.{ℕ, _+_, _*_, _-_, _≤_, _<_}
 use native.Mathlib.Omega.{arith}
 use native.Mathlib.Numerals.{add-one}
 use mathlib.Core.Path.{_≡_, refl, sym, ap, _∙_}
 use mathlib.Core.Bool.{Bool, true, false, _&&_}
-use mathlib.Core.List.{List, [], _∷_, _++_, append-assoc}
+use mathlib.Core.List.{List, [], _∷_, _++_, append-assoc, append-nil}
 use lib.Dec.{eqb, ltb}
 use lib.ListN.{length, getD, take, set}
 use lib.Seq.{take-suc-set}
 use borrow.Author.Tests.{lt-ltb, le-ltb}
 use Rattle.tokens.specs.Tokens.{Toks, stop, tok, toks, left}
+use Rattle.meaning.specs.Meaning.{firsts}
+use Rattle.words.specs.Table.{names as namesOf}
 use Rattle.words.specs.Cursor.{ahead, stopNo, stream, Stands}
 use Rattle.words.specs.declared.Cursor.{Cursor}
 use Rattle.words.proofs.Flow.{stream-on, stream-stop}
-use Rattle.texts.proofs.Runs.{listFrom, list-cut}
+use Rattle.texts.proofs.Runs.{listFrom, list-cut, list-end}
 use Rattle.index.specs.Index.{standsAt, keywordBefore, keywords}
 
 -- the code's test of the next token
@@ -44,9 +46,9 @@ module _ (text : List ℕ) (c d : Cursor) (h : c .at < c .end) (s : Stands text 
     keyword-later e = rw (on, keywordBefore) (rw (stands-at text d p ∙ e))
 
 -- no token is left
-pub keyword-none : (text : List ℕ) (c : Cursor) (p : ℕ) → (c .at < c .end → ⊥) → keywordBefore (stream text c) p ≡ (0, stream text c)
+pub keyword-none : (text : List ℕ) (c : Cursor) (p : ℕ) → c .end ≤ c .at → keywordBefore (stream text c) p ≡ (0, stream text c)
 unfolding keywordBefore
-keyword-none text c p h = rw (stream-stop text c (le-ltb (c .at) (c .end) (omega arith)))
+keyword-none text c p h = rw (stream-stop text c (le-ltb (c .at) (c .end) h))
 
 -- one name more
 pub keys-next : (text names keys : List ℕ) {all : List ℕ} (patterns i : ℕ) {at : ℕ} (c d : Cursor) → i < patterns → i < length keys
@@ -61,3 +63,18 @@ keys-next text names keys patterns i {at} c d h l e k =
     let grown : take i keys ++ (at ∷ []) ≡ take (i + 1) (set keys i at) = sym (take-suc-set keys i at l) ∙ ap (λ (n : ℕ). take n (set keys i at)) (sym (add-one i)) in
     e ∙ ap (λ (z : List ℕ). take i keys ++ z) cut ∙ sym (append-assoc (take i keys) (at ∷ []) (keywords (stream text d) rest))
     ∙ ap (λ (z : List ℕ). z ++ keywords (stream text d) rest) grown
+
+-- none yet
+pub keys-begin : (text names keys : List ℕ) (patterns : ℕ) (c : Cursor) → Stands text 0 c
+    → keywords (toks text 0) (listFrom text names patterns 0) ≡ take 0 keys ++ keywords (stream text c) (listFrom text names patterns 0)
+keys-begin text names keys patterns c s = ap (λ (ts : Toks). keywords ts (listFrom text names patterns 0)) (sym (s .there))
+
+-- all of them
+pub keys-all : (text names keys : List ℕ) (patterns i : ℕ) (c : Cursor) → i ≡ patterns
+    → keywords (toks text 0) (listFrom text names patterns 0) ≡ take i keys ++ keywords (stream text c) (listFrom text names patterns i)
+    → take patterns keys ≡ keywords (toks text 0) (firsts (namesOf text names patterns))
+unfolding keywords
+keys-all text names keys patterns i c q e =
+    let none : keywords (stream text c) (listFrom text names patterns i) ≡ [] = rw (list-end text names patterns i (omega arith), keywords) in
+    let all : patterns - 0 ≡ patterns = omega arith in
+    sym (append-nil (take patterns keys)) ∙ ap (λ (n : ℕ). take n keys ++ []) (sym q) ∙ ap (λ (l : List ℕ). take i keys ++ l) (sym none) ∙ sym e ∙ (rw all)

@@ -2,14 +2,14 @@
 use Prim.Native.Nat.{ℕ, zero, suc, _+_, _*_, _/_, _%_, _^_, _≤_, _<_}
 use native.Mathlib.Nat.{pow-succ'}
 use native.Mathlib.Omega.{arith}
-use mathlib.Core.Path.{_≡_, refl, sym, ap, _∙_, subst}
+use mathlib.Core.Path.{_≡_, refl, sym, ap, subst}
 use mathlib.Core.Bool.{Bool, true, false}
 use mathlib.Core.Option.{Option, none, some}
 use mathlib.Core.List.{List, [], _∷_, _++_}
-use lib.Dec.{leb, ltb, eqb}
+use lib.Dec.{leb, ltb}
 use lib.ListN.{length, drop, getD, length-append}
 use lib.Seq.{getD-drop}
-use borrow.Author.Tests.{leb-true, leb-false, ltb-true, ltb-false}
+use borrow.Author.Tests.{leb-true, leb-false, ltb-false}
 use Rattle.tokens.specs.Written.{bytes, same}
 use Rattle.tokens.specs.Refusals.{textMost, tooLong}
 use Rattle.tokens.specs.Tokens.{Tok, Toks, stop, tok, Mode, plain, inword, line, closing, opened, block, Act, go, token, bad, act, ended, done, lex, toks, faultIn, faultOf}
@@ -30,7 +30,7 @@ use Rattle.pages.specs.Pages.{digits, decimal, digitsMost}
 use Rattle.sections.specs.Listing.{countedOf, lines, Short}
 use Rattle.index.specs.Index.{standsAt, keywordBefore, keywords, Block, blocks, Line, lineOf, linesFrom, linesOf, Index, indexOf, lineWritten, linesWritten, written}
 use Rattle.index.proofs.Names.{tables-few, listed-few}
-use Rattle.index.proofs.Left.{alone-cycles, first-listed, block-of}
+use Rattle.index.proofs.Left.{first-listed, block-of}
 use Rattle.index.proofs.Counts.{as-many}
 
 -- ---- digits

@@ -1,20 +1,18 @@
 -- The lines of the listed patterns, put into a page one behind the other; and the pattern that holds a cycle, looked for from the front.
-use Prim.Native.Nat.{ℕ, zero, suc, _+_, _*_, _-_, _≤_, _<_}
+use Prim.Native.Nat.{ℕ, _+_, _*_, _-_, _≤_, _<_}
 use native.Mathlib.Omega.{arith}
 use native.Mathlib.Numerals.{add-one}
 use mathlib.Core.Path.{_≡_, refl, sym, ap, _∙_}
-use mathlib.Core.Bool.{true, false}
 use mathlib.Core.Option.{none, some}
 use mathlib.Core.List.{List, [], _∷_, _++_, append-assoc, append-nil}
 use lib.ListN.{length, getD, take}
 use lib.Seq.{getD-take}
 use borrow.Author.Tests.{le-leb, lt-ltb, le-ltb}
-use Rattle.tokens.specs.Written.{bytes}
-use Rattle.tokens.specs.Tokens.{Tok, toks}
+use Rattle.tokens.specs.Tokens.{toks}
 use Rattle.meaning.specs.Bounds.{nameMost}
 use Rattle.meaning.specs.Body.{Body}
 use Rattle.meaning.specs.Statements.{Decls}
-use Rattle.meaning.specs.Meaning.{given, runOf, firsts}
+use Rattle.meaning.specs.Meaning.{firsts}
 use Rattle.words.specs.Table.{nameOf, names}
 use Rattle.measures.specs.Book.{firstPattern}
 use Rattle.measures.proofs.Book.{part-listed}

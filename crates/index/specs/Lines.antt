@@ -17,7 +17,7 @@ use Rattle.words.specs.Values.{told}
 use Rattle.measures.specs.Book.{bookLength, firstPattern, measureAt, Entry, Listed}
 use Rattle.bursts.specs.Listed.{listedIn}
 use Rattle.sections.specs.Listing.{countMost, lineMost, Short}
-use Rattle.index.specs.Index.{keywords, Block, blocks, Line, linesFrom, Index}
+use Rattle.index.specs.Index.{keywords, Block, blocks, linesFrom, Index}
 use Rattle.index.specs.declared.Share.{Share}
 use Rattle.index.specs.declared.Held.{Held}
 
