@@ -199,18 +199,18 @@ pub fn holder<'a>(
     requires { ⌜ SomeLists (now text) (now book) (now list) listed patterns ⌝ }
     ensures { λ r. ⌜ ((ps : Decls) (run : Body) → Lists (now (text .entry)) (now (book .entry)) (now (list .entry)) listed patterns ps run → heldOf r ≡ holderOf n 0 (linesFrom 0 (blocksIn (now (text .entry)) ps) (listedIn (now (text .entry)) (now (list .entry)) listed))) ⌝ }
 {
-    let mut first = 0;
-    let mut k = 0;
-    while k < listed {
-        let s = listed_at(text, book, list, patterns, k);
-        if n < first + s.cycles {
+    let mut reached = 0;
+    let mut number = 0;
+    while number < listed {
+        let s = listed_at(text, book, list, patterns, number);
+        if n < reached + s.cycles {
             return Held {
                 held: true,
-                number: k,
+                number,
             };
         }
-        first += s.cycles;
-        k += 1;
+        reached += s.cycles;
+        number += 1;
     }
     Held {
         held: false,

@@ -10,10 +10,10 @@ use Rattle.index.proofs.holder.Statement.{statement}
 use Rattle.index.proofs.holder.Tie as tie
 
 abbrev Inv-loop : tie.InvT-loop
-Inv-loop text book list listed patterns n first₀ k₀ first k = (ps : Decls) (run : Body) (h : Lists text book list listed patterns ps run) → Unheld h n first k
+Inv-loop text book list listed patterns n reached₀ number₀ reached number = (ps : Decls) (run : Body) (h : Lists text book list listed patterns ps run) → Unheld h n reached number
 
 abbrev μ-loop : tie.MeasureT-loop
-μ-loop text book list listed patterns n first₀ k₀ first k = listed - k
+μ-loop text book list listed patterns n reached₀ number₀ reached number = listed - number
 
 loop-holds : tie.Need-loop-holds Inv-loop μ-loop
 loop-holds c = λ ps run h. unheld-all h (c .before .before .before .args .n)
@@ -31,13 +31,13 @@ add-if1 c =
 returns : tie.Need-returns Inv-loop μ-loop
 returns c = λ ps run h. held-here h (c .before .before .before .before .loop .inv ps run h) (c .before .before .before .loop-test .taken) (c .before .before .listed-at .ensures) (c .if1 .taken)
 
-add-first : tie.Need-add-first Inv-loop μ-loop
-add-first c =
+add-reached : tie.Need-add-reached Inv-loop μ-loop
+add-reached c =
     let h = c .before .before .before .before .before .before .before .before .before .pre .lists in
     record { fits = omega (arith, next-fits h (c .before .before .before .before .loop-test .taken) (c .before .before .before .before .before .loop .inv _ _ h .left) (c .before .before .before .listed-at .ensures)) }
 
-add-k : tie.Need-add-k Inv-loop μ-loop
-add-k c = record { fits = omega (arith, c .before .before .before .before .loop-test .taken, c .before .before .before .before .before .before .before .before .before .pre .lists .few-listed) }
+add-number : tie.Need-add-number Inv-loop μ-loop
+add-number c = record { fits = omega (arith, c .before .before .before .before .loop-test .taken, c .before .before .before .before .before .before .before .before .before .pre .lists .few-listed) }
 
 loop-less : tie.Need-loop-less Inv-loop μ-loop
 loop-less c = omega (arith, c .before .before .before .before .loop-test .taken)
@@ -58,8 +58,8 @@ holder-spec =
     listed-at-requires
     add-if1
     returns
-    add-first
-    add-k
+    add-reached
+    add-number
     loop-less
     loop-again
     returns-2)
