@@ -204,10 +204,7 @@ pub fn holder<'a>(
     while number < listed {
         let s = listed_at(text, book, list, patterns, number);
         if n < reached + s.cycles {
-            return Held {
-                held: true,
-                number,
-            };
+            return Held { held: true, number };
         }
         reached += s.cycles;
         number += 1;
