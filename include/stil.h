@@ -9,16 +9,17 @@
  *
  *   0           The call has its answer, which stands at the front of the buffers that were lent. What stands
  *               behind it there is left as it was.
- *   any other   The call is refused, and all buffers are as they were (but see lutemeteor_waveforms). answer % 32 is the refusal's number, 1 to 19;
+ *   any other   The call is refused, and all buffers are as they were (but see lutemeteor_waveforms). answer % 32 is the refusal's number, 1 to 19, or 21;
  *               answer / 32 is its place, a byte of the text counted from 0, or the text's length for its end.
  *
  * The intake, at the end of this file, is for a text that arrives in blocks: its state stands between the calls in
  * numbers of the caller's, also where it is refused. It has a refusal of its own, 20.
  *
  * Where several refusals fit, the first of these is given: 1, 2, 3; then, of 4 to 14, the one that stands first in
- * the text; then 15, 16, 17, 18, 19. A text that lutemeteor_check accepts is refused by lutemeteor_name and
+ * the text; then 15, 16, 17, 18, 21, 19. A text that lutemeteor_check accepts is refused by lutemeteor_name and
  * lutemeteor_waveform for 18 or 19 only, by lutemeteor_waveforms for 8 too, and by lutemeteor_window for 19,
- * or for 12 at 0 before that: its mark is none.
+ * or for 12 at 0 before that: its mark is none; by lutemeteor_index for 19 only, by lutemeteor_belongs for 21 only, and by
+ * lutemeteor_holds for 21 or 19.
  *
  * Pointers   Behind each pointer stands how many bytes or numbers are there; for a buffer, how many it has room
  *            for. All of them must be there during the call, numbers must be aligned as uint64_t is, and no buffer
@@ -50,7 +51,8 @@ enum {
     LUTEMETEOR_NAME_MOST = 32,   /* bytes of a name */
     LUTEMETEOR_ROW_MOST = 66,    /* bytes of a row: a character for each signal, the table's digit, and LF */
     LUTEMETEOR_EVENTS_MOST = 16, /* events of one waveform */
-    LUTEMETEOR_CHART_MOST = 64   /* waveforms of one list */
+    LUTEMETEOR_CHART_MOST = 64,  /* waveforms of one list */
+    LUTEMETEOR_INDEX_MOST = 1357 /* bytes of an index */
 };
 
 /* The refusals; behind the semicolon, their place. */
@@ -80,8 +82,9 @@ enum {
     LUTEMETEOR_NOT_PLAYABLE = 17,    /* a cycle has no table, or a character that has no waveform in it; its V */
     LUTEMETEOR_NO_SUCH = 18,         /* the text has no such signal, table or waveform; 0 */
     LUTEMETEOR_NO_ROOM = 19,         /* a buffer is too short for what is due; 0 */
-    LUTEMETEOR_NO_STORE = 20         /* of the intake: the store lacks room; the raw byte that adds to it, or the raw
+    LUTEMETEOR_NO_STORE = 20,        /* of the intake: the store lacks room; the raw byte that adds to it, or the raw
                                         length */
+    LUTEMETEOR_NOT_THE_INDEX = 21    /* an index is not what a rebuild of it writes; 0 */
 };
 
 /* Of an answer that is not 0: the refusal's number, and its place. */
@@ -175,6 +178,39 @@ uint64_t lutemeteor_waveform(const uint8_t *text, size_t length, uint64_t table,
 uint64_t lutemeteor_waveforms(const uint8_t *text, size_t length, const uint64_t *asked, size_t asked_length,
                               uint64_t *times, size_t times_room, uint8_t *letters, size_t letters_room,
                               uint64_t *counts, size_t counts_room, uint64_t *numbers, size_t numbers_room);
+
+/*
+ * Index: a text's index, to be kept beside it. Lines of words with one space between, LF behind each: `PATTERNS` and how
+ * many are listed; for each listed pattern, in the list's order, its name, the number of its first cycle in the run, how
+ * many cycles it has, and the byte place of its Pattern keyword; `TABLES` and how many there are; each table's name. A
+ * pattern without cycles has a count of 0 and the cycle at which it would begin.
+ *
+ *   index        its bytes, at most 1,357
+ *   numbers[0]   how many there are
+ *
+ * Refused 1 to 17; 19 where `index_room` is less than those bytes, or `room` is 0.
+ */
+uint64_t lutemeteor_index(const uint8_t *text, size_t length, uint8_t *index, size_t index_room, uint64_t *numbers,
+                          size_t room);
+
+/*
+ * Belongs: is an index the text's, byte for byte what lutemeteor_index writes of it? 0 where it is.
+ *
+ * Refused 1 to 17; 21, at place 0, where it isn't.
+ */
+uint64_t lutemeteor_belongs(const uint8_t *text, size_t length, const uint8_t *index, size_t index_length);
+
+/*
+ * Holds: which listed pattern holds a cycle of the run, counted from 0, by an index that belongs to the text.
+ *
+ *   numbers[0]   1; or 0 where the run has no such cycle
+ *   numbers[1]   the pattern's number in the list, counted from 0, or 0
+ *
+ * Refused 1 to 17; 21, at place 0, where the index doesn't belong to the text, whatever the cycle is; 19 where `room` is
+ * less than 2.
+ */
+uint64_t lutemeteor_holds(const uint8_t *text, size_t length, const uint8_t *index, size_t index_length, uint64_t cycle,
+                          uint64_t *numbers, size_t room);
 
 /*
  * Token: the first token at or behind the place `at`, as if the text began there; blanks and comments are passed over.

@@ -8,9 +8,12 @@ use Rattle.sections.specs.Listing.{ended, refusal}
 
 -- ---- answers
 
--- VISITS v, EVENTS k, TOKENS k
+-- VISITS v, EVENTS k, TOKENS k, PATTERN k
 unfoldable pub counted : List ℕ → ℕ → List ℕ
 counted word n = ended (word ++ decimal n)
+
+unfoldable pub noPattern : List ℕ
+noPattern = ended (bytes "NO PATTERN")
 
 -- A AT 20 LENGTH 1
 unfoldable pub nameLine : List ℕ → ℕ → List ℕ
@@ -54,6 +57,8 @@ helpLines = lines (
     ∷ "name FILE table N"
     ∷ "window FILE FIRST COUNT [MARK]"
     ∷ "waveform FILE TABLE SIGNAL CHARACTER"
+    ∷ "index FILE"
+    ∷ "holds FILE INDEXFILE N"
     ∷ "tokens FILE"
     ∷ "intake FILE"
     ∷ "list FILE"

@@ -8,7 +8,7 @@ ghost use lib.Dec.{leb, ltb};
 ghost use lib.ListN.{length};
 ghost use Rattle.tokens.specs.Written.{bytes};
 ghost use Rattle.pages.specs.Pages.{decimal, digitsMost};
-ghost use Rattle.lines.specs.Lines.{counted as countedOf, nameLine, eventLine, tokenLine, goodLine, hurtLine, unreadLine, sumLine, progress as progressOf, helpLines, faultLine, countMost, refusalMost, lineMost};
+ghost use Rattle.lines.specs.Lines.{counted as countedOf, noPattern, nameLine, eventLine, tokenLine, goodLine, hurtLine, unreadLine, sumLine, progress as progressOf, helpLines, faultLine, countMost, refusalMost, lineMost};
 ghost use Rattle.sections.specs.Listing.{refusal, Adds};
 ghost use Rattle.lines.specs.Numbers.{numberMost, numberOf, told};
 
@@ -59,6 +59,22 @@ pub fn tokens(page: &mut [u8], at: usize, k: usize) -> usize
     ensures { λ r. ⌜ Adds (now (page .entry)) at (countedOf (bytes "TOKENS ") k) lineMost r (now (page .exit)) ⌝ }
 {
     counted(page, at, b"TOKENS ", k as u64)
+}
+
+// PATTERN k
+pub fn pattern(page: &mut [u8], at: usize, k: usize) -> usize
+    requires { ⌜ at + lineMost ≤ length (now page) ⌝ }
+    ensures { λ r. ⌜ Adds (now (page .entry)) at (countedOf (bytes "PATTERN ") k) lineMost r (now (page .exit)) ⌝ }
+{
+    counted(page, at, b"PATTERN ", k as u64)
+}
+
+// NO PATTERN
+pub fn no_pattern(page: &mut [u8], at: usize) -> usize
+    requires { ⌜ at + lineMost ≤ length (now page) ⌝ }
+    ensures { λ r. ⌜ Adds (now (page .entry)) at noPattern lineMost r (now (page .exit)) ⌝ }
+{
+    pages::put(page, at, b"NO PATTERN\n")
 }
 
 // REFUSED n AT p
@@ -178,7 +194,7 @@ pub fn help(page: &mut [u8], at: usize) -> usize
     pages::put(
         page,
         end,
-        b"waveform FILE TABLE SIGNAL CHARACTER\ntokens FILE\nintake FILE\nlist FILE\nhelp\n",
+        b"waveform FILE TABLE SIGNAL CHARACTER\nindex FILE\nholds FILE INDEXFILE N\ntokens FILE\nintake FILE\nlist FILE\nhelp\n",
     )
 }
 

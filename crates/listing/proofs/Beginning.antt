@@ -12,11 +12,11 @@ use Rattle.words.specs.Table.{names}
 use Rattle.timing.specs.declared.Watch.{Watch}
 use Rattle.texts.specs.Tables.{Found}
 use Rattle.texts.specs.declared.Verdict.{Verdict}
+use Rattle.index.proofs.Names.{signals-few}
 use Rattle.stil.proofs.Found.{meantBy, names-are, counts-met}
 use Rattle.sections.specs.Listing.{frontMost, front, refusal, sectionsOf, Short, firstOf, lastOf, Fronts}
 use Rattle.sections.specs.declared.Page.{Page}
 use Rattle.listing.specs.Pages.{tooSmall, Begins}
-use Rattle.listing.proofs.Names.{signals-few, tables-few}
 
 pub begins-small : {text before : List ℕ} → length before < frontMost → Begins text before tooSmall before
 begins-small {text} {before} h = record { small = λ l. (refl, refl); refuses = λ l. absurd (omega arith); accepts = λ l. absurd (omega arith) }
@@ -49,10 +49,6 @@ module _ {w : Watch} {text places lists tplaces waves book rows list : List ℕ}
   pub signals-short : Short (firsts (names text places (v .parts .signals)))
   unfolding namesOf
   signals-short = subst Short (names-are f false) (signals-few .all _ _ _ (f .tabled .parts .signals-read))
-
-  pub tables-short : Short (firsts (names text tplaces (v .parts .known .tables)))
-  unfolding namesOf
-  tables-short = subst Short (names-are f true) (tables-few _ .all _ _ _ (f .tabled .parts .timing-read))
 
   -- as the tables hold it
   abbrev held : List ℕ

@@ -1,4 +1,3 @@
-mod Names
 mod Beginning
 mod Going
 pub mod Whole

@@ -13,6 +13,18 @@ pub fn visits(v: usize) {
     streams::write(&page, end);
 }
 
+pub fn pattern(k: usize) {
+    let mut page = asked::page();
+    let end = lines::pattern(&mut page, 0, k);
+    streams::write(&page, end);
+}
+
+pub fn no_pattern() {
+    let mut page = asked::page();
+    let end = lines::no_pattern(&mut page, 0);
+    streams::write(&page, end);
+}
+
 pub fn help() {
     let mut page = asked::page();
     let end = lines::help(&mut page, 0);

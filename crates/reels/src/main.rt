@@ -3,8 +3,10 @@ mod answers;
 mod asked;
 mod checked;
 mod files;
+mod holding;
 mod listed;
 mod named;
+mod rebuilt;
 mod shaped;
 mod shown;
 mod split;
@@ -16,7 +18,8 @@ fn help() {
     }
 }
 
-// The commands that ask for a listing, for tokens or for what is stored of a raw text, or for what the commands are.
+// The commands that ask for tokens, for what is stored of a raw text, for an index or the pattern that holds a cycle, for a listing, or for what the
+// commands are.
 fn other(command: &[u8]) -> bool {
     if words::equal(command, b"tokens") {
         split::tokens();
@@ -24,6 +27,14 @@ fn other(command: &[u8]) -> bool {
     }
     if words::equal(command, b"intake") {
         stored::intake();
+        return true;
+    }
+    if words::equal(command, b"index") {
+        rebuilt::index();
+        return true;
+    }
+    if words::equal(command, b"holds") {
+        holding::holds();
         return true;
     }
     if words::equal(command, b"list") {

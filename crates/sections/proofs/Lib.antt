@@ -1,3 +1,3 @@
-mod Laws
+pub mod Laws
 pub mod Determined
 pub mod Sample

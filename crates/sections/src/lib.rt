@@ -47,7 +47,7 @@ pub fn refused(page: &mut [u8], no: u8, place: usize) -> Page
 }
 
 // A section's word and its count, behind what is there.
-fn counted(page: &mut [u8], at: usize, word: &[u8], n: usize) -> usize
+pub fn counted(page: &mut [u8], at: usize, word: &[u8], n: usize) -> usize
     requires { ⌜ at + (length (now word) + countMost) ≤ length (now page) ⌝ }
     ensures { λ r. ⌜ Adds (now (page .entry)) at (countedOf (now (word .entry)) n) (length (now (word .entry)) + countMost) r (now (page .exit)) ⌝ }
 {
@@ -58,7 +58,13 @@ fn counted(page: &mut [u8], at: usize, word: &[u8], n: usize) -> usize
 }
 
 // A line for each name.
-fn lines<'a>(page: &mut [u8], at: usize, text: &'a [u8], places: &'a [usize], count: usize) -> usize
+pub fn lines<'a>(
+    page: &mut [u8],
+    at: usize,
+    text: &'a [u8],
+    places: &'a [usize],
+    count: usize,
+) -> usize
     requires { ⌜ Short (firsts (names (now text) (now places) count)) × (count ≤ signalsMost) × (at + count * lineMost ≤ length (now page)) ⌝ }
     ensures { λ r. ⌜ Adds (now (page .entry)) at (linesOf (firsts (names (now (text .entry)) (now (places .entry)) count))) (count * lineMost) r (now (page .exit)) ⌝ }
 {

@@ -9,5 +9,6 @@ mod Handing
 mod Opening
 mod Charting
 mod Carrying
+pub mod Indexing
 pub mod Chained
 pub mod Theorems

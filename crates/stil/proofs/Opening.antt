@@ -18,7 +18,7 @@ use Rattle.stil.specs.declared.Shown.the-variants.{Rows, Refused}
 use Rattle.stil.proofs.Handing.{hands-none, hands-all}
 
 -- without room for what else is handed out, nothing is given
-spared-none : {A : Type 0} (a : Answer A) (x : A) → spared false a ≡ given x → ⊥
+pub spared-none : {A : Type 0} (a : Answer A) (x : A) → spared false a ≡ given x → ⊥
 unfolding answering
 spared-none (given y) x e = let z : _≡_ {A = ℕ} 0 1 = cc in omega arith
 spared-none (refused n p) x e = let z : _≡_ {A = ℕ} 0 1 = cc in omega arith

@@ -57,7 +57,7 @@ unfolding window answering windowOf
 view-unmarked text first wanted mark buffer spare e bad = views-refused (rw (e, bad, window, windowOf))
 
 -- no room for the rows, or for what else is handed out
-room : (spare : Bool) (bytes long : ℕ) → (spare && leb bytes long) ≡ not (not spare || ltb long bytes)
+pub room : (spare : Bool) (bytes long : ℕ) → (spare && leb bytes long) ≡ not (not spare || ltb long bytes)
 room true bytes long = by (ltb long bytes) refl
   where
     by : (y : Bool) → ltb long bytes ≡ y → leb bytes long ≡ not y
@@ -65,7 +65,7 @@ room true bytes long = by (ltb long bytes) refl
     by false e = le-leb bytes long (ltb-false long bytes e)
 room false bytes long = refl
 
-spared-room : {A : Type 0} (spare enough : Bool) (x : A)
+pub spared-room : {A : Type 0} (spare enough : Bool) (x : A)
     → spared {A = A} spare (elim enough [ false ↦ refused noRoom 0 | true ↦ given x ]) ≡ elim (spare && enough) [ false ↦ refused noRoom 0 | true ↦ given x ]
 unfolding answering
 spared-room true true x = refl

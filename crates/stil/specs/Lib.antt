@@ -7,3 +7,4 @@ pub mod Waveforms
 pub mod Interface
 pub mod Charts
 pub mod Intakes
+pub mod Indexes

@@ -1,4 +1,5 @@
-// The services: Check, Name, Window, Waveform and waveforms by the list, for any text, any numbers and any buffers; and these, the next token and the intake for callers in C.
+// The services: Check, Name, Window, Waveform, waveforms by the list and the index, for any text, any numbers and any buffers; and these, the next token and
+// the intake for callers in C.
 ghost use mathlib.Core.Path.{_≡_};
 ghost use mathlib.Core.List.{_∷_, []};
 ghost use mathlib.Core.Bool.{false, not};
@@ -16,14 +17,18 @@ ghost use Rattle.timing.specs.Marks.{tableSize};
 ghost use Rattle.timing.specs.declared.Watch.{Watch};
 ghost use Rattle.texts.specs.Tables.{Found, NotesSound};
 ghost use Rattle.texts.specs.Told.{packedRefusal};
+ghost use Rattle.index.specs.Index.{index as indexOf, belongs as belongsTo, holds as holdsIn};
+ghost use Rattle.index.specs.Lines.{indexMost};
 ghost use Rattle.stil.specs.Answers.{checkedOf, whichOf, locatedOf};
 ghost use Rattle.stil.specs.Judged.{namedOf, numbered, Judges, Copies};
 ghost use Rattle.stil.specs.Found.{noWaveform, SomeFound, Plays};
 ghost use Rattle.stil.specs.Views.{spared, Views};
 ghost use Rattle.stil.specs.Waveforms.{Outlines, Shapes};
 ghost use Rattle.stil.specs.Charts.{Plots, Sketches};
-ghost use Rattle.stil.specs.Interface.{Hands, fronted, fiveOf, twoOf, threeOf, tokenOf, Opens, Draws};
+ghost use Rattle.stil.specs.Interface.{Hands, packed, fronted, fiveOf, twoOf, threeOf, tokenOf, Opens, Draws};
 ghost use Rattle.stil.specs.Intakes.{stateLeast, byteOf, progressIs, Tells, Carries, rawRefusal};
+ghost use Rattle.stil.specs.Indexes.{Rebuilds, belongingOf, holdingOf, Indexes, Writes, holderTwo};
+use index::Held;
 use intake::Intake;
 use intake::Progress;
 use plays::Failing;
@@ -42,6 +47,8 @@ const NOT_PLAYABLE: u8 = 17;
 const NO_SUCH: u8 = 18;
 
 const NO_ROOM: u8 = 19;
+
+const NOT_THE_INDEX: u8 = 21;
 
 // What is wanted of a text beside its counts: a name by its number, and where a waveform stands.
 struct Wanted {
@@ -79,6 +86,14 @@ struct Outline {
     count: usize,
 }
 
+// The refusal's number, 0 for none, and its place; or else the length of the index, and the listed pattern that holds a cycle.
+struct Rebuilt {
+    no: u8,
+    place: usize,
+    length: usize,
+    holder: Held,
+}
+
 pub enum Checked {
     // signals, tables, listed patterns, cycles, size of the run
     Counted(usize, usize, usize, usize, usize),
@@ -110,6 +125,24 @@ pub enum Charted {
     // the first that is refused, its number and place; and how many were served before it
     Stopped(u8, usize, usize),
     // refused before any of them
+    Refused(u8, usize),
+}
+
+pub enum Indexed {
+    // the index's length
+    Written(usize),
+    Refused(u8, usize),
+}
+
+pub enum Belonging {
+    Belongs,
+    Refused(u8, usize),
+}
+
+pub enum Holding {
+    // the pattern's number in the list
+    Pattern(usize),
+    NoPattern,
     Refused(u8, usize),
 }
 
@@ -721,6 +754,174 @@ pub fn waveforms(
     plotted(text, asked, true, times, letters, counts)
 }
 
+// ---- the index
+
+// The index of a text that 1 to 16 leave: 17, or its bytes at the front of a page; and the listed pattern that holds a cycle.
+fn rebuild_found<'a>(
+    text: &'a [u8],
+    places: &'a [usize],
+    lists: &'a [u16],
+    tplaces: &'a [usize],
+    waves: &'a [u8],
+    book: &'a [usize],
+    rows: &'a [u16],
+    list: &'a [usize],
+    used: &'a [u8],
+    v: Verdict,
+    cycle: usize,
+    page: &mut [u8],
+) -> Rebuilt
+    requires { ⌜ SomeFound (now text) (now places) (now lists) (now tplaces) (now waves) (now book) (now rows) (now list) (now used) v × (indexMost ≤ length (now page)) ⌝ }
+    ensures { λ r. ⌜ Rebuilds (now (text .entry)) cycle r (now (page .exit)) ⌝ }
+{
+    let parts = v.parts;
+    let known = parts.known;
+    let f = failing(
+        text,
+        places,
+        lists,
+        tplaces,
+        waves,
+        book,
+        rows,
+        list,
+        used,
+        v,
+    );
+    if f.failed {
+        return unbuilt(NOT_PLAYABLE, f.place);
+    }
+    let holder = index::holder(text, book, list, parts.listed, parts.patterns, cycle);
+    let length = index::write(
+        page,
+        text,
+        tplaces,
+        book,
+        list,
+        parts.listed,
+        parts.patterns,
+        known.tables,
+    );
+    Rebuilt {
+        no: 0,
+        place: 0,
+        length,
+        holder,
+    }
+}
+
+fn unbuilt(no: u8, place: usize) -> Rebuilt
+    ensures { λ r. ⌜ (r .no ≡ no) × (r .place ≡ place) ⌝ }
+{
+    Rebuilt {
+        no,
+        place,
+        length: 0,
+        holder: Held {
+            held: false,
+            number: 0,
+        },
+    }
+}
+
+// Of any text.
+fn rebuild(text: &[u8], cycle: usize, page: &mut [u8]) -> Rebuilt
+    requires { ⌜ indexMost ≤ length (now page) ⌝ }
+    ensures { λ r. ⌜ Rebuilds (now (text .entry)) cycle r (now (page .exit)) ⌝ }
+{
+    let mut places = [0usize; signals::PLACES];
+    let mut lists = [0u16; signals::LISTS];
+    let mut tplaces = [0usize; timing::PLACES];
+    let mut waves = [0u8; timing::WAVES];
+    let mut book = [0usize; measures::BOOK];
+    let mut rows = [0u16; measures::ROWS];
+    let mut list = [0usize; bursts::LISTED];
+    let mut used = [0u8; noted::USED];
+    let v = texts::decide(
+        text,
+        &mut places,
+        &mut lists,
+        &mut tplaces,
+        &mut waves,
+        &mut book,
+        &mut rows,
+        &mut list,
+        nowhere(),
+        &mut used,
+    );
+    if v.no != 0 {
+        return unbuilt(v.no, v.place);
+    }
+    rebuild_found(
+        text,
+        &places,
+        &lists,
+        &tplaces,
+        &waves,
+        &book,
+        &rows,
+        &list,
+        &used,
+        v,
+        cycle,
+        page,
+    )
+}
+
+// There is room for what else is handed out (`spare`), or that is 19 too.
+fn write_index(text: &[u8], spare: bool, buffer: &mut [u8]) -> Indexed
+    ensures { λ r. ⌜ Indexes (spared spare (indexOf (now (text .entry)) (now (buffer .entry)))) (now (buffer .entry)) (now (buffer .exit)) r ⌝ }
+{
+    let mut page = [0u8; index::INDEX];
+    let x = rebuild(text, 0, &mut page);
+    if x.no != 0 {
+        return Indexed::Refused(x.no, x.place);
+    }
+    let n = x.length;
+    if !spare | (buffer.len() < n) {
+        return Indexed::Refused(NO_ROOM, 0);
+    }
+    pages::put(buffer, 0, words::bytes_of(&page, 0, n));
+    Indexed::Written(n)
+}
+
+// A text's index to the front of the buffer.
+pub fn index(text: &[u8], buffer: &mut [u8]) -> Indexed
+    ensures { λ r. ⌜ Indexes (indexOf (now (text .entry)) (now (buffer .entry))) (now (buffer .entry)) (now (buffer .exit)) r ⌝ }
+{
+    write_index(text, true, buffer)
+}
+
+// The number in the list of the pattern that holds a cycle, by an index that is byte for byte what a rebuild writes; past the end no pattern.
+pub fn holds(text: &[u8], bytes: &[u8], cycle: usize) -> Holding
+    ensures { λ r. ⌜ holdingOf r ≡ holdsIn (now (text .entry)) (now (bytes .entry)) cycle ⌝ }
+{
+    let mut page = [0u8; index::INDEX];
+    let x = rebuild(text, cycle, &mut page);
+    if x.no != 0 {
+        return Holding::Refused(x.no, x.place);
+    }
+    if !words::equal(words::bytes_of(&page, 0, x.length), bytes) {
+        return Holding::Refused(NOT_THE_INDEX, 0);
+    }
+    let holder = x.holder;
+    if holder.held {
+        return Holding::Pattern(holder.number);
+    }
+    Holding::NoPattern
+}
+
+// Does an index belong to a text: is it byte for byte what a rebuild writes?
+pub fn belongs(text: &[u8], bytes: &[u8]) -> Belonging
+    ensures { λ r. ⌜ belongingOf r ≡ belongsTo (now (text .entry)) (now (bytes .entry)) ⌝ }
+{
+    match holds(text, bytes, 0) {
+        Holding::Refused(n, p) => Belonging::Refused(n, p),
+        Holding::Pattern(k) => Belonging::Belongs,
+        Holding::NoPattern => Belonging::Belongs,
+    }
+}
+
 // ---- for callers in C or Rust: the answer is 0, with what it holds at the front of buffers, or a refusal, and all buffers are as they were
 
 // A refusal as one number: 32 times its place and its number.
@@ -848,6 +1049,60 @@ pub extern "C" fn lutemeteor_waveforms(
             numbers[0] = events as u64;
             0
         }
+    }
+}
+
+// Two numbers, where there is room for them.
+fn hand_two(first: usize, second: usize, numbers: &mut [u64]) -> u64
+    ensures { λ r. ⌜ Hands 2 twoOf (given (first, second)) (now (numbers .entry)) r (now (numbers .exit)) ⌝ }
+{
+    if numbers.len() < 2 {
+        return pack(NO_ROOM, 0);
+    }
+    numbers[0] = first as u64;
+    numbers[1] = second as u64;
+    0
+}
+
+// Index: its bytes, and its length. A buffer without room for its part is 19.
+#[no_mangle]
+pub extern "C" fn lutemeteor_index(text: &[u8], buffer: &mut [u8], numbers: &mut [u64]) -> u64
+    ensures { λ r. ⌜ Writes (indexOf (now (text .entry)) (now (buffer .entry))) (now (buffer .entry)) (now (buffer .exit)) (now (numbers .entry)) r (now (numbers .exit)) ⌝ }
+{
+    match write_index(text, 1 <= numbers.len(), buffer) {
+        Indexed::Refused(n, p) => pack(n, p),
+        Indexed::Written(length) => {
+            numbers[0] = length as u64;
+            0
+        }
+    }
+}
+
+// Does an index belong to a text? 0, or the refusal.
+#[no_mangle]
+pub extern "C" fn lutemeteor_belongs(text: &[u8], bytes: &[u8]) -> u64
+    ensures { λ r. ⌜ r ≡ packed (belongsTo (now (text .entry)) (now (bytes .entry))) ⌝ }
+{
+    match belongs(text, bytes) {
+        Belonging::Refused(n, p) => pack(n, p),
+        Belonging::Belongs => 0,
+    }
+}
+
+// The listed pattern that holds a cycle: 1 and its number in the list, or twice 0 past the end. A buffer of less than two numbers is 19.
+#[no_mangle]
+pub extern "C" fn lutemeteor_holds(
+    text: &[u8],
+    bytes: &[u8],
+    cycle: usize,
+    numbers: &mut [u64],
+) -> u64
+    ensures { λ r. ⌜ Hands 2 holderTwo (holdsIn (now (text .entry)) (now (bytes .entry)) cycle) (now (numbers .entry)) r (now (numbers .exit)) ⌝ }
+{
+    match holds(text, bytes, cycle) {
+        Holding::Refused(n, p) => pack(n, p),
+        Holding::NoPattern => hand_two(0, 0, numbers),
+        Holding::Pattern(k) => hand_two(1, k, numbers),
     }
 }
 

@@ -1,6 +1,7 @@
 -- `shown` meets its contract: 17, or the sections of the text that the tables hold.
 use Rattle.stil.proofs.Found.{meaning-failing, meaning-given}
-use Rattle.listing.proofs.Beginning.{begins-refused, begins-sections, signals-short, tables-short}
+use Rattle.stil.proofs.Indexing.{tables-short}
+use Rattle.listing.proofs.Beginning.{begins-refused, begins-sections, signals-short}
 use native.Mathlib.Omega.{arith}
 use borrow.Author.Needs.{needs}
 use Rattle.listing.proofs.shown.Statement.{statement}

@@ -1,8 +1,8 @@
--- Every name that a text declares is short: it was read as a name.
+-- Every name that a text declares or lists is short: it was read as a name.
 use Prim.Native.Nat.{ℕ, _≤_}
 use native.Mathlib.Omega.{arith}
 use mathlib.Core.Path.{_≡_}
-use mathlib.Core.Bool.{Bool, true, false, not, _&&_}
+use mathlib.Core.Bool.{true, false, not, _&&_}
 use mathlib.Core.List.{List, [], _∷_, _++_}
 use lib.Dec.{leb}
 use lib.ListN.{length}
@@ -15,6 +15,7 @@ use Rattle.meaning.specs.Names.{reserved, among, isName, name, newName}
 use Rattle.meaning.specs.Signals.{Names, signal, signals}
 use Rattle.meaning.specs.Timing.{Tables, table, timing}
 use Rattle.meaning.specs.Meaning.{firsts}
+use Rattle.meaning.specs.Document.{listEntry, burst}
 use Rattle.meaning.proofs.Gives.{no-not, Gives, gives-bind, gives-after, gives-give, gives-if, gives-until}
 use Rattle.arguments.proofs.Lists.{both}
 use Rattle.sections.specs.Listing.{Short}
@@ -78,3 +79,22 @@ pub tables-few : (ns : Names) → Gives (λ (tabs : Tables). Short (firsts tabs)
 unfolding timing
 tables-few ns =
     gives-after AllFew _ _ λ a. gives-after AllFew _ _ λ b. gives-bind AllFew AllFew _ _ (table-few ns [] (no-names _)) λ tabs h. gives-until AllFew _ _ (table-few ns) tabs h
+
+-- ---- and the listed ones
+
+short-more : (ts : List Tok) (t : Tok) → Short ts → Few t → Short (ts ++ t ∷ [])
+unfolding Short
+short-more [] t h k = (k, tt)
+short-more (u ∷ ts) t h k = (h .0, short-more ts t (h .1) k)
+
+entry-few : (l : List Tok) → Short l → Gives Short (listEntry l)
+unfolding listEntry
+entry-few l h =
+    gives-bind Few Short _ _ names-few λ t k. gives-after Short _ _ λ u. gives-after Short _ _ λ v. gives-give Short _ (short-more l t h k)
+
+pub listed-few : Gives (λ (x : Tok × List Tok). Short (x .1)) burst
+unfolding burst Short
+listed-few =
+    let P : Tok × List Tok → Type 0 = λ x. Short (x .1) in
+    gives-after P _ _ λ a. gives-after P _ _ λ t. gives-after P _ _ λ b. gives-after P _ _ λ c. gives-after P _ _ λ d.
+    gives-bind Short P _ _ (gives-until Short _ _ entry-few [] tt) λ l h. gives-after P _ _ λ e. gives-give P _ h

@@ -1,0 +1,35 @@
+-- `hand_two` meets its contract: no room, or two stores to the front.
+use mathlib.Core.Path.{refl}
+use Rattle.stil.proofs.Handing.{two-stored, room-none, room-enough, hands-none, hands-all}
+use borrow.Author.Needs.{needs}
+use Rattle.stil.proofs.hand_two.Statement.{statement}
+use Rattle.stil.proofs.hand_two.Tie as tie
+
+pack-requires : tie.Need-pack-requires
+pack-requires c κs = search needs
+
+returns : tie.Need-returns
+returns c = hands-none (room-none 2 _ refl (c .before .if1 .taken)) (c .pack .ensures)
+
+slice-write-numbers : tie.Need-slice-write-numbers
+slice-write-numbers c = search needs
+
+slice-write-numbers-2 : tie.Need-slice-write-numbers-2
+slice-write-numbers-2 c = search needs
+
+same-length : tie.Need-same-length
+same-length c = search needs
+
+returns-2 : tie.Need-returns-2
+returns-2 c = hands-all (room-enough 2 _ refl (c .if1 .left)) (two-stored (c .before .before .args .numbers .now) _ _ (c .if1 .left))
+
+pub hand-two-spec : {M : Type 1} → statement M
+hand-two-spec =
+    tie.close
+    (tie.spec
+    pack-requires
+    returns
+    slice-write-numbers
+    slice-write-numbers-2
+    same-length
+    returns-2)
