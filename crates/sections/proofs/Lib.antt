@@ -1,3 +1,4 @@
 mod Laws
+pub mod Pieces
 pub mod Determined
 pub mod Sample

@@ -1,6 +1,7 @@
 -- `hurt` meets its contract: its three pieces are the line.
 use native.Mathlib.Omega.{arith}
-use Rattle.lines.proofs.Laws.{adds-both, adds-whole, word-adds, hurt-is}
+use Rattle.sections.proofs.Pieces.{adds-both, adds-whole, word-adds}
+use Rattle.lines.proofs.Laws.{hurt-is}
 use borrow.Author.Needs.{needs}
 use Rattle.lines.proofs.hurt.Statement.{statement}
 use Rattle.lines.proofs.hurt.Tie as tie
@@ -26,7 +27,7 @@ returns c =
     adds-whole
     (adds-both (word-adds (c .before .before .before .before .before .before .before .before .before .before .before .put .ensures))
     (adds-both (word-adds (c .before .before .before .before .before .before .put2 .ensures)) (c .before .before .refused .ensures)))
-    (hurt-is (a .file .now) (a .no) (a .place)) (omega arith)
+    (hurt-is (a .file .now) (a .text .now) (a .no) (a .place)) (omega arith)
 
 pub hurt-spec : {M : Type 1} → statement M
 hurt-spec =
