@@ -1,12 +1,12 @@
 -- What a position says: the line is 1 and the LFs before the place, the column 1 and the bytes since the last of them; and going on joins.
-use Prim.Native.Nat.{ℕ, zero, suc, _+_, _*_, _<_, _≤_, _^_}
+use Prim.Native.Nat.{ℕ, zero, suc, _+_, _*_, _-_, _<_, _≤_, _^_}
 use native.Mathlib.Omega.{arith}
 use native.Mathlib.Numerals.{add-one}
 use mathlib.Core.Path.{_≡_, refl, sym, ap, _∙_, subst}
 use mathlib.Core.Bool.{Bool, true, false}
 use mathlib.Core.List.{List, [], _∷_, _++_}
 use lib.Dec.{eqb}
-use lib.ListN.{length, getD, take, drop, drop-of-length-le}
+use lib.ListN.{length, getD, take, drop, drop-of-length-le, length-take, length-drop}
 use lib.Seq.{drop-cons, take-all, take-add}
 use borrow.Author.Tests.{eq-eqb, ne-eqb}
 use Rattle.columns.specs.declared.Position.{Position}
@@ -67,6 +67,26 @@ from-start-over text p q e h = ap (onward q) (sym (take-all p text h)) ∙ from-
 -- a text's start has room for every slice
 pub room-from-start : (n : ℕ) → n * 1 < 2 ^ 63 → (m : ℕ) → m ≤ n → Room start m
 room-from-start n h m le = record { lines = omega (arith, h); columns = omega (arith, h) }
+
+-- and behind some bytes there is room for the others
+pub room-onward : (at : Position) (xs : List ℕ) (n : ℕ) → Room at (length xs + n) → Room (onward at xs) n
+unfolding onward
+room-onward at [] n r = room-less at (0 + n) n (omega arith) r
+room-onward at (x ∷ xs) n r = room-onward (past at x) xs n (room-past at x (length xs + n) (room-less at (suc (length xs) + n) (suc (length xs + n)) (omega arith) r))
+
+-- ---- a later place of a text
+
+module _ (text : List ℕ) (at : Position) (from to : ℕ) (e : at ≡ position text from) (h : from ≤ to) (k : to ≤ length text) where
+  pub later-room : length text * 1 < 2 ^ 63 → Room at (length (take (to - from) (drop from text)))
+  unfolding position
+  later-room short =
+      subst (λ q. Room q (length (take (to - from) (drop from text)))) (sym e)
+      (room-onward start (take from text) _ (room-from-start (length text) short _ (omega (arith, length-take from text, length-take (to - from) (drop from text), length-drop from text))))
+
+  pub later-is : onward at (take (to - from) (drop from text)) ≡ position text to
+  later-is =
+      let there : from + (to - from) ≡ to = omega arith in
+      ap (λ q. onward q (take (to - from) (drop from text))) e ∙ sym (moves-on text from (to - from)) ∙ ap (position text) there
 
 -- ---- lines
 

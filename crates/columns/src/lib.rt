@@ -1,5 +1,6 @@
 // The line and the column of a place: what an editor shows for it.
 ghost use mathlib.Core.Path.{_≡_};
+ghost use Prim.Native.Nat.{_≤_};
 ghost use lib.ListN.{length};
 ghost use Rattle.columns.specs.Columns.{start as startOf, past as pastOf, onward as onwardOf, position, Room};
 
@@ -47,6 +48,14 @@ pub fn onward(at: Position, bytes: &[u8]) -> Position
         i += 1;
     }
     p
+}
+
+// The position of a later place of a text, from that of an earlier one.
+pub fn later(text: &[u8], at: Position, from: usize, to: usize) -> Position
+    requires { ⌜ (at ≡ position (now text) from) × (from ≤ to) × (to ≤ length (now text)) ⌝ }
+    ensures { λ r. ⌜ r ≡ position (now (text .entry)) to ⌝ }
+{
+    onward(at, &text[from..to])
 }
 
 // The position of a place; past the text's end that of its length.
