@@ -17,7 +17,7 @@ use Rattle.words.proofs.Flow.{from-on, from-stop, stays}
 use Rattle.words.proofs.Choice.{there, missing}
 use Rattle.timing.specs.Makes.{Makes, Brings}
 use Rattle.timing.proofs.Making.{made, makes-bind, first, first-then}
-use Rattle.assigns.proofs.Table.{is-true}
+use Rattle.meaning.proofs.Gives.{no-not}
 use Rattle.noted.specs.Known.{Knows}
 use Rattle.heads.specs.declared.Known.{Known}
 use Rattle.bodies.specs.Blocks.{wordOf, oneOf, opening, blockOf, Declared}
@@ -43,7 +43,7 @@ is-false false h = refl
 module _ {text : List ℕ} {c : Cursor} {b : Bool} {P : Env → Type 0} (macros : Bool) (e : Env)
     (q : b ≡ (alive c && aheadOf (bytes (wordOf macros)) (stream text c))) where
   pub block-there : {r : Cursor} → not b ≡ false → Makes text c (blockOf macros e) r P → Makes text c (option (wordOf macros) (blockOf macros) e) r P
-  block-there h m = made (there (wordOf macros) (blockOf macros) e q (is-true b h) (m .goes)) (m .held)
+  block-there h m = made (there (wordOf macros) (blockOf macros) e q (no-not b h) (m .goes)) (m .held)
 
   pub block-missing : not b ≡ true → P e → Makes text c (option (wordOf macros) (blockOf macros) e) c P
   block-missing h p = made (missing (wordOf macros) (blockOf macros) e q (is-false b h)) (λ live. p)

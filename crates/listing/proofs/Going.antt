@@ -11,7 +11,7 @@ use borrow.Author.Tests.{leb-true}
 use Rattle.meaning.specs.Bounds.{sizeMost, cyclesMost}
 use Rattle.meaning.specs.Run.{size, cycles}
 use Rattle.meaning.specs.Meaning.{Answer, given, refused, answering, fitting as fits, Meaning, meaning}
-use Rattle.meaning.specs.Services.{rowsDue, windowOf, window}
+use Rattle.meaning.specs.Services.{dot, rowsDue, windowOf, window}
 use Rattle.meaning.proofs.Accepted.{accepted}
 use Rattle.arguments.proofs.Lists.{both}
 use Rattle.stil.specs.Answers.{shownOf, afterwards}
@@ -31,18 +31,18 @@ few-cycles text m e =
 
 -- ---- rows that were given
 
-module _ (text : List ℕ) (first wanted : ℕ) {before after : List ℕ} {s : Shown} {n v : ℕ} (h : Views (window text first wanted before) before after s) (rows : s ≡ Rows n v) where
-  told : Views (window text first wanted before) before after (Rows n v)
+module _ (text : List ℕ) (first wanted mark : ℕ) {before after : List ℕ} {s : Shown} {n v : ℕ} (h : Views (window text first wanted mark before) before after s) (rows : s ≡ Rows n v) where
+  told : Views (window text first wanted mark before) before after (Rows n v)
   told = rw rows at h
 
   -- the text was not refused
   rows-meant : (a : Answer Meaning) → meaning text ≡ a → (n ≤ wanted) × (first + n ≤ max first cyclesMost)
   unfolding window answering rowsDue
   rows-meant (given m) e =
-      let k = visits-told text m e first wanted told .rows-are in
+      let k = visits-told text m e first wanted mark told .rows-are in
       omega (arith, few-cycles text m e)
   rows-meant (refused x p) e =
-      let k = told .answers ∙ ap (λ (a : Answer Meaning). answering a (λ m. windowOf m first wanted before)) e in
+      let k = told .answers ∙ ap (λ (a : Answer Meaning). answering a (λ m. windowOf m first wanted mark before)) e in
       let z : _≡_ {A = ℕ} 0 1 = cc in
       absurd (omega arith)
 
@@ -58,15 +58,15 @@ bytes-few p room {n} e h =
 -- ---- the page with them
 
 module _ (text : List ℕ) (p : Page) (before : List ℕ) {after : List ℕ} {wanted : ℕ} {s : Shown} (e : wanted ≡ fitting p (length before))
-    (h : Views (window text (p .first) wanted before) before after s) where
+    (h : Views (window text (p .first) wanted dot before) before after s) where
   answered : shownOf s after ≡ asked text p before
-  answered = h .answers ∙ ap (λ (k : ℕ). window text (p .first) k before) e
+  answered = h .answers ∙ ap (λ (k : ℕ). window text (p .first) k dot before) e
 
   goes-on : {r : Page} → r ≡ pageOf p (shownOf s after) → GoesOn text before p r after
   goes-on k =
       record {
         page-is = k ∙ ap (pageOf p) answered;
-        bytes-are = h .buffer-is ∙ ap (λ (k : ℕ). afterwards (λ w. w .buffer) (window text (p .first) k before) before) e;
+        bytes-are = h .buffer-is ∙ ap (λ (k : ℕ). afterwards (λ w. w .buffer) (window text (p .first) k dot before) before) e;
       }
 
   pub goes-on-rows : {n v : ℕ} → s ≡ Rows n v → GoesOn text before p (record { room = true; length = n * p .width; first = p .first + n; left = p .left - n; width = p .width }) after

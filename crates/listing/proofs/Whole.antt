@@ -10,9 +10,10 @@ use lib.Dec.{leb}
 use lib.ListN.{length, take, drop}
 use lib.Seq.{take-at, take-add, drop-drop}
 use borrow.Author.Tests.{le-leb, leb-true, leb-false}
+use Rattle.tokens.specs.Bytes.{between, letter, digit}
 use Rattle.meaning.specs.Run.{Cycle, cycles, cyclesOf, visits}
 use Rattle.meaning.specs.Meaning.{Answer, given, refused, answering, Meaning, meaning}
-use Rattle.meaning.specs.Services.{rows, rowWidth, Window, rowsDue, widthOf, windowRows, windowOf, window}
+use Rattle.meaning.specs.Services.{dot, badMark, rows, rowWidth, Window, rowsDue, widthOf, windowRows, rowsOut, windowOf, window}
 use Rattle.meaning.proofs.Windows.{rows-++, window-rows, window-width}
 use Rattle.walks.specs.Seen.{seen}
 use Rattle.stil.specs.Answers.{afterwards}
@@ -36,6 +37,11 @@ listed-few n = by (leb n listedMost)
 
 -- ---- an accepted text
 
+-- the dot is a mark
+dot-marks : badMark dot ≡ false
+unfolding badMark letter digit between
+dot-marks = refl
+
 -- what is told of a page: rows as wide as the text's, and not more left than there are
 pub record Stands (m : Meaning) (p : Page) : Type 0 where
   pub width-is : p .width ≡ widthOf m
@@ -56,15 +62,15 @@ module _ (text : List ℕ) (m : Meaning) (e : meaning text ≡ given m) where
 
     -- the service's answer with so many rows
     abbrev rowsGiven : ℕ → Answer Window
-    rowsGiven k = given (record { count = k; visits = visits 0 (m .run) (p .first); buffer = windowRows m (p .first) n ++ drop (k * widthOf m) before })
+    rowsGiven k = given (record { count = k; visits = visits 0 (m .run) (p .first); buffer = windowRows m (p .first) n dot ++ drop (k * widthOf m) before })
 
     asked-given : asked text p before ≡ rowsGiven n
-    unfolding window answering windowOf
+    unfolding window answering windowOf rowsOut
     asked-given =
         let due = rowsDue m (p .first) n in
         let fits : due * widthOf m ≤ length before = rw (rows-due, ← s .width-is) (bytes-few p (length before) refl (omega arith)) in
-        ap (λ (a : Answer Meaning). answering a (λ m. windowOf m (p .first) n before)) e
-        ∙ rw (le-leb (due * widthOf m) (length before) fits, windowOf) (ap rowsGiven rows-due)
+        ap (λ (a : Answer Meaning). answering a (λ m. windowOf m (p .first) n dot before)) e
+        ∙ rw (dot-marks, le-leb (due * widthOf m) (length before) fits, windowOf, rowsOut) (ap rowsGiven rows-due)
 
     module _ {r : Page} {after : List ℕ} (g : GoesOn text before p r after) where
       pub page-told : r ≡ record { room = true; length = n * p .width; first = p .first + n; left = p .left - n; width = p .width }
@@ -72,15 +78,15 @@ module _ (text : List ℕ) (m : Meaning) (e : meaning text ≡ given m) where
       page-told = g .page-is ∙ ap (pageOf p) asked-given
 
       -- the next rows, as many as are left and fit, at its front; its rest stays
-      pub page-rows : Fronts (rows (seen (p .first) n all)) before (r .length) after
+      pub page-rows : Fronts (rows dot (seen (p .first) n all)) before (r .length) after
       unfolding afterwards
       page-rows =
-          let xs = rows (seen (p .first) n all) in
-          let long : length xs ≡ n * widthOf m = ap length (sym (window-rows m (p .first) n)) ∙ window-width m (p .first) n ∙ ap (λ (k : ℕ). k * widthOf m) rows-due in
+          let xs = rows dot (seen (p .first) n all) in
+          let long : length xs ≡ n * widthOf m = ap length (sym (window-rows m dot (p .first) n)) ∙ window-width m dot (p .first) n ∙ ap (λ (k : ℕ). k * widthOf m) rows-due in
           record {
             length-is = ap (λ (q : Page). q .length) page-told ∙ ap (λ (k : ℕ). n * k) (s .width-is) ∙ sym long;
             page-is = g .bytes-are ∙ ap (λ (a : Answer Window). afterwards (λ w. w .buffer) a before) asked-given
-                ∙ ap₂ (λ (x : List ℕ) (k : ℕ). x ++ drop k before) (window-rows m (p .first) n) (sym long);
+                ∙ ap₂ (λ (x : List ℕ) (k : ℕ). x ++ drop k before) (window-rows m dot (p .first) n) (sym long);
           }
 
       pub stands-on : Stands m r
@@ -95,19 +101,19 @@ module _ (text : List ℕ) (m : Meaning) (e : meaning text ≡ given m) where
           omega (arith, ap (λ (q : Page). q .left) page-told)
 
   -- the rows that are left, on pages to the last
-  rows-join : (ts : List Turned) {p : Page} → Stands m p → Follow text p ts → leftBehind p ts ≡ 0 → written ts ≡ rows (seen (p .first) (p .left) all)
+  rows-join : (ts : List Turned) {p : Page} → Stands m p → Follow text p ts → leftBehind p ts ≡ 0 → written ts ≡ rows dot (seen (p .first) (p .left) all)
   unfolding Follow leftBehind written rows
   rows-join [] {p} s f z = rw z
   rows-join (t ∷ ts) {p} s f z =
       let k = n s (t .before) in
       let told = page-told s (t .before) (f .0) in
       let l = drop (p .first) all in
-      let rest : rows (seen (t .page .first) (t .page .left) all) ≡ rows (take (p .left - k) (drop k l)) =
-      ap (λ (q : Page). rows (seen (q .first) (q .left) all)) told ∙ ap (λ (d : List Cycle). rows (take (p .left - k) d)) (sym (drop-drop k (p .first) all)) in
+      let rest : rows dot (seen (t .page .first) (t .page .left) all) ≡ rows dot (take (p .left - k) (drop k l)) =
+      ap (λ (q : Page). rows dot (seen (q .first) (q .left) all)) told ∙ ap (λ (d : List Cycle). rows dot (take (p .left - k) d)) (sym (drop-drop k (p .first) all)) in
       let both : k + (p .left - k) ≡ p .left = omega arith in
       ap₂ (λ (a b : List ℕ). a ++ b) (front-taken (page-rows s (t .before) (f .0))) (rows-join ts (stands-on s (t .before) (f .0)) (f .1) z ∙ rest)
-      ∙ sym (rows-++ (take k l) (take (p .left - k) (drop k l)))
-      ∙ ap rows (sym (take-add k (p .left - k) l) ∙ ap (λ (j : ℕ). take j l) both)
+      ∙ sym (rows-++ dot (take k l) (take (p .left - k) (drop k l)))
+      ∙ ap (rows dot) (sym (take-add k (p .left - k) l) ∙ ap (λ (j : ℕ). take j l) both)
 
   rows-end : (ts : List Turned) {p : Page} → Stands m p → Follow text p ts → Roomy (p .width) ts → leftBehind p ts ≤ p .left - length ts
   unfolding Follow Roomy leftBehind
@@ -127,7 +133,7 @@ module _ (text : List ℕ) (m : Meaning) (e : meaning text ≡ given m) where
     unfolding listing
     given-whole ts f z =
         let first = b .accepts h m e in
-        let last : rows (seen (r .first) (r .left) all) ≡ rows (seen 0 (rowsListed m) all) = ap (λ (q : Page). rows (seen (q .first) (q .left) all)) (first .1) in
+        let last : rows dot (seen (r .first) (r .left) all) ≡ rows dot (seen 0 (rowsListed m) all) = ap (λ (q : Page). rows dot (seen (q .first) (q .left) all)) (first .1) in
         ap₂ (λ (x y : List ℕ). x ++ y) (front-taken (first .0)) (rows-join ts stands-first f z ∙ last) ∙ rw (e, listing)
 
 -- ---- a refused text
@@ -135,7 +141,7 @@ module _ (text : List ℕ) (m : Meaning) (e : meaning text ≡ given m) where
 module _ (text : List ℕ) {n p : ℕ} (e : meaning text ≡ refused n p) where
   asked-refused : (q : Page) (before : List ℕ) → asked text q before ≡ refused n p
   unfolding window answering
-  asked-refused q before = ap (λ (a : Answer Meaning). answering a (λ m. windowOf m (q .first) (fitting q (length before)) before)) e
+  asked-refused q before = ap (λ (a : Answer Meaning). answering a (λ m. windowOf m (q .first) (fitting q (length before)) dot before)) e
 
   page-none : {q r : Page} {before after : List ℕ} → GoesOn text before q r after → r ≡ lastOf 0
   unfolding pageOf

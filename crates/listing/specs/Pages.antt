@@ -6,7 +6,7 @@ use mathlib.Core.List.{List, [], _∷_, _++_}
 use lib.ListN.{length, take}
 use Rattle.meaning.specs.Run.{cycles}
 use Rattle.meaning.specs.Meaning.{Answer, given, refused, Meaning, meaning}
-use Rattle.meaning.specs.Services.{Window, window}
+use Rattle.meaning.specs.Services.{dot, Window, window}
 use Rattle.stil.specs.Answers.{afterwards}
 use Rattle.sections.specs.Listing.{frontMost, front, refusal, firstOf, lastOf, Fronts}
 use Rattle.sections.specs.declared.Page.{Page}
@@ -32,7 +32,7 @@ fitting p room = min (p .left) (room / p .width)
 
 -- what the service Window answers for them
 abbrev pub asked : List ℕ → Page → List ℕ → Answer Window
-asked text p page = window text (p .first) (fitting p (length page)) page
+asked text p page = window text (p .first) (fitting p (length page)) dot page
 
 -- the page with that answer's rows; behind a refusal there is nothing
 unfoldable pub pageOf : Page → Answer Window → Page

@@ -10,6 +10,9 @@ use texts::Verdict;
 
 const NOT_PLAYABLE: u8 = 17;
 
+// Filed listings have the dot for an unassigned pin.
+const DOT: u8 = b'.';
+
 // ---- the first page
 
 // A text that 1 to 16 leave: 17, or its sections.
@@ -131,7 +134,7 @@ pub fn go_on(text: &[u8], p: Page, page: &mut [u8]) -> Page
     ensures { λ r. ⌜ GoesOn (now (text .entry)) (now (page .entry)) p r (now (page .exit)) ⌝ }
 {
     let n = fitting(p, page.len());
-    match stil::window(text, p.first, n, page) {
+    match stil::window(text, p.first, n, DOT, page) {
         stil::Shown::Refused(a, b) => sections::last(0),
         stil::Shown::Rows(count, visits) => Page {
             room: true,

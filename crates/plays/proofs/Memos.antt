@@ -1,25 +1,26 @@
 -- Rows that tell of uses: what is written in one row, no other row has.
-use Prim.Native.Nat.{ℕ, _+_, _*_, _%_, _<_, _≤_}
+use Prim.Native.Nat.{ℕ, zero, suc, _+_, _*_, _/_, _%_, _<_, _≤_}
 use native.Mathlib.Omega.{arith}
-use native.Mathlib.Nat.{mod-lt}
+use native.Mathlib.Nat.{mod-lt, div-mul-le-self}
 use mathlib.Core.Path.{_≡_, refl, sym, ap, _∙_}
-use mathlib.Core.Bool.{Bool, true, false, not, _&&_}
+use mathlib.Core.Bool.{Bool, true, false, _&&_, _||_}
 use mathlib.Core.Logic.{_⊎_, inl, inr}
 use mathlib.Core.List.{List}
-use lib.Dec.{eqb, ltb}
+use lib.Dec.{eqb, ltb, leb}
 use lib.ListN.{length, getD, set, replicate, length-set, length-replicate, getD-replicate, List·getD-eq-default}
 use lib.Seq.{getD-set-same, getD-set-other}
-use borrow.Author.Tests.{eqb-true, eqb-false, ltb-true, ltb-false}
+use borrow.Author.Tests.{eqb-true, eqb-false, ltb-true, ltb-false, leb-false}
 use Rattle.plays.specs.declared.Use.{Use}
-use Rattle.plays.specs.Memo.{memoRow, beforeAt, behindAt, pictureSize, Notes, Pictures, Row, Writes, SameUse, Remembered, Recalls}
+use Rattle.plays.specs.Memo.{Short, memoRow, beforeAt, behindAt, pictureSize, Notes, Pictures, Row, Writes, SameUse, Remembered, Recalls}
+use Rattle.plays.proofs.Fitting.{both, neither}
 
-both : (a b : Bool) → (a && b) ≡ true → (a ≡ true) × (b ≡ true)
-both true b h = (refl, h)
-both false b h = let z : _≡_ {A = ℕ} 0 1 = cc in absurd (omega arith)
+pub some : (n : ℕ) → (n ≡ 0 → ⊥) → 0 < n
+some zero h = absurd (h refl)
+some (suc n) h = omega arith
 
 -- a place has a row
-pub row-is : (at : ℕ) → (j : ℕ) × (at % 127 * memoRow ≡ j * memoRow) × (j < 127)
-row-is at = (at % 127, refl, mod-lt at (omega arith))
+pub row-within : (long at : ℕ) → 0 < long / memoRow → at % (long / memoRow) * memoRow ≤ long
+row-within long at h = omega (arith, mod-lt at h, div-mul-le-self long memoRow)
 
 -- ---- places that were written
 
@@ -37,49 +38,62 @@ writes-then x y = record { long = y .long ∙ x .long; others = λ i h. y .other
 
 -- ---- what a row is found by
 
-pub notes-all : (m : List ℕ) (o : ℕ) (u : Use)
-    → ((((eqb (getD m o 0) 1 && eqb (getD m (o + 1) 0) (u .seconds)) && eqb (getD m (o + 2) 0) (u .fault)) && eqb (getD m (o + 3) 0) (u .at)) && eqb (getD m (o + 4) 0) (u .end)) ≡ true
-    → Notes m o u
-notes-all m o u h =
-    let a = both _ _ h in
-    let b = both _ _ (a .0) in
-    let c = both _ _ (b .0) in
-    let d = both _ _ (c .0) in
+pub notes-all : (m : List ℕ) (o : ℕ) (u : Use) {a b c d : ℕ} → a ≡ getD m (o + 1) 0 → b ≡ getD m (o + 2) 0 → c ≡ getD m (o + 3) 0 → d ≡ getD m (o + 4) 0
+    → ((((eqb (getD m o 0) 1 && eqb a (u .seconds)) && eqb b (u .fault)) && eqb c (u .at)) && eqb d (u .end)) ≡ true → Notes m o u
+notes-all m o u a b c d h =
+    let p = both _ _ h in
+    let q = both _ _ (p .0) in
+    let r = both _ _ (q .0) in
+    let s = both _ _ (r .0) in
     record {
-      in-use = eqb-true _ _ (d .0);
-      seconds-is = eqb-true _ _ (d .1);
-      fault-is = eqb-true _ _ (c .1);
-      at-is = eqb-true _ _ (b .1);
-      end-is = eqb-true _ _ (a .1);
+      in-use = eqb-true _ _ (s .0);
+      seconds-is = sym a ∙ eqb-true _ _ (s .1);
+      fault-is = sym b ∙ eqb-true _ _ (r .1);
+      at-is = sym c ∙ eqb-true _ _ (q .1);
+      end-is = sym d ∙ eqb-true _ _ (p .1);
     }
 
-module _ (m : List ℕ) (o : ℕ) (u : Use) (room : o + memoRow ≤ length m) where
+pub short-all : (u : Use) → (((ltb (u .seconds) 65_536 && ltb (u .fault) 65_536) && ltb (u .at) 65_536) && ltb (u .end) 65_536) ≡ true → Short u
+short-all u h =
+    let p = both _ _ h in
+    let q = both _ _ (p .0) in
+    let r = both _ _ (q .0) in
+    record { seconds = ltb-true _ _ (r .0); fault = ltb-true _ _ (r .1); at = ltb-true _ _ (q .1); end = ltb-true _ _ (p .1) }
+
+-- its row is there, and holds these numbers
+pub room-short : (m : List ℕ) (o t t′ : ℕ) → ((ltb (length m) (o + memoRow) || leb 65_536 t) || leb 65_536 t′) ≡ false → (o + memoRow ≤ length m) × (t < 65_536) × (t′ < 65_536)
+room-short m o t t′ h =
+    let a = neither (ltb (length m) (o + memoRow) || leb 65_536 t) (leb 65_536 t′) h in
+    let b = neither (ltb (length m) (o + memoRow)) (leb 65_536 t) (a .0) in
+    (ltb-false _ _ (b .0), leb-false 65_536 t (b .1), leb-false 65_536 t′ (a .1))
+
+module _ (m : List ℕ) (o : ℕ) (u : Use) (a b c d : ℕ) (room : o + memoRow ≤ length m) (is-a : a ≡ u .seconds) (is-b : b ≡ u .fault) (is-c : c ≡ u .at) (is-d : d ≡ u .end) where
   abbrev m1 : List ℕ
   m1 = set m o 1
 
   abbrev m2 : List ℕ
-  m2 = set m1 (o + 1) (u .seconds)
+  m2 = set m1 (o + 1) a
 
   abbrev m3 : List ℕ
-  m3 = set m2 (o + 2) (u .fault)
+  m3 = set m2 (o + 2) b
 
   abbrev m4 : List ℕ
-  m4 = set m3 (o + 3) (u .at)
+  m4 = set m3 (o + 3) c
 
   abbrev m5 : List ℕ
-  m5 = set m4 (o + 4) (u .end)
+  m5 = set m4 (o + 4) d
 
   long1 : length m1 ≡ length m
   long1 = length-set m o 1
 
   long2 : length m2 ≡ length m
-  long2 = length-set m1 (o + 1) (u .seconds) ∙ long1
+  long2 = length-set m1 (o + 1) a ∙ long1
 
   long3 : length m3 ≡ length m
-  long3 = length-set m2 (o + 2) (u .fault) ∙ long2
+  long3 = length-set m2 (o + 2) b ∙ long2
 
   long4 : length m4 ≡ length m
-  long4 = length-set m3 (o + 3) (u .at) ∙ long3
+  long4 = length-set m3 (o + 3) c ∙ long3
 
   past : (l : List ℕ) (i v k : ℕ) → k < i → getD (set l i v) k 0 ≡ getD l k 0
   past l i v k h = getD-set-other l i k v 0 λ z. omega arith
@@ -88,11 +102,11 @@ module _ (m : List ℕ) (o : ℕ) (u : Use) (room : o + memoRow ≤ length m) wh
   note-written = (
     writes-next (writes-next (writes-next (writes-next (writes-next writes-none o 1 (omega arith) (omega arith)) (o + 1) _ (omega arith) (omega arith)) (o + 2) _ (omega arith) (omega arith)) (o + 3) _ (omega arith) (omega arith)) (o + 4) _ (omega arith) (omega arith),
     record {
-      in-use = past m4 (o + 4) _ o (omega arith) ∙ past m3 (o + 3) _ o (omega arith) ∙ past m2 (o + 2) _ o (omega arith) ∙ past m1 (o + 1) _ o (omega arith) ∙ getD-set-same m o 1 0 (omega arith);
-      seconds-is = past m4 (o + 4) _ (o + 1) (omega arith) ∙ past m3 (o + 3) _ (o + 1) (omega arith) ∙ past m2 (o + 2) _ (o + 1) (omega arith) ∙ getD-set-same m1 (o + 1) (u .seconds) 0 (omega (arith, long1));
-      fault-is = past m4 (o + 4) _ (o + 2) (omega arith) ∙ past m3 (o + 3) _ (o + 2) (omega arith) ∙ getD-set-same m2 (o + 2) (u .fault) 0 (omega (arith, long2));
-      at-is = past m4 (o + 4) _ (o + 3) (omega arith) ∙ getD-set-same m3 (o + 3) (u .at) 0 (omega (arith, long3));
-      end-is = getD-set-same m4 (o + 4) (u .end) 0 (omega (arith, long4));
+      in-use = past m4 (o + 4) d o (omega arith) ∙ past m3 (o + 3) c o (omega arith) ∙ past m2 (o + 2) b o (omega arith) ∙ past m1 (o + 1) a o (omega arith) ∙ getD-set-same m o 1 0 (omega arith);
+      seconds-is = past m4 (o + 4) d (o + 1) (omega arith) ∙ past m3 (o + 3) c (o + 1) (omega arith) ∙ past m2 (o + 2) b (o + 1) (omega arith) ∙ getD-set-same m1 (o + 1) a 0 (omega (arith, long1)) ∙ is-a;
+      fault-is = past m4 (o + 4) d (o + 2) (omega arith) ∙ past m3 (o + 3) c (o + 2) (omega arith) ∙ getD-set-same m2 (o + 2) b 0 (omega (arith, long2)) ∙ is-b;
+      at-is = past m4 (o + 4) d (o + 3) (omega arith) ∙ getD-set-same m3 (o + 3) c 0 (omega (arith, long3)) ∙ is-c;
+      end-is = getD-set-same m4 (o + 4) d 0 (omega (arith, long4)) ∙ is-d;
     },
   )
 
@@ -157,12 +171,12 @@ recalls-none = record { long = refl; rows = λ i h. refl; untouched = λ e. refl
 
 pub recalls-row : {m : List ℕ} {n o : ℕ} {u : Use} {t : ℕ} {v v′ : List ℕ} (j : ℕ) → o ≡ j * memoRow → Notes m o u → Pictures m (o + beforeAt) n t v
     → (length v′ ≡ length v) × ((i : ℕ) → n ≤ i → getD v′ i 0 ≡ getD v i 0) × Pictures m (o + behindAt) n (getD m (o + behindAt) 0) v′
-    → Recalls m n u t v v′ (record { done = true; table = getD m (o + behindAt) 0 })
-recalls-row j e noted before restored = record {
+    → {k : ℕ} → k ≡ getD m (o + behindAt) 0 → Recalls m n u t v v′ (record { done = true; table = k })
+recalls-row j e noted before restored {k} is = record {
   long = restored .0;
   rows = restored .1;
   untouched = λ q. (let z : _≡_ {A = ℕ} 0 1 = cc in absurd (omega arith));
-  found = λ q. (j, record { noted = rw (← e) noted; before = rw (← e) before; behind = rw (← e) (restored .2) });
+  found = λ q. (j, record { noted = rw (← e) noted; before = rw (← e) before; behind = rw (← e, is) (restored .2) });
 }
 
 -- ---- one row

@@ -31,7 +31,7 @@ use Rattle.heads.specs.declared.What.the-variants.{Ends, Vector, Assigns as Ass
 use Rattle.heads.specs.Heads.{kindOf, Tells}
 use Rattle.pins.specs.Shown.{tableOf, Feeding, Shows, Playable, Told, vector}
 use Rattle.plays.specs.declared.Played.{Played}
-use Rattle.plays.specs.Plays.{Ground, Holding, Summed, Single, Fits, Arrays, arrays, Showing, Standing, Telling, Plays, Ended, Steps, Moves, Invoking, Calling}
+use Rattle.plays.specs.Plays.{Ground, Holding, Summed, Single, Fits, Arrays, arrays, Showing, Standing, Telling, Plays, Ended, Steps, Moves, Using, Invoking, Calling}
 use Rattle.plays.proofs.Supply.{same-puts, same-changed, same-playing, same-play}
 use Rattle.plays.proofs.Fitting.{inside-parts, fits-again, fits-behind-vec, fits-behind-set, fits-behind-inner, fits-some, fits-looped, fits-shifted, fits-entered}
 use Rattle.plays.proofs.Following.{first-fails, second-alike, alike-same, alike-then}
@@ -354,6 +354,18 @@ module _ {g : Ground} {c r : Cursor} {more level table : ℕ} {x y : Arrays} {E 
       shift-step k t more-comes p = inside-step (st .holding) i more-comes (rw (one-vector i .2) p)
 
     module _ {i u : ℕ} {given args : List ℕ} (d : Called g c r more level E b us s i u given args) where
+      pub called-using : Showing g level table y s → Feeding (g .text) (y .feeds) (level + 1) (d .arguments)
+          → Using g i more level table y E (d .body) (d .after) (d .arguments) s
+      called-using shown fed = record {
+        holding = st .holding;
+        declared = d .declared;
+        holds = d .holds;
+        some-more = fits-some (d .fits);
+        fits = d .body-fits;
+        shows = shown;
+        fed = fed;
+      }
+
       -- what a used body played, and then the rest
       pub called-step : (z : Played) (k t : ℕ) → Telling g (E .tables) level y z (entering (kindOf i) (d .arguments) (playFew k u (d .body)) s)
           → Steps g (stream (g .text) c) more level y E us k t b s (record { cursor = r; failed = z .failed; place = z .place; table = z .table; ends = false })

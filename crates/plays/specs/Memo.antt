@@ -21,6 +21,13 @@ behindAt = 70
 abbrev pub memoRow : ℕ
 memoRow = 135
 
+-- numbers that a row can hold
+pub record Short (u : Use) : Type 0 where
+  pub seconds : u .seconds < 65_536
+  pub fault : u .fault < 65_536
+  pub at : u .at < 65_536
+  pub end : u .end < 65_536
+
 -- ---- what a row holds
 
 -- from the place o on: it is in use, for the use u

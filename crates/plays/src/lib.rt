@@ -1,6 +1,6 @@
 // Playing bodies where the text holds them, to find the first cycle that fails: one without a table, or with an assigned character that has no waveform
 // in it. Every Loop plays its first turn, and its second where fewer than two second turns are open and it isn't the first again. A used body whose sum is known
-// (`marks`, `sums`) and granted is passed; only one that may fail is entered.
+// (`marks`, `sums`) and granted is passed; only one that may fail is entered, and once from the same pins and table, as long as that is remembered.
 ghost use mathlib.Core.Path.{_≡_};
 ghost use mathlib.Core.Bool.{true};
 ghost use mathlib.Core.List.{List};
@@ -18,7 +18,7 @@ ghost use Rattle.measures.specs.Book.{bodies};
 ghost use Rattle.pins.specs.Shown.{valuesLength};
 ghost use Rattle.heads.specs.declared.Known.{Known};
 ghost use Rattle.texts.specs.declared.Parts.{Parts};
-ghost use Rattle.plays.specs.Memo.{memoRow, pictureSize, Notes, Pictures, Writes, Remembered, Recalls};
+ghost use Rattle.plays.specs.Memo.{memoRow, pictureSize, Short, Notes, Pictures, Writes, Remembered, Recalls};
 ghost use Rattle.plays.specs.Run.{SomeListed, PlaysListed, SomeRun, Runs, Decides};
 ghost use Rattle.plays.specs.Plays.{ground, arrays, Stood, Used, Promised, PromisedWhere, SamePins, Stepped, Shifted, Entered, Performed, SomeInvoked, Served, Summed, Settles, Passing};
 use heads::Known;
@@ -67,9 +67,6 @@ pub struct Use {
     pub end: usize,
 }
 
-// Rows of the memo. A prime: uses at regular distances have rows of their own.
-const MEMO_ROWS: usize = 127;
-
 // What a row is found by, and behind it two pictures of a table and pins: before the use, and behind it.
 const BEFORE: usize = 5;
 
@@ -79,65 +76,89 @@ const BEHIND: usize = BEFORE + PICTURE;
 
 const MEMO_ROW: usize = BEHIND + PICTURE;
 
-const MEMO: usize = MEMO_ROWS * MEMO_ROW;
+// So many rows are kept. A prime: uses at regular distances have rows of their own.
+const MEMO: usize = 337 * MEMO_ROW;
 
-// Nothing is remembered.
-fn blank_memo() -> [usize; MEMO]
-    ensures { λ r. ⌜ (length r ≡ 17_145) × ((i : ℕ) → getD r i 0 ≡ 0) ⌝ }
+// Numbers below it are kept.
+const KEPT: usize = 65_536;
+
+// Where the row of a use at this place begins, in a memo of this length: each place has one row.
+fn memo_row(long: usize, at: usize) -> usize
+    ensures { λ r. ⌜ ((j : ℕ) × (r ≡ j * memoRow) × (r ≤ long)) ⌝ }
 {
-    [0usize; MEMO]
+    let rows = long / MEMO_ROW;
+    if rows == 0 {
+        return 0;
+    }
+    (at % rows) * MEMO_ROW
 }
 
-// Where the row of a use at this place begins.
-fn memo_row(at: usize) -> usize
-    ensures { λ r. ⌜ ((j : ℕ) × (r ≡ j * memoRow) × (j < 127)) ⌝ }
+// What the memo keeps, as a number.
+fn number(n: u16) -> usize
+    ensures { λ r. ⌜ r ≡ n ⌝ }
 {
-    (at % MEMO_ROWS) * MEMO_ROW
+    n as usize
 }
 
-fn wide(b: u8) -> usize
+// A number, as the memo keeps it.
+fn short(n: usize) -> u16
+    ensures { λ r. ⌜ (n < 65_536 → r ≡ n) ⌝ }
+{
+    (n % KEPT) as u16
+}
+
+// A pin, as the memo keeps it.
+fn wide(b: u8) -> u16
     ensures { λ r. ⌜ (r ≡ b) × (r % 256 ≡ b) ⌝ }
 {
-    b as usize
+    b as u16
 }
 
-// A pin, of the number that keeps it.
-fn pin_of(n: usize) -> u8
+// The pin that was kept.
+fn pin_of(n: u16) -> u8
     ensures { λ r. ⌜ r ≡ n % 256 ⌝ }
 {
     (n % 256) as u8
 }
 
 // Is the row for this use?
-fn is_noted(memo: &[usize], o: usize, u: Use) -> bool
+fn is_noted(memo: &[u16], o: usize, u: Use) -> bool
     requires { ⌜ o + memoRow ≤ length (now memo) ⌝ }
     ensures { λ r. ⌜ (r ≡ true → Notes (now (memo .entry)) o u) ⌝ }
 {
     (memo[o] == 1)
-        & (memo[o + 1] == u.seconds)
-        & (memo[o + 2] == u.fault)
-        & (memo[o + 3] == u.at)
-        & (memo[o + 4] == u.end)
+        & (number(memo[o + 1]) == u.seconds)
+        & (number(memo[o + 2]) == u.fault)
+        & (number(memo[o + 3]) == u.at)
+        & (number(memo[o + 4]) == u.end)
+}
+
+// Can it be?
+fn is_short(u: Use) -> bool
+    ensures { λ r. ⌜ (r ≡ true → Short u) ⌝ }
+{
+    (u.seconds < KEPT) & (u.fault < KEPT) & (u.at < KEPT) & (u.end < KEPT)
 }
 
 // Now it is.
-fn note(memo: &mut [usize], o: usize, u: Use)
-    requires { ⌜ o + memoRow ≤ length (now memo) ⌝ }
+fn note(memo: &mut [u16], o: usize, u: Use)
+    requires { ⌜ (o + memoRow ≤ length (now memo)) × Short u ⌝ }
     ensures { λ _. ⌜ Writes (now (memo .entry)) (now (memo .exit)) o (o + 5) × Notes (now (memo .exit)) o u ⌝ }
 {
     memo[o] = 1;
-    memo[o + 1] = u.seconds;
-    memo[o + 2] = u.fault;
-    memo[o + 3] = u.at;
-    memo[o + 4] = u.end;
+    memo[o + 1] = short(u.seconds);
+    memo[o + 2] = short(u.fault);
+    memo[o + 3] = short(u.at);
+    memo[o + 4] = short(u.end);
 }
 
 // Are the table and the pins those of the picture?
-fn is_pictured(memo: &[usize], o: usize, table: usize, values: &[u8], signals: usize) -> bool
+fn is_pictured(memo: &[u16], o: usize, table: usize, values: &[u8], signals: usize) -> bool
     requires { ⌜ (o + pictureSize ≤ length (now memo)) × (signals < pictureSize) × (signals ≤ length (now values)) ⌝ }
     ensures { λ r. ⌜ (r ≡ true → Pictures (now (memo .entry)) o signals table (now (values .entry))) ⌝ }
 {
-    if memo[o] != table {
+    let first = number(memo[o]);
+    if first != table {
         return false;
     }
     let mut s = 0;
@@ -151,11 +172,11 @@ fn is_pictured(memo: &[usize], o: usize, table: usize, values: &[u8], signals: u
 }
 
 // Now they are.
-fn picture(memo: &mut [usize], o: usize, table: usize, values: &[u8], signals: usize)
-    requires { ⌜ (o + pictureSize ≤ length (now memo)) × (signals < pictureSize) × (signals ≤ length (now values)) ⌝ }
+fn picture(memo: &mut [u16], o: usize, table: usize, values: &[u8], signals: usize)
+    requires { ⌜ (table < 65_536) × (o + pictureSize ≤ length (now memo)) × (signals < pictureSize) × (signals ≤ length (now values)) ⌝ }
     ensures { λ _. ⌜ Writes (now (memo .entry)) (now (memo .exit)) o (o + pictureSize) × Pictures (now (memo .exit)) o signals table (now (values .entry)) ⌝ }
 {
-    memo[o] = table;
+    memo[o] = short(table);
     let mut s = 0;
     while s < signals {
         memo[o + 1 + s] = wide(values[s]);
@@ -164,7 +185,7 @@ fn picture(memo: &mut [usize], o: usize, table: usize, values: &[u8], signals: u
 }
 
 // The pins are those of the picture.
-fn restore(memo: &[usize], o: usize, values: &mut [u8], signals: usize)
+fn restore(memo: &[u16], o: usize, values: &mut [u8], signals: usize)
     requires { ⌜ (o + pictureSize ≤ length (now memo)) × (signals < pictureSize) × (signals ≤ length (now values)) ⌝ }
     ensures { λ _. ⌜ (length (now (values .exit)) ≡ length (now (values .entry))) × ((i : ℕ) → signals ≤ i → getD (now (values .exit)) i 0 ≡ getD (now (values .entry)) i 0) × Pictures (now (memo .entry)) o signals (getD (now (memo .entry)) o 0) (now (values .exit)) ⌝ }
 {
@@ -176,12 +197,12 @@ fn restore(memo: &[usize], o: usize, values: &mut [u8], signals: usize)
 }
 
 // A use from this table and these pins, if it is remembered: what it left is left.
-fn recall(memo: &[usize], u: Use, table: usize, values: &mut [u8], signals: usize) -> Passed
+fn recall(memo: &[u16], u: Use, table: usize, values: &mut [u8], signals: usize) -> Passed
     requires { ⌜ (signals < pictureSize) × (signals ≤ length (now values)) ⌝ }
     ensures { λ r. ⌜ Recalls (now (memo .entry)) signals u table (now (values .entry)) (now (values .exit)) r ⌝ }
 {
     let stay = Passed { done: false, table };
-    let o = memo_row(u.at);
+    let o = memo_row(memo.len(), u.at);
     if memo.len() < o + MEMO_ROW {
         return stay;
     }
@@ -194,13 +215,13 @@ fn recall(memo: &[usize], u: Use, table: usize, values: &mut [u8], signals: usiz
     restore(memo, o + BEHIND, values, signals);
     Passed {
         done: true,
-        table: memo[o + BEHIND],
+        table: number(memo[o + BEHIND]),
     }
 }
 
 // A use that was played, in which no cycle failed, from a table and the kept pins to a table and pins.
 fn remember(
-    memo: &mut [usize],
+    memo: &mut [u16],
     u: Use,
     table: usize,
     kept: &[u8],
@@ -211,8 +232,11 @@ fn remember(
     requires { ⌜ (signals < pictureSize) × (signals ≤ length (now kept)) × (signals ≤ length (now values)) ⌝ }
     ensures { λ _. ⌜ Remembered (now (memo .entry)) (now (memo .exit)) signals u table (now (kept .entry)) behind (now (values .entry)) ⌝ }
 {
-    let o = memo_row(u.at);
-    if memo.len() < o + MEMO_ROW {
+    let o = memo_row(memo.len(), u.at);
+    if (memo.len() < o + MEMO_ROW) | (KEPT <= table) | (KEPT <= behind) {
+        return;
+    }
+    if !is_short(u) {
         return;
     }
     note(memo, o, u);
@@ -333,7 +357,7 @@ fn needed_turns<'a>(
     values: &mut [u8],
     feeds: &mut [usize],
     args: &mut [usize],
-    memo: &mut [usize],
+    memo: &mut [u16],
 ) -> Played
     requires { ⌜ (alive c ≡ true) × (0 < n) × (0 < frame .depth) × Stood (ground (now text) (now places) (now lists) (now tplaces) (now book) (now rows) (now waves) known signals) (stream (now text) c) (frame .depth - 1) (frame .level) table (arrays (now values) (now feeds) (now args)) ⌝ }
     ensures { λ r. ⌜ PromisedWhere (λ b. plain ≡ true → Plain b) (ground (now (text .entry)) (now (places .entry)) (now (lists .entry)) (now (tplaces .entry)) (now (book .entry)) (now (rows .entry)) (now (waves .entry)) known signals) (now (marks .entry)) (now (sums .entry)) (now (memo .entry)) (now (memo .exit)) (stream (now (text .entry)) c) (frame .depth - 1) (frame .level) table (arrays (now (values .entry)) (now (feeds .entry)) (now (args .entry))) (arrays (now (values .exit)) (now (feeds .exit)) (now (args .exit))) (λ b. loopFew n (frame .seconds) (λ j. playFew j (frame .turns) b)) r ⌝ }
@@ -431,7 +455,7 @@ pub fn turns<'a>(
     requires { ⌜ (alive c ≡ true) × (0 < n) × (0 < frame .depth) × Stood (ground (now text) (now places) (now lists) (now tplaces) (now book) (now rows) (now waves) known signals) (stream (now text) c) (frame .depth - 1) (frame .level) table (arrays (now values) (now feeds) (now args)) ⌝ }
     ensures { λ r. ⌜ Promised (ground (now (text .entry)) (now (places .entry)) (now (lists .entry)) (now (tplaces .entry)) (now (book .entry)) (now (rows .entry)) (now (waves .entry)) known signals) (now (marks .entry)) (now (sums .entry)) (stream (now (text .entry)) c) (frame .depth - 1) (frame .level) table (arrays (now (values .entry)) (now (feeds .entry)) (now (args .entry))) (arrays (now (values .exit)) (now (feeds .exit)) (now (args .exit))) (λ b. loopFew n (frame .seconds) (λ j. playFew j (frame .turns) b)) r ⌝ }
 {
-    let mut memo = [0usize; 0];
+    let mut memo = [0u16; 0];
     needed_turns(
         text,
         c,
@@ -477,7 +501,7 @@ fn play_body<'a>(
     values: &mut [u8],
     feeds: &mut [usize],
     args: &mut [usize],
-    memo: &mut [usize],
+    memo: &mut [u16],
 ) -> Played
     requires { ⌜ Used (ground (now text) (now places) (now lists) (now tplaces) (now book) (now rows) (now waves) known signals) i (frame .depth) (frame .level) table (arrays (now values) (now feeds) (now args)) ⌝ }
     ensures { λ r. ⌜ Performed (ground (now (text .entry)) (now (places .entry)) (now (lists .entry)) (now (tplaces .entry)) (now (book .entry)) (now (rows .entry)) (now (waves .entry)) known signals) (now (marks .entry)) (now (sums .entry)) (now (memo .entry)) (now (memo .exit)) i (frame .depth) (frame .level) table (arrays (now (values .entry)) (now (feeds .entry)) (now (args .entry))) (arrays (now (values .exit)) (now (feeds .exit)) (now (args .exit))) (frame .seconds) t r ⌝ }
@@ -568,7 +592,7 @@ pub fn enter<'a>(
     requires { ⌜ Used (ground (now text) (now places) (now lists) (now tplaces) (now book) (now rows) (now waves) known signals) i (frame .depth) (frame .level) table (arrays (now values) (now feeds) (now args)) ⌝ }
     ensures { λ r. ⌜ Entered (ground (now (text .entry)) (now (places .entry)) (now (lists .entry)) (now (tplaces .entry)) (now (book .entry)) (now (rows .entry)) (now (waves .entry)) known signals) (now (marks .entry)) (now (sums .entry)) i (frame .depth) (frame .level) table (arrays (now (values .entry)) (now (feeds .entry)) (now (args .entry))) (arrays (now (values .exit)) (now (feeds .exit)) (now (args .exit))) (frame .seconds) t r ⌝ }
 {
-    let mut memo = [0usize; 0];
+    let mut memo = [0u16; 0];
     play_body(
         text,
         places,
@@ -689,7 +713,7 @@ fn used<'a>(
     values: &mut [u8],
     feeds: &mut [usize],
     args: &mut [usize],
-    memo: &mut [usize],
+    memo: &mut [u16],
 ) -> Played
     requires { ⌜ SomeInvoked (ground (now text) (now places) (now lists) (now tplaces) (now book) (now rows) (now waves) known signals) c i t (frame .depth) (frame .level) table (now given) (arrays (now values) (now feeds) (now args)) ⌝ }
     ensures { λ r. ⌜ Served (ground (now (text .entry)) (now (places .entry)) (now (lists .entry)) (now (tplaces .entry)) (now (book .entry)) (now (rows .entry)) (now (waves .entry)) known signals) (now (marks .entry)) (now (sums .entry)) (now (memo .entry)) (now (memo .exit)) c i t (frame .depth) (frame .level) table (now (given .entry)) (arrays (now (values .entry)) (now (feeds .entry)) (now (args .entry))) (arrays (now (values .exit)) (now (feeds .exit)) (now (args .exit))) (frame .seconds) r ⌝ }
@@ -713,7 +737,7 @@ fn used<'a>(
     let mut kept = [0u8; sets::MOST];
     keep(values, &mut kept, signals, true);
     pins::supply(given, args, feeds, frame.level + 1);
-    let r = play_body(
+    let left = play_body(
         text,
         places,
         lists,
@@ -734,11 +758,11 @@ fn used<'a>(
         args,
         memo,
     );
-    if r.failed {
-        return r;
+    if left.failed {
+        return left;
     }
-    remember(memo, u, table, &kept, r.table, values, signals);
-    r
+    remember(memo, u, table, &kept, left.table, values, signals);
+    left
 }
 
 // The statement at the cursor, or the `}` there.
@@ -760,7 +784,7 @@ fn statement<'a>(
     values: &mut [u8],
     feeds: &mut [usize],
     args: &mut [usize],
-    memo: &mut [usize],
+    memo: &mut [u16],
 ) -> Played
     requires { ⌜ (alive c ≡ true) × Stood (ground (now text) (now places) (now lists) (now tplaces) (now book) (now rows) (now waves) known signals) (stream (now text) c) (frame .depth) (frame .level) table (arrays (now values) (now feeds) (now args)) ⌝ }
     ensures { λ r. ⌜ Stepped (ground (now (text .entry)) (now (places .entry)) (now (lists .entry)) (now (tplaces .entry)) (now (book .entry)) (now (rows .entry)) (now (waves .entry)) known signals) (now (marks .entry)) (now (sums .entry)) (now (memo .entry)) (now (memo .exit)) (stream (now (text .entry)) c) (frame .depth) (frame .level) table (arrays (now (values .entry)) (now (feeds .entry)) (now (args .entry))) (arrays (now (values .exit)) (now (feeds .exit)) (now (args .exit))) (frame .seconds) (frame .turns) r ⌝ }
@@ -955,7 +979,7 @@ fn statements<'a>(
     values: &mut [u8],
     feeds: &mut [usize],
     args: &mut [usize],
-    memo: &mut [usize],
+    memo: &mut [u16],
 ) -> Played
     requires { ⌜ (alive c ≡ true) × Stood (ground (now text) (now places) (now lists) (now tplaces) (now book) (now rows) (now waves) known signals) (stream (now text) c) (frame .depth) (frame .level) table (arrays (now values) (now feeds) (now args)) ⌝ }
     ensures { λ r. ⌜ PromisedWhere (λ b. Unit {0}) (ground (now (text .entry)) (now (places .entry)) (now (lists .entry)) (now (tplaces .entry)) (now (book .entry)) (now (rows .entry)) (now (waves .entry)) known signals) (now (marks .entry)) (now (sums .entry)) (now (memo .entry)) (now (memo .exit)) (stream (now (text .entry)) c) (frame .depth) (frame .level) table (arrays (now (values .entry)) (now (feeds .entry)) (now (args .entry))) (arrays (now (values .exit)) (now (feeds .exit)) (now (args .exit))) (playFew (frame .seconds) (frame .turns)) r ⌝ }
@@ -1010,7 +1034,7 @@ fn body_of<'a>(
     values: &mut [u8],
     feeds: &mut [usize],
     args: &mut [usize],
-    memo: &mut [usize],
+    memo: &mut [u16],
 ) -> Played
     requires { ⌜ (length (now body) ≤ length (now text)) × Stood (ground (now text) (now places) (now lists) (now tplaces) (now book) (now rows) (now waves) known signals) (toks (now text) (length (now text) - length (now body))) (frame .depth) (frame .level) table (arrays (now values) (now feeds) (now args)) ⌝ }
     ensures { λ r. ⌜ PromisedWhere (λ b. Unit {0}) (ground (now (text .entry)) (now (places .entry)) (now (lists .entry)) (now (tplaces .entry)) (now (book .entry)) (now (rows .entry)) (now (waves .entry)) known signals) (now (marks .entry)) (now (sums .entry)) (now (memo .entry)) (now (memo .exit)) (toks (now (text .entry)) (length (now (text .entry)) - length (now (body .entry)))) (frame .depth) (frame .level) table (arrays (now (values .entry)) (now (feeds .entry)) (now (args .entry))) (arrays (now (values .exit)) (now (feeds .exit)) (now (args .exit))) (playFew (frame .seconds) (frame .turns)) r ⌝ }
@@ -1059,7 +1083,7 @@ fn pattern<'a>(
     values: &mut [u8],
     feeds: &mut [usize],
     args: &mut [usize],
-    memo: &mut [usize],
+    memo: &mut [u16],
 ) -> Played
     requires { ⌜ SomeListed (ground (now text) (now places) (now lists) (now tplaces) (now book) (now rows) (now waves) known signals) (now list) patterns k (arrays (now values) (now feeds) (now args)) ⌝ }
     ensures { λ r. ⌜ PlaysListed (ground (now (text .entry)) (now (places .entry)) (now (lists .entry)) (now (tplaces .entry)) (now (book .entry)) (now (rows .entry)) (now (waves .entry)) known signals) (now (marks .entry)) (now (sums .entry)) (now (memo .entry)) (now (memo .exit)) (now (list .entry)) patterns k (arrays (now (values .exit)) (now (feeds .exit)) (now (args .exit))) r ⌝ }
@@ -1120,7 +1144,7 @@ pub fn first_failing<'a>(
     let mut values = [0u8; pins::VALUES];
     let mut feeds = [0usize; pins::FEEDS];
     let mut args = [0usize; measures::ROW];
-    let mut memo = blank_memo();
+    let mut memo = [0u16; MEMO];
     let mut k = 0;
     while k < listed {
         let r = pattern(

@@ -1,12 +1,16 @@
-// window FILE FIRST COUNT
+// window FILE FIRST COUNT [MARK]
 ghost use Prim.Native.Nat.{_+_, _*_, _≤_, _<_};
 ghost use lib.ListN.{length};
 use crate::answers;
 use crate::asked;
 use crate::files;
+use lines::Value;
 use stil::Checked;
 use stil::Shown;
 use streams::ROWS;
+
+// The mark for an unassigned pin where none is chosen: `?`.
+const QUESTION: u64 = 63;
 
 // Were the rows written? Then the visits at their first cycle.
 struct Piece {
@@ -47,10 +51,10 @@ fn over() -> Piece {
 }
 
 // The rows of n cycles from the cycle `first` on.
-fn some_rows(text: &[u8], first: usize, n: usize, width: usize, page: &mut [u8]) -> Piece
+fn some_rows(text: &[u8], first: usize, n: usize, width: usize, mark: u8, page: &mut [u8]) -> Piece
     requires { ⌜ n * width ≤ length (now page) ⌝ }
 {
-    match stil::window(text, first, n, page) {
+    match stil::window(text, first, n, mark, page) {
         Shown::Rows(count, visits) => {
             if count != n {
                 streams::broken(b"fewer rows than are due\n");
@@ -68,20 +72,20 @@ fn some_rows(text: &[u8], first: usize, n: usize, width: usize, page: &mut [u8])
     }
 }
 
-// Windows laid end to end, then the visits of the first.
-fn rows(text: &[u8], first: usize, due: usize, width: usize)
+// Windows laid end to end, all with one mark, then the visits of the first.
+fn rows(text: &[u8], first: usize, due: usize, width: usize, mark: u8)
     requires { ⌜ (2 ≤ width) × (width ≤ 66) × (first + due ≤ 18446744073709551615) ⌝ }
 {
     let mut space = streams::rows();
     let page: &mut [u8] = &mut space;
     let mut done = fitting(due, width);
-    let front = some_rows(text, first, done, width, page);
+    let front = some_rows(text, first, done, width, mark, page);
     if !front.going {
         return;
     }
     while done < due {
         let n = fitting(due - done, width);
-        let piece = some_rows(text, first + done, n, width, page);
+        let piece = some_rows(text, first + done, n, width, mark, page);
         if !piece.going {
             return;
         }
@@ -90,18 +94,31 @@ fn rows(text: &[u8], first: usize, due: usize, width: usize)
     answers::visits(front.visits);
 }
 
-fn answer(text: &[u8], first: usize, wanted: usize) {
+fn answer(text: &[u8], first: usize, wanted: usize, mark: u8) {
     match stil::check(text) {
         Checked::Counted(signals, _, _, cycles, _) => {
             if sets::MOST < signals {
                 return streams::broken(b"more signals than a text has\n");
             }
-            rows(text, first, due(cycles, first, wanted), signals + 2);
+            rows(text, first, due(cycles, first, wanted), signals + 2, mark);
         }
         Checked::Refused(no, place) => {
             answers::refused(no, place);
         }
     }
+}
+
+// The mark that was chosen, or else `?`.
+fn mark() -> Value
+    ensures { λ r. ⌜ r .value < 256 ⌝ }
+{
+    if os::arg_count() < 6 {
+        return Value {
+            right: true,
+            value: QUESTION,
+        };
+    }
+    asked::byte(5)
 }
 
 fn file() {
@@ -113,11 +130,20 @@ fn file() {
     if !wanted.right {
         return;
     }
+    let mark = mark();
+    if !mark.right {
+        return;
+    }
     let mut text = streams::room();
     let t = files::text(2, &mut text);
     if t.read {
         let n = t.length;
-        answer(&text[..n], first.value as usize, wanted.value as usize);
+        answer(
+            &text[..n],
+            first.value as usize,
+            wanted.value as usize,
+            mark.value as u8,
+        );
     }
 }
 
@@ -132,7 +158,7 @@ pub fn window() {
     if words < 5 {
         return asked::missing(b"COUNT");
     }
-    if asked::no_more(5) {
+    if asked::no_more(6) {
         file();
     }
 }

@@ -26,7 +26,7 @@ mul-t14 c =
     let called = told .before .before .before .before in
     let fits = called .before .before in
     let start = fits .before .before .before in
-    let few = rows-few (start .args .text .now) (start .args .p .first) _ (called .window .ensures) (told .count .given .1) in
+    let few = rows-few (start .args .text .now) (start .args .p .first) _ _ (called .window .ensures) (told .count .given .1) in
     omega (arith, bytes-few (start .args .p) _ (fits .fitting .ensures) (few .0), start .good)
 
 add-t15 : tie.Need-add-t15
@@ -34,7 +34,7 @@ add-t15 c =
     let told = c .before .before .before in
     let called = told .before .before .before .before in
     let start = called .before .before .before .before .before in
-    let few = rows-few (start .args .text .now) (start .args .p .first) _ (called .window .ensures) (told .count .given .1) in
+    let few = rows-few (start .args .text .now) (start .args .p .first) _ _ (called .window .ensures) (told .count .given .1) in
     omega (arith, few .1)
 
 sub-t16 : tie.Need-sub-t16
@@ -43,7 +43,7 @@ sub-t16 c =
     let called = told .before .before .before .before in
     let fits = called .before .before in
     let start = fits .before .before .before in
-    let few = rows-few (start .args .text .now) (start .args .p .first) _ (called .window .ensures) (told .count .given .1) in
+    let few = rows-few (start .args .text .now) (start .args .p .first) _ _ (called .window .ensures) (told .count .given .1) in
     omega (arith, fits .fitting .ensures)
 
 same-length : tie.Need-same-length

@@ -2,6 +2,7 @@
 use Prim.Native.Nat.{_≤_}
 use native.Mathlib.Omega.{arith}
 use Rattle.pins.proofs.Advancing.{Least, least-none, least-fed, least-other, least-all, ahead-none}
+use borrow.Author.Needs.{needs}
 use Rattle.pins.proofs.ahead.Statement.{statement}
 use Rattle.pins.proofs.ahead.Tie as tie
 

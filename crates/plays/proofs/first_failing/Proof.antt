@@ -1,27 +1,25 @@
 -- The run meets refusal 17: behind the patterns that were played nothing failed, and the rest of the list is left.
-use Prim.Native.Nat.{_-_}
+use Prim.Native.Nat.{ℕ, _-_}
 use native.Mathlib.Omega.{arith}
 use mathlib.Core.Path.{_≡_, sym, _∙_}
-use lib.ListN.{length}
+use lib.ListN.{length, length-replicate}
 use borrow.Author.Needs.{needs}
 use Rattle.plays.specs.Plays.{arrays}
+use Rattle.plays.proofs.Memos.{zeros}
 use Rattle.plays.proofs.Texts.{decides-failing, decides-sound, listed-any, run-fails, run-learnt, run-left, run-sound, Unplayed, unplayed}
 use Rattle.plays.proofs.first_failing.Statement.{statement}
 use Rattle.plays.proofs.first_failing.Tie as tie
 
 abbrev Inv-loop : tie.InvT-loop
-Inv-loop text places lists tplaces book rows waves marks sums list known signals listed patterns values₀ feeds₀ args₀ memo₀ k₀ values feeds args memo k = (17_145 ≡ length memo) × Unplayed text places lists tplaces waves book rows list known signals listed patterns marks sums memo k (arrays values feeds args)
+Inv-loop text places lists tplaces book rows waves marks sums list known signals listed patterns values₀ feeds₀ args₀ memo₀ k₀ values feeds args memo k = (45_495 ≡ length memo) × Unplayed text places lists tplaces waves book rows list known signals listed patterns marks sums memo k (arrays values feeds args)
 
 abbrev μ-loop : tie.MeasureT-loop
 μ-loop text places lists tplaces book rows waves marks sums list known signals listed patterns values₀ feeds₀ args₀ memo₀ k₀ values feeds args memo k = listed - k
 
-blank-memo-requires : tie.Need-blank-memo-requires Inv-loop μ-loop
-blank-memo-requires c κs = search needs
-
 loop-holds : tie.Need-loop-holds Inv-loop μ-loop
 loop-holds c =
-    let pre′ = c .before .before .before .before .before .before .before .before .before .before .before .pre in
-    (sym (c .blank-memo .ensures .0), unplayed _ _ _ _ _ _ _ _ _ _ _ _ pre′ (c .blank-memo .ensures .1))
+    let pre′ = c .before .before .before .before .before .before .before .before .before .before .pre in
+    (sym (length-replicate {A = ℕ} 45_495 0), unplayed _ _ _ _ _ _ _ _ _ _ _ _ pre′ (zeros 45_495))
 
 slice-aggregate-pattern : tie.Need-slice-aggregate-pattern Inv-loop μ-loop
 slice-aggregate-pattern c = search needs
@@ -37,7 +35,7 @@ slice-aggregate-pattern-4 c = c .before .before .before .before .before .loop .i
 
 pattern-requires : tie.Need-pattern-requires Inv-loop μ-loop
 pattern-requires c κs =
-    let pre′ = c .before .before .before .before .before .before .before .before .before .before .before .before .before .before .before .before .before .pre in
+    let pre′ = c .before .before .before .before .before .before .before .before .before .before .before .before .before .before .before .before .pre in
     let loop′ = c .before .before .before .before .before .loop in
     let loop-test′ = c .before .before .before .before .loop-test in
     let l = listed-any _ _ _ _ _ _ _ _ _ _ _ _ (pre′ .runs) (loop-test′ .taken) in
@@ -58,7 +56,7 @@ returns c =
 
 add-k : tie.Need-add-k Inv-loop μ-loop
 add-k c =
-    let fits′ = c .before .before .before .before .before .before .before .before .before .before .before .before .before .before .before .before .before .before .before .before .before .before .before .fits in
+    let fits′ = c .before .before .before .before .before .before .before .before .before .before .before .before .before .before .before .before .before .before .before .before .before .before .fits in
     omega (arith, fits′ .listed)
 
 loop-less : tie.Need-loop-less Inv-loop μ-loop
@@ -89,7 +87,6 @@ first-failing-spec =
     (tie.spec
     Inv-loop
     μ-loop
-    blank-memo-requires
     loop-holds
     slice-aggregate-pattern
     slice-aggregate-pattern-2

@@ -9,22 +9,25 @@ use Rattle.plays.proofs.is_pictured.Statement.{statement}
 use Rattle.plays.proofs.is_pictured.Tie as tie
 
 abbrev Inv-loop : tie.InvT-loop
-Inv-loop memo o table values signals s₀ s = (s ≤ signals) × Pictures memo o s table values
+Inv-loop memo o table values signals first s₀ s = (s ≤ signals) × Pictures memo o s table values
 
 abbrev μ-loop : tie.MeasureT-loop
-μ-loop memo o table values signals s₀ s = signals - s
+μ-loop memo o table values signals first s₀ s = signals - s
 
-mul-if1 : tie.Need-mul-if1 Inv-loop μ-loop
-mul-if1 c = search needs
+mul-number : tie.Need-mul-number Inv-loop μ-loop
+mul-number c = search needs
 
-shared-slice-read-if1 : tie.Need-shared-slice-read-if1 Inv-loop μ-loop
-shared-slice-read-if1 c = omega arith
+shared-slice-read-number : tie.Need-shared-slice-read-number Inv-loop μ-loop
+shared-slice-read-number c = omega arith
+
+number-requires : tie.Need-number-requires Inv-loop μ-loop
+number-requires c κs = search needs
 
 returns : tie.Need-returns Inv-loop μ-loop
 returns c = λ e. let z : _≡_ {A = ℕ} 0 1 = cc in absurd (omega arith)
 
 loop-holds : tie.Need-loop-holds Inv-loop μ-loop
-loop-holds c = (omega arith, pictures-none (c .if1 .left))
+loop-holds c = (omega arith, pictures-none (sym (c .before .number .ensures) ∙ c .if1 .left))
 
 add-pin-of : tie.Need-add-pin-of Inv-loop μ-loop
 add-pin-of c = omega arith
@@ -65,8 +68,9 @@ is-pictured-spec =
     (tie.spec
     Inv-loop
     μ-loop
-    mul-if1
-    shared-slice-read-if1
+    mul-number
+    shared-slice-read-number
+    number-requires
     returns
     loop-holds
     add-pin-of

@@ -16,6 +16,9 @@ Inv-loop memo₀ o table values signals s₀ memo s = (s ≤ signals) × Writes 
 abbrev μ-loop : tie.MeasureT-loop
 μ-loop memo₀ o table values signals s₀ memo s = signals - s
 
+short-requires : tie.Need-short-requires Inv-loop μ-loop
+short-requires c κs = search needs
+
 mul-memo : tie.Need-mul-memo Inv-loop μ-loop
 mul-memo c = search needs
 
@@ -23,7 +26,7 @@ slice-write-memo : tie.Need-slice-write-memo Inv-loop μ-loop
 slice-write-memo c = omega arith
 
 loop-holds : tie.Need-loop-holds Inv-loop μ-loop
-loop-holds c = (omega arith, writes-none, pictures-none (getD-set-same (c .before .before .args .memo .now) (c .before .before .args .o) (c .before .before .args .table) 0 (omega arith)))
+loop-holds c = (omega arith, writes-none, pictures-none (getD-set-same (c .before .before .before .args .memo .now) (c .before .before .before .args .o) (c .short .result) 0 (omega (arith, c .before .before .before .pre .1)) ∙ c .short .ensures (c .before .before .before .pre .0)))
 
 shared-slice-read-wide : tie.Need-shared-slice-read-wide Inv-loop μ-loop
 shared-slice-read-wide c = omega arith
@@ -41,9 +44,7 @@ mul-memo-2 : tie.Need-mul-memo-2 Inv-loop μ-loop
 mul-memo-2 c = search needs
 
 slice-write-memo-2 : tie.Need-slice-write-memo-2 Inv-loop μ-loop
-slice-write-memo-2 c =
-    let args′ = c .before .before .before .before .before .before .args in
-    omega (arith, c .before .before .before .loop .inv .1 .long, length-set (args′ .memo .now) (args′ .o) (args′ .table))
+slice-write-memo-2 c = omega (arith, c .before .before .before .loop .inv .1 .long, length-set (c .before .before .before .before .before .before .before .args .memo .now) (c .before .before .before .before .before .before .before .args .o) (c .before .before .before .before .short .result))
 
 add-s : tie.Need-add-s Inv-loop μ-loop
 add-s c = omega arith
@@ -53,21 +54,18 @@ loop-less c = omega arith
 
 loop-again : tie.Need-loop-again Inv-loop μ-loop
 loop-again c =
-    let args′ = c .before .before .before .before .before .before .args in
     let inv = c .before .before .before .loop .inv in
-    let d = drawn-next (c .wide .result) (inv .1) (inv .2) (omega arith) (omega (arith, inv .1 .long, length-set (args′ .memo .now) (args′ .o) (args′ .table))) (c .wide .ensures .1) in
+    let room = length-set (c .before .before .before .before .before .before .before .args .memo .now) (c .before .before .before .before .before .before .before .args .o) (c .before .before .before .before .short .result) in
+    let d = drawn-next (c .wide .result) (inv .1) (inv .2) (omega arith) (omega (arith, inv .1 .long, room)) (c .wide .ensures .1) in
     (omega arith, d .0, d .1)
 
 same-length : tie.Need-same-length Inv-loop μ-loop
-same-length c =
-    let args′ = c .before .before .before .before .args in
-    c .before .loop .inv .1 .long ∙ length-set (args′ .memo .now) (args′ .o) (args′ .table)
+same-length c = c .before .loop .inv .1 .long ∙ length-set (c .before .before .before .before .before .args .memo .now) (c .before .before .before .before .before .args .o) (c .before .before .short .result)
 
 returns : tie.Need-returns Inv-loop μ-loop
 returns c =
-    let args′ = c .before .before .before .before .args in
     let inv = c .before .loop .inv in
-    (writes-then (writes-next writes-none (args′ .o) (args′ .table) (omega arith) (omega arith)) (inv .1), pictures-all (omega arith) (inv .2))
+    (writes-then (writes-next writes-none (c .before .before .before .before .before .args .o) (c .before .before .short .result) (omega arith) (omega arith)) (inv .1), pictures-all (omega arith) (inv .2))
 
 pub picture-spec : {M : Type 1} → statement M
 picture-spec =
@@ -75,6 +73,7 @@ picture-spec =
     (tie.spec
     Inv-loop
     μ-loop
+    short-requires
     mul-memo
     slice-write-memo
     loop-holds

@@ -38,27 +38,23 @@ add-restore c = search needs
 restore-requires : tie.Need-restore-requires
 restore-requires c κs = search needs
 
-add-t8 : tie.Need-add-t8
-add-t8 c = search needs
+add-number : tie.Need-add-number
+add-number c = search needs
 
-mul-t9 : tie.Need-mul-t9
-mul-t9 c = search needs
+mul-number : tie.Need-mul-number
+mul-number c = search needs
 
-shared-slice-read-t18 : tie.Need-shared-slice-read-t18
-shared-slice-read-t18 c = search needs
+shared-slice-read-number : tie.Need-shared-slice-read-number
+shared-slice-read-number c = search needs
+
+number-requires : tie.Need-number-requires
+number-requires c κs = search needs
 
 same-length-2 : tie.Need-same-length-2
 same-length-2 c = search needs
 
 returns-4 : tie.Need-returns-4
-returns-4 c =
-    let row′ = c .before .before .before .before .before .before .before .before .before .before .before .memo-row in
-    let is-noted′ = c .before .before .before .before .before .before .before .before .before .is-noted in
-    let if2′ = c .before .before .before .before .before .before .before .before .if2 in
-    let is-pictured′ = c .before .before .before .before .before .before .is-pictured in
-    let if3′ = c .before .before .before .before .before .if3 in
-    let restore′ = c .before .before .before .restore in
-    recalls-row (row′ .ensures .0) (row′ .ensures .1) (is-noted′ .ensures (not-false _ (if2′ .left))) (is-pictured′ .ensures (not-false _ (if3′ .left))) (restore′ .ensures)
+returns-4 c = recalls-row (c .before .before .before .before .before .before .before .before .before .before .before .before .memo-row .ensures .0) (c .before .before .before .before .before .before .before .before .before .before .before .before .memo-row .ensures .1) (c .before .before .before .before .before .before .before .before .before .before .is-noted .ensures (not-false _ (c .before .before .before .before .before .before .before .before .before .if2 .left))) (c .before .before .before .before .before .before .before .is-pictured .ensures (not-false _ (c .before .before .before .before .before .before .if3 .left))) (c .before .before .before .before .restore .ensures) (c .number .ensures)
 
 pub recall-spec : {M : Type 1} → statement M
 recall-spec =
@@ -75,8 +71,9 @@ recall-spec =
     returns-3
     add-restore
     restore-requires
-    add-t8
-    mul-t9
-    shared-slice-read-t18
+    add-number
+    mul-number
+    shared-slice-read-number
+    number-requires
     same-length-2
     returns-4)

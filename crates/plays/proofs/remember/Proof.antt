@@ -1,5 +1,7 @@
--- The note and the two pictures of one row are written.
-use Rattle.plays.proofs.Memos.{row-kept, row-written}
+-- The note and the two pictures of one row are written, where they can be.
+use native.Mathlib.Omega.{arith}
+use borrow.Author.Tests.{not-false}
+use Rattle.plays.proofs.Memos.{room-short, row-kept, row-written}
 use borrow.Author.Needs.{needs}
 use Rattle.plays.proofs.remember.Statement.{statement}
 use Rattle.plays.proofs.remember.Tie as tie
@@ -13,32 +15,38 @@ add-if1 c = search needs
 returns : tie.Need-returns
 returns c = row-kept
 
+is-short-requires : tie.Need-is-short-requires
+is-short-requires c κs = search needs
+
+returns-2 : tie.Need-returns-2
+returns-2 c = row-kept
+
 note-requires : tie.Need-note-requires
-note-requires c κs = search needs
+note-requires c κs =
+    let r = room-short (c .before .before .before .before .before .before .before .before .args .memo .now) (c .before .before .before .before .memo-row .result) (c .before .before .before .before .before .before .before .before .args .table) (c .before .before .before .before .before .before .before .before .args .behind) (c .before .before .before .if1 .left) in
+    (r .0, c .before .before .is-short .ensures (not-false _ (c .before .if2 .left)))
 
 add-picture : tie.Need-add-picture
 add-picture c = search needs
 
 picture-requires : tie.Need-picture-requires
-picture-requires c κs = search needs
+picture-requires c κs =
+    let r = room-short (c .before .before .before .before .before .before .before .before .before .before .before .before .args .memo .now) (c .before .before .before .before .before .before .before .before .memo-row .result) (c .before .before .before .before .before .before .before .before .before .before .before .before .args .table) (c .before .before .before .before .before .before .before .before .before .before .before .before .args .behind) (c .before .before .before .before .before .before .before .if1 .left) in
+    (r .1, omega (arith, r .0, c .before .before .before .note .ensures .0 .long), c .before .before .before .before .before .before .before .before .before .before .before .before .pre .0, c .before .before .before .before .before .before .before .before .before .before .before .before .pre .1)
 
 add-picture-2 : tie.Need-add-picture-2
 add-picture-2 c = search needs
 
 picture-requires-2 : tie.Need-picture-requires-2
-picture-requires-2 c κs = search needs
+picture-requires-2 c κs =
+    let r = room-short (c .before .before .before .before .before .before .before .before .before .before .before .before .before .before .before .before .args .memo .now) (c .before .before .before .before .before .before .before .before .before .before .before .before .memo-row .result) (c .before .before .before .before .before .before .before .before .before .before .before .before .before .before .before .before .args .table) (c .before .before .before .before .before .before .before .before .before .before .before .before .before .before .before .before .args .behind) (c .before .before .before .before .before .before .before .before .before .before .before .if1 .left) in
+    (r .2, omega (arith, r .0, c .before .before .before .before .before .before .before .note .ensures .0 .long, c .before .before .before .picture .ensures .0 .long), c .before .before .before .before .before .before .before .before .before .before .before .before .before .before .before .before .pre .0, c .before .before .before .before .before .before .before .before .before .before .before .before .before .before .before .before .pre .2)
 
 same-length : tie.Need-same-length
 same-length c = search needs
 
-returns-2 : tie.Need-returns-2
-returns-2 c =
-    let pre′ = c .before .before .before .before .before .before .before .before .before .before .before .before .before .before .before .before .before .pre in
-    let row′ = c .before .before .before .before .before .before .before .before .before .before .before .before .before .memo-row in
-    let note′ = c .before .before .before .before .before .before .before .before .before .before .note in
-    let picture′ = c .before .before .before .before .before .before .picture in
-    let picture2′ = c .before .before .picture2 in
-    row-written (row′ .ensures .0) (pre′ .0) (row′ .ensures .1) (note′ .ensures .0) (note′ .ensures .1) (picture′ .ensures .0) (picture′ .ensures .1) (picture2′ .ensures .0) (picture2′ .ensures .1)
+returns-3 : tie.Need-returns-3
+returns-3 c = row-written (c .before .before .before .before .before .before .before .before .before .before .before .before .before .before .before .memo-row .ensures .0) (c .before .before .before .before .before .before .before .before .before .before .before .before .before .before .before .before .before .before .before .pre .0) (c .before .before .before .before .before .before .before .before .before .before .before .before .before .before .before .memo-row .ensures .1) (c .before .before .before .before .before .before .before .before .before .before .note .ensures .0) (c .before .before .before .before .before .before .before .before .before .before .note .ensures .1) (c .before .before .before .before .before .before .picture .ensures .0) (c .before .before .before .before .before .before .picture .ensures .1) (c .before .before .picture2 .ensures .0) (c .before .before .picture2 .ensures .1)
 
 pub remember-spec : {M : Type 1} → statement M
 remember-spec =
@@ -47,10 +55,12 @@ remember-spec =
     memo-row-requires
     add-if1
     returns
+    is-short-requires
+    returns-2
     note-requires
     add-picture
     picture-requires
     add-picture-2
     picture-requires-2
     same-length
-    returns-2)
+    returns-3)

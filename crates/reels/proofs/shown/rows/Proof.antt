@@ -8,10 +8,10 @@ use Rattle.reels.proofs.shown.rows.Statement.{statement}
 use Rattle.reels.proofs.shown.rows.Tie as tie
 
 abbrev Inv-loop : tie.InvT-loop
-Inv-loop text first due width page₀ done₀ front page done = (length page ≡ 1048576) × (done ≤ due)
+Inv-loop text first due width mark page₀ done₀ front page done = (length page ≡ 1048576) × (done ≤ due)
 
 abbrev μ-loop : tie.MeasureT-loop
-μ-loop text first due width page₀ done₀ front page done = due - done
+μ-loop text first due width mark page₀ done₀ front page done = due - done
 
 rows-requires : tie.Need-rows-requires Inv-loop μ-loop
 rows-requires c κs = search needs
