@@ -29,7 +29,7 @@
  *            number of threads may call it at once, also with one text, each with buffers of its own.
  * Stack      A call keeps its tables on the stack, 200,000 bytes and more. The deepest text that was measured (8 bodies in
  *            each other) ran with 256 KiB for the whole program. That is a measurement and no bound: have 512 KiB.
- *            lutemeteor_token takes less than 1,000 bytes.
+ *            lutemeteor_token and lutemeteor_line take less than 1,000 bytes.
  */
 #ifndef LUTEMETEOR_STIL_H
 #define LUTEMETEOR_STIL_H
@@ -225,6 +225,18 @@ uint64_t lutemeteor_holds(const uint8_t *text, size_t length, const uint8_t *ind
  * is less than 3.
  */
 uint64_t lutemeteor_token(const uint8_t *text, size_t length, uint64_t at, uint64_t *numbers, size_t room);
+
+/*
+ * Line: where an editor shows a place of the text, a token's or a refusal's. A new line begins behind each LF and
+ * nowhere else; columns are counted in bytes. At the text's length, and past it, where one more byte would stand. The
+ * text may have any length.
+ *
+ *   numbers[0]   the line, from 1
+ *   numbers[1]   the column, from 1
+ *
+ * Refused 19 at 0 where `room` is less than 2, and for nothing else.
+ */
+uint64_t lutemeteor_line(const uint8_t *text, size_t length, uint64_t place, uint64_t *numbers, size_t room);
 
 /*
  * Intake: the next bytes of a raw text of up to 1,048,576, in chunks of any length, also none. Blanks and comments are

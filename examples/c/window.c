@@ -54,23 +54,6 @@ static int read_text(const char *path, struct text *text)
 
 /* ---- a refusal, with the part of its line that stands beside its place */
 
-static size_t line_start(const struct text *text, size_t place)
-{
-    while (place > 0 && text->bytes[place - 1] != '\n') {
-        place--;
-    }
-    return place;
-}
-
-static size_t line_number(const struct text *text, size_t place)
-{
-    size_t number = 1;
-    for (size_t i = 0; i < place; i++) {
-        number += text->bytes[i] == '\n';
-    }
-    return number;
-}
-
 /* How many bytes are underlined: the token at the place, as far as it is shown, or 1 where there is none. */
 static size_t marked(const struct text *text, size_t place)
 {
@@ -92,9 +75,10 @@ static void print_refusal(const struct text *text, uint64_t answer)
 {
     unsigned refusal = lutemeteor_refusal(answer);
     size_t place = lutemeteor_place(answer);
-    size_t start = line_start(text, place);
-    printf("REFUSED %u AT %zu: %s\n", refusal, place, MEANINGS[refusal]);
-    printf("line %zu, byte %zu\n", line_number(text, place), place - start + 1);
+    uint64_t at[2];
+    lutemeteor_line(text->bytes, text->length, place, at, 2);
+    size_t start = place - (size_t)(at[1] - 1);
+    printf("REFUSED %u AT %zu LINE %" PRIu64 " COLUMN %" PRIu64 ": %s\n", refusal, place, at[0], at[1], MEANINGS[refusal]);
 
     size_t from = place - start > BESIDE ? place - BESIDE : start;
     for (size_t i = from; i < text->length && i < place + BESIDE && text->bytes[i] != '\n'; i++) {

@@ -1,40 +1,18 @@
--- Pieces put one behind the other are a line, and how long that is at most.
-use Prim.Native.Nat.{ℕ, _+_, _≤_}
-use native.Mathlib.Omega.{arith}
+-- Pieces put one behind the other are a line.
+use Prim.Native.Nat.{ℕ}
 use mathlib.Core.Path.{_≡_, refl}
 use mathlib.Core.List.{List, [], _∷_, _++_, append-assoc}
 use lib.ListN.{length}
 use Rattle.tokens.specs.Written.{bytes, lines}
-use Rattle.pages.specs.Pages.{decimal, digitsMost, Puts}
-use Rattle.pages.proofs.Laws.{puts-same, puts-both, decimal-short}
-use Rattle.sections.specs.Listing.{refusal, Adds}
+use Rattle.pages.specs.Pages.{decimal}
+use Rattle.sections.specs.Listing.{refusal}
 use Rattle.lines.specs.Lines.{counted, nameLine, eventLine, tokenLine, goodLine, hurtLine, unreadLine, sumLine, progress, helpLines, faultLine}
-
--- ---- pieces
-
-module _ {before : List ℕ} {at : ℕ} {xs : List ℕ} {r : ℕ} {after : List ℕ} where
-  pub word-adds : Puts before at xs r after → Adds before at xs (length xs) r after
-  word-adds p = record { puts = p; within = omega (arith, p .behind) }
-
-  pub adds-both : {ys last : List ℕ} {m n s : ℕ} → Adds before at xs m r after → Adds after r ys n s last → Adds before at (xs ++ ys) (m + n) s last
-  adds-both p q = record { puts = puts-both (p .puts) (q .puts); within = omega (arith, p .within, q .within) }
-
-  -- the whole, as it is called
-  pub adds-whole : {ys : List ℕ} {m n : ℕ} → Adds before at xs m r after → xs ≡ ys → m ≤ n → Adds before at ys n r after
-  adds-whole p e h = record { puts = puts-same (p .puts) e; within = omega (arith, p .within) }
-
-pub number-adds : {before after : List ℕ} {at r : ℕ} (n : ℕ) → Puts before at (decimal n) r after → Adds before at (decimal n) digitsMost r after
-number-adds n p = record { puts = p; within = omega (arith, p .behind, decimal-short n) }
 
 -- ---- the pieces of each line
 
 pub counted-is : (word : List ℕ) (n : ℕ) → (word ++ decimal n) ++ (10 ∷ []) ≡ counted word n
 unfolding counted
 counted-is word n = simp append-assoc
-
-pub refusal-is : (n p : ℕ) → (bytes "REFUSED " ++ decimal n) ++ counted (bytes " AT ") p ≡ refusal n p
-unfolding bytes counted refusal
-refusal-is n p = simp append-assoc
 
 pub name-is : (name : List ℕ) (p : ℕ) → name ++ ((bytes " AT " ++ decimal p) ++ counted (bytes " LENGTH ") (length name)) ≡ nameLine name p
 unfolding bytes counted nameLine
@@ -53,9 +31,9 @@ pub good-is : (file : List ℕ) (s t p c z : ℕ)
 unfolding bytes counted goodLine
 good-is file s t p c z = simp append-assoc
 
-pub hurt-is : (file : List ℕ) (n p : ℕ) → file ++ ((32 ∷ []) ++ refusal n p) ≡ hurtLine file n p
+pub hurt-is : (file text : List ℕ) (n p : ℕ) → file ++ ((32 ∷ []) ++ refusal text n p) ≡ hurtLine file text n p
 unfolding hurtLine
-hurt-is file n p = refl
+hurt-is file text n p = refl
 
 pub unread-is : (file : List ℕ) → file ++ bytes " CANNOT BE READ\n" ≡ unreadLine file
 unfolding bytes unreadLine

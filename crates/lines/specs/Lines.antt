@@ -33,9 +33,9 @@ tokenLine p token = ended (decimal p ++ bytes " " ++ decimal (length token) ++ b
 unfoldable pub goodLine : List ℕ → (signals tables patterns cycles size : ℕ) → List ℕ
 goodLine file s t p c z = ended (file ++ bytes " OK " ++ decimal s ++ bytes " " ++ decimal t ++ bytes " " ++ decimal p ++ bytes " " ++ decimal c ++ bytes " " ++ decimal z)
 
--- FILE REFUSED n AT p
-unfoldable pub hurtLine : List ℕ → ℕ → ℕ → List ℕ
-hurtLine file n p = file ++ 32 ∷ refusal n p
+-- FILE REFUSED n AT p LINE l COLUMN c
+unfoldable pub hurtLine : (file text : List ℕ) → ℕ → ℕ → List ℕ
+hurtLine file text n p = file ++ 32 ∷ refusal text n p
 
 unfoldable pub unreadLine : List ℕ → List ℕ
 unreadLine file = ended (file ++ bytes " CANNOT BE READ")
@@ -74,10 +74,6 @@ faultLine what word = ended (what ++ bytes ": " ++ word)
 -- for digits and LF
 abbrev pub countMost : ℕ
 countMost = 21
-
--- for a refusal, which stands behind a file too
-abbrev pub refusalMost : ℕ
-refusalMost = 64
 
 -- for a line, besides the words that are handed in
 abbrev pub lineMost : ℕ

@@ -1,30 +1,20 @@
 // The lines of docs/COMMANDS.md, put into a page, and words as numbers.
 ghost use mathlib.Core.Path.{_≡_};
-ghost use mathlib.Core.List.{_++_};
 ghost use mathlib.Core.Bool.{_&&_};
 ghost use mathlib.Core.Option.{none};
 ghost use Prim.Native.Nat.{_+_, _*_, _≤_};
 ghost use lib.Dec.{leb, ltb};
 ghost use lib.ListN.{length};
 ghost use Rattle.tokens.specs.Written.{bytes};
-ghost use Rattle.pages.specs.Pages.{decimal, digitsMost};
-ghost use Rattle.lines.specs.Lines.{counted as countedOf, noPattern, nameLine, eventLine, tokenLine, goodLine, hurtLine, unreadLine, sumLine, progress as progressOf, helpLines, faultLine, countMost, refusalMost, lineMost};
-ghost use Rattle.sections.specs.Listing.{refusal, Adds};
+ghost use Rattle.lines.specs.Lines.{counted as countedOf, noPattern, nameLine, eventLine, tokenLine, goodLine, hurtLine, unreadLine, sumLine, progress as progressOf, helpLines, faultLine, countMost, lineMost};
+ghost use Rattle.sections.specs.Listing.{Adds};
 ghost use Rattle.lines.specs.Numbers.{numberMost, numberOf, told};
+use sections::with_number;
 
 // Room for a line, besides the words that are handed in.
 pub const LINE: usize = 128;
 
 // ---- pieces
-
-// A word and a number behind it.
-fn with_number(page: &mut [u8], at: usize, word: &[u8], n: u64) -> usize
-    requires { ⌜ at + (length (now word) + digitsMost) ≤ length (now page) ⌝ }
-    ensures { λ r. ⌜ Adds (now (page .entry)) at (now (word .entry) ++ decimal n) (length (now (word .entry)) + digitsMost) r (now (page .exit)) ⌝ }
-{
-    let end = pages::put(page, at, word);
-    pages::put_number(page, end, n)
-}
 
 // A line that is a word and a number.
 fn counted(page: &mut [u8], at: usize, word: &[u8], n: u64) -> usize
@@ -75,15 +65,6 @@ pub fn no_pattern(page: &mut [u8], at: usize) -> usize
     ensures { λ r. ⌜ Adds (now (page .entry)) at noPattern lineMost r (now (page .exit)) ⌝ }
 {
     pages::put(page, at, b"NO PATTERN\n")
-}
-
-// REFUSED n AT p
-pub fn refused(page: &mut [u8], at: usize, no: u8, place: usize) -> usize
-    requires { ⌜ at + refusalMost ≤ length (now page) ⌝ }
-    ensures { λ r. ⌜ Adds (now (page .entry)) at (refusal no place) refusalMost r (now (page .exit)) ⌝ }
-{
-    let end = with_number(page, at, b"REFUSED ", no as u64);
-    counted(page, end, b" AT ", place as u64)
 }
 
 // A AT 20 LENGTH 1
@@ -141,14 +122,14 @@ pub fn good(
     counted(page, end, b" ", size as u64)
 }
 
-// FILE REFUSED n AT p
-pub fn hurt(page: &mut [u8], at: usize, file: &[u8], no: u8, place: usize) -> usize
+// FILE REFUSED n AT p LINE l COLUMN c
+pub fn hurt(page: &mut [u8], at: usize, file: &[u8], text: &[u8], no: u8, place: usize) -> usize
     requires { ⌜ at + (length (now file) + lineMost) ≤ length (now page) ⌝ }
-    ensures { λ r. ⌜ Adds (now (page .entry)) at (hurtLine (now (file .entry)) no place) (length (now (file .entry)) + lineMost) r (now (page .exit)) ⌝ }
+    ensures { λ r. ⌜ Adds (now (page .entry)) at (hurtLine (now (file .entry)) (now (text .entry)) no place) (length (now (file .entry)) + lineMost) r (now (page .exit)) ⌝ }
 {
     let mut end = pages::put(page, at, file);
     end = pages::put(page, end, b" ");
-    refused(page, end, no, place)
+    sections::refusal(page, end, text, no, place)
 }
 
 // FILE CANNOT BE READ

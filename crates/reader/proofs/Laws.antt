@@ -6,14 +6,18 @@ use mathlib.Core.Bool.{Bool, true, false}
 use mathlib.Core.List.{List, _∷_, _++_}
 use lib.ListN.{length, replicate}
 use lib.Dec.{eqb}
+use denote.Ref.{RefT, now}
 use borrow.Author.Tests.{le-leb, lt-leb}
 use Rattle.tokens.specs.Refusals.{textMost, tooLong, notHere}
 use Rattle.tokens.specs.Tokens.{Toks, stop, tok, toks, left, Next, found, nothing, refused, first, nextToken}
-use Rattle.tokens.specs.Answers.{nextOf}
-use Rattle.tokens.specs.declared.Step.{Step}
-use Rattle.tokens.specs.declared.Step.the-variants.{Token, Nothing, Refused}
+use Rattle.columns.specs.Columns.{onward, position}
+use Rattle.columns.specs.declared.Position.{Position}
 use Rattle.tokens.proofs.Laws.{unfolds}
-use Rattle.reader.specs.Pass.{behind, behindNext, passes, answers, ending}
+use Rattle.reader.specs.Pass.{Stands, seenIn, standing, behind, behindNext, aheadAt, aheadOf, passes, answers, ending}
+use Rattle.reader.specs.declared.Reader.{Reader}
+use Rattle.reader.specs.declared.Seen.{Seen}
+use Rattle.reader.specs.declared.Seen.the-variants.{Token}
+use Rattle.reader.specs.declared.Ahead.{Ahead}
 
 -- an answer that is known tells the place behind it
 pub behind-known : (text : List ℕ) (at : ℕ) (x : Next) → nextToken text at ≡ x → behind x at ≡ behindNext text at
@@ -65,14 +69,29 @@ module _ (text : List ℕ) where
   unfolding nextToken behind
   too-long-passed long n at = same-again n at (refused tooLong 0) (rw (lt-leb (length text) textMost long, nextToken)) refl
 
--- any two steps that a contract allows are equal
-pub step-determined : (s t : Step) → nextOf s ≡ nextOf t → s ≡ t
-step-determined (Token p l) (Token q m) e = cc
-step-determined (Token p l) Nothing e = cc
-step-determined (Token p l) (Refused n q) e = cc
-step-determined Nothing (Token p l) e = cc
-step-determined Nothing Nothing e = refl
-step-determined Nothing (Refused n q) e = cc
-step-determined (Refused n p) (Token q m) e = cc
-step-determined (Refused n p) Nothing e = cc
-step-determined (Refused n p) (Refused m q) e = cc
+-- ---- lines and columns
+
+-- a text's start
+pub starts : (text : RefT (List ℕ)) → record { text = text; at = 0; line = 1; column = 1 } ≡ standing text 0
+unfolding position onward
+starts text = refl
+
+-- wherever a reader was put by `new`, `moved` or `pass`, it may go on
+pub stands : (text : RefT (List ℕ)) (at : ℕ) → Stands (now text) at (standing text at .line) (standing text at .column)
+stands text at = refl
+
+module _ (text : List ℕ) (at line column : ℕ) (h : Stands text at line column) where
+  -- what is ahead where the place stays
+  pub stays-ahead : (x : Next) (s : Seen) → nextToken text at ≡ x → behind x at ≡ at → s ≡ seenIn text x
+      → record { seen = s; behind = at; line = line; column = column } ≡ aheadOf text at
+  stays-ahead x s e k f =
+      let here : at ≡ behindNext text at = sym k ∙ behind-known text at x e in
+      let told : s ≡ seenIn text (nextToken text at) = f ∙ ap (seenIn text) (sym e) in
+      let place : _≡_ {A = Position} (record { line = line; column = column }) (position text (behindNext text at)) = h ∙ ap (position text) here in
+      λ i. record { seen = told i; behind = here i; line = place i .line; column = place i .column }
+
+-- and behind a token
+pub token-ahead : (text : List ℕ) (at p l : ℕ) (here there : Position) → here ≡ position text p → there ≡ position text (p + l)
+    → record { seen = Token p l (here .line) (here .column); behind = p + l; line = there .line; column = there .column } ≡ aheadAt text (found p l) at
+unfolding seenIn behind
+token-ahead text at p l here there e f i = record { seen = Token p l (e i .line) (e i .column); behind = p + l; line = f i .line; column = f i .column }

@@ -1,61 +1,121 @@
-// A reader that holds a text and a place: the token rules alone, for other tools. Each function over it only takes it apart; the work is done on the text and a number.
+// A reader that holds a text and a place: the token rules alone, for other tools. Each function over it only takes it apart; the work is done on the text and numbers.
 ghost use mathlib.Core.Path.{_≡_};
-ghost use Rattle.tokens.specs.Tokens.{nextToken};
-ghost use Rattle.tokens.specs.Answers.{nextOf};
-ghost use Rattle.reader.specs.Pass.{behindNext, passed};
+ghost use Prim.Native.Nat.{_+_, _≤_};
+ghost use lib.ListN.{length};
+ghost use Rattle.reader.specs.Pass.{Stands, seen as seenOf, seenIn, aheadOf, aheadAt, standing, passed};
+ghost use Rattle.tokens.specs.Tokens.{found};
 
+// Line and column are those of the place, moved on with it: each byte is counted once.
 pub struct Reader<'a> {
     pub text: &'a [u8],
     pub at: usize,
+    pub line: usize,
+    pub column: usize,
 }
 
-// What is next, and the place behind it.
+pub enum Seen {
+    // its place in the whole text, its length, its line and its column
+    Token(usize, usize, usize, usize),
+    Nothing,
+    // the number of the refusal, and the place
+    Refused(u8, usize),
+}
+
+// What is next, and the place behind it with its line and column.
 struct Ahead {
-    step: tokens::Step,
+    seen: Seen,
     behind: usize,
+    line: usize,
+    column: usize,
+}
+
+// A token that was found, and its end.
+fn token_ahead(
+    text: &[u8],
+    at: usize,
+    line: usize,
+    column: usize,
+    place: usize,
+    long: usize,
+) -> Ahead
+    requires { ⌜ Stands (now text) at line column × (at ≤ place) × (place + long ≤ length (now text)) ⌝ }
+    ensures { λ a. ⌜ a ≡ aheadAt (now (text .entry)) (found place long) at ⌝ }
+{
+    let here = columns::later(text, columns::Position { line, column }, at, place);
+    let behind = place + long;
+    let there = columns::later(text, here, place, behind);
+    Ahead {
+        seen: Seen::Token(place, long, here.line, here.column),
+        behind,
+        line: there.line,
+        column: there.column,
+    }
 }
 
 // The next token from a place on, and its end; where there is none, or a refusal, the place itself.
-fn ahead_from(text: &[u8], at: usize) -> Ahead
-    ensures { λ a. ⌜ (nextOf (a .step) ≡ nextToken (now (text .entry)) at) × (a .behind ≡ behindNext (now (text .entry)) at) ⌝ }
+fn ahead_from(text: &[u8], at: usize, line: usize, column: usize) -> Ahead
+    requires { ⌜ Stands (now text) at line column ⌝ }
+    ensures { λ a. ⌜ a ≡ aheadOf (now (text .entry)) at ⌝ }
 {
-    let step = tokens::next_token(text, at);
-    match step {
-        tokens::Step::Token(p, l) => Ahead {
-            step,
-            behind: p + l,
+    match tokens::next_token(text, at) {
+        tokens::Step::Token(p, l) => token_ahead(text, at, line, column, p, l),
+        tokens::Step::Nothing => Ahead {
+            seen: Seen::Nothing,
+            behind: at,
+            line,
+            column,
         },
-        tokens::Step::Nothing => Ahead { step, behind: at },
-        tokens::Step::Refused(_, _) => Ahead { step, behind: at },
+        tokens::Step::Refused(no, place) => Ahead {
+            seen: Seen::Refused(no, place),
+            behind: at,
+            line,
+            column,
+        },
     }
 }
 
 // A reader of a text, at its start.
 pub fn new<'a>(text: &'a [u8]) -> Reader<'a>
-    ensures { λ r. ⌜ (r .text ≡ text .entry) × (r .at ≡ 0) ⌝ }
+    ensures { λ r. ⌜ r ≡ standing (text .entry) 0 ⌝ }
 {
-    Reader { text, at: 0 }
+    Reader {
+        text,
+        at: 0,
+        line: 1,
+        column: 1,
+    }
 }
 
 // The same text from another place on, also from past its end.
 pub fn moved<'a>(r: Reader<'a>, at: usize) -> Reader<'a>
-    ensures { λ q. ⌜ (q .text ≡ r .entry .text) × (q .at ≡ at) ⌝ }
+    ensures { λ q. ⌜ q ≡ standing (r .entry .text) at ⌝ }
 {
-    Reader { text: r.text, at }
+    let p = columns::position_of(r.text, at);
+    Reader {
+        text: r.text,
+        at,
+        line: p.line,
+        column: p.column,
+    }
 }
 
 // The next token, as if reading began at the reader's place.
-pub fn next<'a>(r: Reader<'a>) -> tokens::Step
-    ensures { λ s. ⌜ nextOf s ≡ nextToken (now (r .entry .text)) (r .entry .at) ⌝ }
+pub fn next<'a>(r: Reader<'a>) -> Seen
+    requires { ⌜ Stands (now (r .text)) (r .at) (r .line) (r .column) ⌝ }
+    ensures { λ s. ⌜ s ≡ seenOf (now (r .entry .text)) (r .entry .at) ⌝ }
 {
-    tokens::next_token(r.text, r.at)
+    let ahead = ahead_from(r.text, r.at, r.line, r.column);
+    ahead.seen
 }
 
 // The next token, which the reader passes: a loop over this goes through all tokens. Where there is none, or a refusal, the reader stays.
-pub fn pass<'s, 'a>(r: &'s mut Reader<'a>) -> tokens::Step
-    ensures { λ s. ⌜ (nextOf s ≡ nextToken (now (now (r .entry) .text)) (now (r .entry) .at)) × (now (r .exit) ≡ passed (now (r .entry))) ⌝ }
+pub fn pass<'s, 'a>(r: &'s mut Reader<'a>) -> Seen
+    requires { ⌜ Stands (now (now r .text)) (now r .at) (now r .line) (now r .column) ⌝ }
+    ensures { λ s. ⌜ (s ≡ seenOf (now (now (r .entry) .text)) (now (r .entry) .at)) × (now (r .exit) ≡ passed (now (r .entry))) ⌝ }
 {
-    let ahead = ahead_from(r.text, r.at);
+    let ahead = ahead_from(r.text, r.at, r.line, r.column);
     r.at = ahead.behind;
-    ahead.step
+    r.line = ahead.line;
+    r.column = ahead.column;
+    ahead.seen
 }

@@ -12,9 +12,10 @@ use Rattle.meaning.specs.Bounds.{nameMost}
 use Rattle.meaning.specs.Meaning.{firsts}
 use Rattle.words.specs.Table.{nameOf, namesFrom, names}
 use Rattle.words.proofs.Names.{names-more, firsts-append}
+use Rattle.columns.specs.Columns.{position}
 use Rattle.pages.specs.Pages.{decimal, Puts}
 use Rattle.pages.proofs.Laws.{puts-same, puts-both, decimal-short}
-use Rattle.sections.specs.Listing.{listedMost, listedOf, unlistedMost, countMost, countedOf, counted, notListed, sectionsOf, lines, lineMost, refusal, Short, Fronts, Adds}
+use Rattle.sections.specs.Listing.{listedMost, listedOf, unlistedMost, countMost, countedOf, counted, notListed, sectionsOf, lines, lineMost, positionLine, refusal, Short, Fronts, Adds}
 
 -- bytes put at a page's very front
 pub at-front : {before after xs : List ℕ} {r : ℕ} → Puts before 0 xs r after → Fronts xs before r after
@@ -102,11 +103,14 @@ module _ {n : ℕ} (h : n ≤ listedMost) where
 
 -- ---- a refusal
 
-module _ {before p q s t after : List ℕ} {a b d e r : ℕ} (no place : ℕ) where
-  pub refusal-put : Puts before 0 (bytes "REFUSED ") a p → Puts p a (decimal no) b q → Puts q b (bytes " AT ") d s → Puts s d (decimal place) e t
-      → Puts t e (10 ∷ []) r after → Fronts (refusal no place) before r after
-  unfolding refusal
-  refusal-put f g h i j = at-front (puts-both (puts-both (puts-both (puts-both f g) h) i) j)
+pub position-is : (text : List ℕ) (p l c : ℕ) → l ≡ position text p .line → c ≡ position text p .column
+    → (bytes " LINE " ++ decimal l) ++ ((bytes " COLUMN " ++ decimal c) ++ (10 ∷ [])) ≡ positionLine text p
+unfolding bytes positionLine
+position-is text p l c e f = rw (e, f) (simp append-assoc)
+
+pub refusal-is : (text : List ℕ) (n p : ℕ) → (bytes "REFUSED " ++ decimal n) ++ ((bytes " AT " ++ decimal p) ++ positionLine text p) ≡ refusal text n p
+unfolding bytes refusal
+refusal-is text n p = simp append-assoc
 
 -- ---- all sections
 

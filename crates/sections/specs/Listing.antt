@@ -13,6 +13,7 @@ use Rattle.meaning.specs.Run.{cycles, cyclesOf}
 use Rattle.meaning.specs.Meaning.{given, refused, firsts, Meaning, meaning}
 use Rattle.meaning.specs.Services.{dot, rows, rowWidth}
 use Rattle.walks.specs.Seen.{seen}
+use Rattle.columns.specs.Columns.{position}
 use Rattle.pages.specs.Pages.{decimal, Puts}
 use Rattle.sections.specs.declared.Page.{Page}
 
@@ -54,15 +55,20 @@ front m = sectionsOf (m .signals) (firsts (m .tables)) (length (m .signals)) (le
 abbrev pub rowsListed : Meaning → ℕ
 rowsListed m = listedOf (cycles 0 (m .run))
 
-unfoldable pub refusal : ℕ → ℕ → List ℕ
-refusal n p = ended (bytes "REFUSED " ++ decimal n ++ bytes " AT " ++ decimal p)
+-- LINE l COLUMN c, of a place in the text
+unfoldable pub positionLine : List ℕ → ℕ → List ℕ
+positionLine text p = ended (bytes " LINE " ++ decimal (position text p .line) ++ bytes " COLUMN " ++ decimal (position text p .column))
+
+-- REFUSED n AT p LINE l COLUMN c
+unfoldable pub refusal : List ℕ → ℕ → ℕ → List ℕ
+refusal text n p = (bytes "REFUSED " ++ decimal n ++ bytes " AT " ++ decimal p) ++ positionLine text p
 
 -- THE LISTING: filed ones have the dot
 unfoldable pub listing : List ℕ → List ℕ
 listing text =
     elim (meaning text) [
       | given m ↦ front m ++ rows dot (seen 0 (rowsListed m) (cyclesOf (length (m .signals)) (m .run)))
-      | refused n p ↦ refusal n p
+      | refused n p ↦ refusal text n p
     ]
 
 -- ---- page by page
@@ -74,6 +80,13 @@ frontMost = 4_096
 -- and behind a section's word: a blank, digits and LF
 abbrev pub countMost : ℕ
 countMost = 22
+
+-- what is written of a position, with digits and LF; and of a refusal with its position
+abbrev pub positionMost : ℕ
+positionMost = 55
+
+abbrev pub refusalMost : ℕ
+refusalMost = 107
 
 -- a name and LF
 abbrev pub lineMost : ℕ

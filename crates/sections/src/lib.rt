@@ -1,11 +1,13 @@
 // The sections of a listing, in fixed order, each after its count; and what is written for a refusal.
 ghost use mathlib.Core.Path.{_≡_};
+ghost use mathlib.Core.List.{_++_};
 ghost use Prim.Native.Nat.{_+_, _*_, _≤_};
 ghost use lib.ListN.{length};
 ghost use Rattle.meaning.specs.Bounds.{signalsMost, tablesMost};
 ghost use Rattle.meaning.specs.Meaning.{firsts};
 ghost use Rattle.words.specs.Table.{names};
-ghost use Rattle.sections.specs.Listing.{firstOf, lastOf, refusal, countMost, countedOf, lineMost, lines as linesOf, Short, listedOf, notListed, unlistedMost, sectionsOf, frontMost, Fronts, Adds};
+ghost use Rattle.pages.specs.Pages.{decimal, digitsMost};
+ghost use Rattle.sections.specs.Listing.{firstOf, lastOf, positionLine, positionMost, refusal as refusalOf, refusalMost, countMost, countedOf, lineMost, lines as linesOf, Short, listedOf, notListed, unlistedMost, sectionsOf, frontMost, Fronts, Adds};
 
 // Above so many cycles the rows are not listed.
 const LISTED: usize = 1_000_000;
@@ -33,17 +35,43 @@ pub fn last(length: usize) -> Page
     }
 }
 
-// REFUSED n AT p
-pub fn refused(page: &mut [u8], no: u8, place: usize) -> Page
-    requires { ⌜ frontMost ≤ length (now page) ⌝ }
-    ensures { λ r. ⌜ Fronts (refusal no place) (now (page .entry)) (r .length) (now (page .exit)) × (r ≡ lastOf (r .length)) ⌝ }
+// A word and a number behind it.
+pub fn with_number(page: &mut [u8], at: usize, word: &[u8], n: u64) -> usize
+    requires { ⌜ at + (length (now word) + digitsMost) ≤ length (now page) ⌝ }
+    ensures { λ r. ⌜ Adds (now (page .entry)) at (now (word .entry) ++ decimal n) (length (now (word .entry)) + digitsMost) r (now (page .exit)) ⌝ }
 {
-    let mut at = pages::put(page, 0, b"REFUSED ");
-    at = pages::put_number(page, at, no as u64);
-    at = pages::put(page, at, b" AT ");
-    at = pages::put_number(page, at, place as u64);
-    at = pages::put(page, at, b"\n");
-    last(at)
+    let end = pages::put(page, at, word);
+    pages::put_number(page, end, n)
+}
+
+// LINE l COLUMN c, of a place in the text
+fn position(page: &mut [u8], at: usize, text: &[u8], place: usize) -> usize
+    requires { ⌜ at + positionMost ≤ length (now page) ⌝ }
+    ensures { λ r. ⌜ Adds (now (page .entry)) at (positionLine (now (text .entry)) place) positionMost r (now (page .exit)) ⌝ }
+{
+    let p = columns::position_of(text, place);
+    let mut end = with_number(page, at, b" LINE ", p.line as u64);
+    end = with_number(page, end, b" COLUMN ", p.column as u64);
+    pages::put(page, end, b"\n")
+}
+
+// REFUSED n AT p LINE l COLUMN c
+pub fn refusal(page: &mut [u8], at: usize, text: &[u8], no: u8, place: usize) -> usize
+    requires { ⌜ at + refusalMost ≤ length (now page) ⌝ }
+    ensures { λ r. ⌜ Adds (now (page .entry)) at (refusalOf (now (text .entry)) no place) refusalMost r (now (page .exit)) ⌝ }
+{
+    let mut end = with_number(page, at, b"REFUSED ", no as u64);
+    end = with_number(page, end, b" AT ", place as u64);
+    position(page, end, text, place)
+}
+
+// The page of a refused text.
+pub fn refused(page: &mut [u8], text: &[u8], no: u8, place: usize) -> Page
+    requires { ⌜ frontMost ≤ length (now page) ⌝ }
+    ensures { λ r. ⌜ Fronts (refusalOf (now (text .entry)) no place) (now (page .entry)) (r .length) (now (page .exit)) × (r ≡ lastOf (r .length)) ⌝ }
+{
+    let end = refusal(page, 0, text, no, place);
+    last(end)
 }
 
 // A section's word and its count, behind what is there.

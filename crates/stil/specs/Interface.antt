@@ -6,6 +6,7 @@ use mathlib.Core.List.{List, [], _∷_, _++_}
 use lib.ListN.{length, drop}
 use lib.Dec.{leb}
 use Rattle.tokens.specs.Tokens.{Next, found, nothing, refused as tokenRefused}
+use Rattle.columns.specs.declared.Position.{Position}
 use Rattle.meaning.specs.Refusals.{noRoom}
 use Rattle.meaning.specs.Meaning.{Answer, given, refused, answering}
 use Rattle.meaning.specs.Services.{Counts, Window, Waveform}
@@ -46,6 +47,10 @@ tokenOf (tokenRefused n p) = refused n p
 
 abbrev pub threeOf : ℕ × ℕ × ℕ → List ℕ
 threeOf x = x .0 ∷ x .1 ∷ x .2 ∷ []
+
+-- a position: its line and its column
+abbrev pub positionOf : Position → List ℕ
+positionOf p = p .line ∷ p .column ∷ []
 
 -- Window: how many rows, and the visits; and the rows
 abbrev pub shownTwo : Window → List ℕ

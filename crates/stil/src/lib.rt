@@ -1,5 +1,5 @@
-// The services: Check, Name, Window, Waveform, waveforms by the list and the index, for any text, any numbers and any buffers; and these, the next token and
-// the intake for callers in C.
+// The services: Check, Name, Window, Waveform, waveforms by the list and the index, for any text, any numbers and any buffers; and these, the next token, the
+// line of a place and the intake for callers in C.
 ghost use mathlib.Core.Path.{_≡_};
 ghost use mathlib.Core.List.{_∷_, []};
 ghost use mathlib.Core.Bool.{false, not};
@@ -7,6 +7,7 @@ ghost use Prim.Native.Nat.{_-_, _≤_, min};
 ghost use lib.ListN.{length};
 ghost use lib.Dec.{eqb};
 ghost use Rattle.tokens.specs.Tokens.{nextToken};
+ghost use Rattle.columns.specs.Columns.{position};
 ghost use Rattle.intake.specs.Intake.{chunked, closed as closedOf};
 ghost use Rattle.meaning.specs.Bounds.{signalsMost, tablesMost, entryMost};
 ghost use Rattle.meaning.specs.Meaning.{given, firsts};
@@ -25,7 +26,7 @@ ghost use Rattle.stil.specs.Found.{noWaveform, SomeFound, Plays};
 ghost use Rattle.stil.specs.Views.{spared, Views};
 ghost use Rattle.stil.specs.Waveforms.{Outlines, Shapes};
 ghost use Rattle.stil.specs.Charts.{Plots, Sketches};
-ghost use Rattle.stil.specs.Interface.{Hands, packed, fronted, fiveOf, twoOf, threeOf, tokenOf, Opens, Draws};
+ghost use Rattle.stil.specs.Interface.{Hands, packed, fronted, fiveOf, twoOf, threeOf, tokenOf, positionOf, Opens, Draws};
 ghost use Rattle.stil.specs.Intakes.{stateLeast, byteOf, progressIs, Tells, Carries, rawRefusal};
 ghost use Rattle.stil.specs.Indexes.{Rebuilds, belongingOf, holdingOf, Indexes, Writes, holderTwo};
 use index::Held;
@@ -1130,6 +1131,20 @@ pub extern "C" fn lutemeteor_token(text: &[u8], at: usize, numbers: &mut [u64]) 
         tokens::Step::Nothing => hand_three(0, 0, 0, numbers),
         tokens::Step::Token(p, l) => hand_three(1, p, l, numbers),
     }
+}
+
+// The line and the column of a place, also of one past the text's end. A buffer of less than two numbers is 19, and nothing else is refused.
+#[no_mangle]
+pub extern "C" fn lutemeteor_line(text: &[u8], place: usize, numbers: &mut [u64]) -> u64
+    ensures { λ r. ⌜ Hands 2 positionOf (given (position (now (text .entry)) place)) (now (numbers .entry)) r (now (numbers .exit)) ⌝ }
+{
+    let p = columns::position_of(text, place);
+    if numbers.len() < 2 {
+        return pack(NO_ROOM, 0);
+    }
+    numbers[0] = p.line as u64;
+    numbers[1] = p.column as u64;
+    0
 }
 
 // ---- the intake for callers in C: what it answered last is a state of lent numbers, six times 0 at first

@@ -43,6 +43,13 @@ pub struct Token {
     pub length: usize,
 }
 
+/// Where an editor shows a place: both from 1, the column in bytes.
+#[derive(Clone, Copy, Debug, PartialEq, Eq)]
+pub struct Position {
+    pub line: usize,
+    pub column: usize,
+}
+
 #[derive(Clone, Copy, Debug, PartialEq, Eq)]
 pub enum Kind {
     Signal,
@@ -121,5 +128,12 @@ impl<'t> Text<'t> {
         let mut n = [0; 3];
         answered(unsafe { raw::lutemeteor_token(self.0.as_ptr(), self.0.len(), at, n.as_mut_ptr(), n.len()) })?;
         Ok((n[0] == 1).then(|| Token { place: n[1] as usize, length: n[2] as usize }))
+    }
+
+    /// The line and the column of a place. Two numbers are room enough, and nothing else is refused.
+    pub fn position(self, place: u64) -> Position {
+        let mut n = [0; 2];
+        unsafe { raw::lutemeteor_line(self.0.as_ptr(), self.0.len(), place, n.as_mut_ptr(), n.len()) };
+        Position { line: n[0] as usize, column: n[1] as usize }
     }
 }

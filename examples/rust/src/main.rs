@@ -5,7 +5,7 @@ use std::ffi::{OsStr, OsString};
 use std::fs::File;
 use std::io::{self, Read, Write};
 use std::process::ExitCode;
-use stil::{Kind, Refused, Text, ROW_MOST, TEXT_MOST};
+use stil::{Kind, Position, Refused, Text, ROW_MOST, TEXT_MOST};
 
 const ROWS: usize = 5;
 const BESIDE: usize = 36;
@@ -43,13 +43,12 @@ fn marked(text: Text, place: usize) -> usize {
 
 fn refusal(text: Text, refused: Refused) -> Page {
     let place = refused.place;
-    let (before, behind) = text.0.split_at(place);
-    let line = before.iter().filter(|&&byte| byte == b'\n').count() + 1;
-    let left = before.iter().rev().take_while(|&&byte| byte != b'\n').count();
-    let from = place - left.min(BESIDE);
-    let right = behind.iter().take(BESIDE).take_while(|&&byte| byte != b'\n').count();
+    let Position { line, column } = text.position(place as u64);
+    let from = place - (column - 1).min(BESIDE);
+    let right = text.0[place..].iter().take(BESIDE).take_while(|&&byte| byte != b'\n').count();
 
-    let mut page = format!("{refused}\nline {line}, byte {}\n", left + 1).into_bytes();
+    let mut page =
+        format!("REFUSED {} AT {place} LINE {line} COLUMN {column}: {}\n", refused.refusal as u8, refused.refusal).into_bytes();
     page.extend(text.0[from..place + right].iter().map(shown));
     page.push(b'\n');
     page.resize(page.len() + place - from, b' ');

@@ -35,6 +35,9 @@ extern "C" {
         count_room: usize,
     ) -> u64;
     pub fn lutemeteor_token(text: *const u8, length: usize, at: u64, numbers: *mut u64, room: usize) -> u64;
+    // The comparison asks for no line.
+    #[allow(dead_code)]
+    pub fn lutemeteor_line(text: *const u8, length: usize, place: u64, numbers: *mut u64, room: usize) -> u64;
     // The example hands over whole texts; the comparison calls these two.
     #[allow(dead_code)]
     pub fn lutemeteor_intake(

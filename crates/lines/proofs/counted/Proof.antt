@@ -1,6 +1,7 @@
 -- `counted` meets its contract: a word, digits and LF are the line.
 use native.Mathlib.Omega.{arith}
-use Rattle.lines.proofs.Laws.{adds-both, adds-whole, word-adds, counted-is}
+use Rattle.sections.proofs.Pieces.{adds-both, adds-whole, word-adds}
+use Rattle.lines.proofs.Laws.{counted-is}
 use borrow.Author.Needs.{needs}
 use Rattle.lines.proofs.counted.Statement.{statement}
 use Rattle.lines.proofs.counted.Tie as tie

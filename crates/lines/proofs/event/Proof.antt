@@ -1,6 +1,7 @@
 -- `event` meets its contract: its two pieces are the line.
 use native.Mathlib.Omega.{arith}
-use Rattle.lines.proofs.Laws.{adds-both, adds-whole, word-adds, event-is}
+use Rattle.sections.proofs.Pieces.{adds-both, adds-whole, word-adds}
+use Rattle.lines.proofs.Laws.{event-is}
 use borrow.Author.Needs.{needs}
 use Rattle.lines.proofs.event.Statement.{statement}
 use Rattle.lines.proofs.event.Tie as tie

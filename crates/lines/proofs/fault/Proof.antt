@@ -1,7 +1,8 @@
 -- `fault` meets its contract: its four pieces are the line.
 use Rattle.tokens.specs.Written.{bytes}
 use native.Mathlib.Omega.{arith}
-use Rattle.lines.proofs.Laws.{adds-both, adds-whole, word-adds, fault-is}
+use Rattle.sections.proofs.Pieces.{adds-both, adds-whole, word-adds}
+use Rattle.lines.proofs.Laws.{fault-is}
 use borrow.Author.Needs.{needs}
 use Rattle.lines.proofs.fault.Statement.{statement}
 use Rattle.lines.proofs.fault.Tie as tie

@@ -1,7 +1,8 @@
 -- `good` meets its contract: its six pieces are the line.
 use Rattle.tokens.specs.Written.{bytes}
 use native.Mathlib.Omega.{arith}
-use Rattle.lines.proofs.Laws.{adds-both, adds-whole, word-adds, good-is}
+use Rattle.sections.proofs.Pieces.{adds-both, adds-whole, word-adds}
+use Rattle.lines.proofs.Laws.{good-is}
 use borrow.Author.Needs.{needs}
 use Rattle.lines.proofs.good.Statement.{statement}
 use Rattle.lines.proofs.good.Tie as tie

@@ -1,7 +1,8 @@
 -- `help` meets its contract: its two pieces are the lines.
 use Rattle.tokens.specs.Written.{bytes}
 use native.Mathlib.Omega.{arith}
-use Rattle.lines.proofs.Laws.{adds-both, adds-whole, word-adds, help-is}
+use Rattle.sections.proofs.Pieces.{adds-both, adds-whole, word-adds}
+use Rattle.lines.proofs.Laws.{help-is}
 use borrow.Author.Needs.{needs}
 use Rattle.lines.proofs.help.Statement.{statement}
 use Rattle.lines.proofs.help.Tie as tie

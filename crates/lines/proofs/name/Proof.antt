@@ -1,7 +1,8 @@
 -- `name` meets its contract: its three pieces are the line.
 use Rattle.tokens.specs.Written.{bytes}
 use native.Mathlib.Omega.{arith}
-use Rattle.lines.proofs.Laws.{adds-both, adds-whole, word-adds, name-is}
+use Rattle.sections.proofs.Pieces.{adds-both, adds-whole, word-adds}
+use Rattle.lines.proofs.Laws.{name-is}
 use borrow.Author.Needs.{needs}
 use Rattle.lines.proofs.name.Statement.{statement}
 use Rattle.lines.proofs.name.Tie as tie

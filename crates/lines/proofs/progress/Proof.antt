@@ -1,7 +1,8 @@
 -- `progress` meets its contract: its three pieces are the line.
 use Rattle.tokens.specs.Written.{bytes}
 use native.Mathlib.Omega.{arith}
-use Rattle.lines.proofs.Laws.{adds-both, adds-whole, word-adds, progress-is}
+use Rattle.sections.proofs.Pieces.{adds-both, adds-whole, word-adds}
+use Rattle.lines.proofs.Laws.{progress-is}
 use borrow.Author.Needs.{needs}
 use Rattle.lines.proofs.progress.Statement.{statement}
 use Rattle.lines.proofs.progress.Tie as tie

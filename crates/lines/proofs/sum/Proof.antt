@@ -1,7 +1,8 @@
 -- `sum` meets its contract: its three pieces are the line.
 use Rattle.tokens.specs.Written.{bytes}
 use native.Mathlib.Omega.{arith}
-use Rattle.lines.proofs.Laws.{adds-both, adds-whole, sum-is}
+use Rattle.sections.proofs.Pieces.{adds-both, adds-whole}
+use Rattle.lines.proofs.Laws.{sum-is}
 use borrow.Author.Needs.{needs}
 use Rattle.lines.proofs.sum.Statement.{statement}
 use Rattle.lines.proofs.sum.Tie as tie

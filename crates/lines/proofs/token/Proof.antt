@@ -1,7 +1,8 @@
 -- `token` meets its contract: its five pieces are the line.
 use Rattle.tokens.specs.Written.{bytes}
 use native.Mathlib.Omega.{arith}
-use Rattle.lines.proofs.Laws.{adds-both, adds-whole, word-adds, token-is}
+use Rattle.sections.proofs.Pieces.{adds-both, adds-whole, word-adds}
+use Rattle.lines.proofs.Laws.{token-is}
 use borrow.Author.Needs.{needs}
 use Rattle.lines.proofs.token.Statement.{statement}
 use Rattle.lines.proofs.token.Tie as tie

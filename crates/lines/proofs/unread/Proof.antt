@@ -1,7 +1,8 @@
 -- `unread` meets its contract: its two pieces are the line.
 use Rattle.tokens.specs.Written.{bytes}
 use native.Mathlib.Omega.{arith}
-use Rattle.lines.proofs.Laws.{adds-both, adds-whole, word-adds, unread-is}
+use Rattle.sections.proofs.Pieces.{adds-both, adds-whole, word-adds}
+use Rattle.lines.proofs.Laws.{unread-is}
 use borrow.Author.Needs.{needs}
 use Rattle.lines.proofs.unread.Statement.{statement}
 use Rattle.lines.proofs.unread.Tie as tie

@@ -31,6 +31,7 @@ use denote.Triple.Table.{entered}
 use denote.Triple.Walked.{says, Stays, stay-none-slice, walkOf, goes-none-slice, ends-at, walked, walk-meets}
 use Rattle.reader.specs.declared.Reader.{Reader}
 use Rattle.reader.proofs.Reader.Laws as T′
+use Rattle.reader.proofs.Laws.{starts}
 use Rattle.reader.proofs.Owned.{textVal, TextOwn, Own, made}
 use Rattle.reader.proofs.new as new
 use Rattle.reader.proofs.new.Key.{name as #new}
@@ -46,7 +47,7 @@ module _ {M : Type 1} (𝓤 : URA M) (H : Heap 𝓤) (A : Atoms 𝓤) (W : Given
   ℓ = namedLft 1 0 tt (κ, tt)
 
   abbrev start : Reader
-  start = record { text = s; at = 0 }
+  start = record { text = s; at = 0; line = 1; column = 1 }
 
   abbrev Entry : SProp 𝓤
   Entry = onEntry 𝓤 H A new.signature (κ, tt) (q, tt) (s, tt) (textVal s ∷ [], tt)
@@ -61,10 +62,10 @@ module _ {M : Type 1} (𝓤 : URA M) (H : Heap 𝓤) (A : Atoms 𝓤) (W : Given
   exits =
       qed W ((‵ (flft κ q) ⊛ ‵ ftrue) ∷ ‵ (owns (ShrSlice (named 0) κ u8 ∷ []) (s, tt) (textVal s ∷ [], tt)) ∷ []) ∵
       suffices ! _ (ends-at 𝓤 H A new.ended stayed (new.clauses 𝓤 H A mem run) W given-at (T′.lowered start) start (tt, tt) (tt, tt)) $
-      says ! (refl, refl) $ frame ! $ fsplit ! $
+      says ! (starts s) $ frame ! $ fsplit ! $
       use1 W (‵ (TextOwn ℓ s) ⊛ ‵ (TextOwn ℓ s)) (shr-slice-copy 𝓤 H A W (named 0) κ u8 .twice s (textVal s ∷ [])) $ split ! $
       -- [what the slice owns; the same again; nothing more]
-      use1 W (‵ (Own ℓ start)) (made 𝓤 H A W ℓ start (lit< tt)) $ move ! (1 ∷ 2 ∷ []) $ fjoin ! $ frame ! $ done !
+      use1 W (‵ (Own ℓ start)) (made 𝓤 H A W ℓ start (lit< tt, lit< tt, lit< tt)) $ move ! (1 ∷ 2 ∷ []) $ fjoin ! $ frame ! $ done !
 
   module _ (C : Calls 𝓤 H) (Λ : Loops 𝓤 H) where
     walk : Is (ShrSlice (named 0) κ u8) s (textVal s ∷ []) → ent 𝓤 Entry (WpFn 𝓤 H C Λ code.function (textVal s ∷ []) Post)
@@ -72,7 +73,7 @@ module _ {M : Type 1} (𝓤 : URA M) (H : Heap 𝓤) (A : Atoms 𝓤) (W : Given
         let typed = shr-slice-lawful 𝓤 H A W (named 0) κ u8 .typed s (textVal s ∷ []) is .0 in
         qed W (raw Entry ∷ []) ∵ enter ! C Λ code.function (textVal s ∷ []) _ $
         alloc1 ! (λ l₀. alloc1 ! (λ l₁. alloc0 ! $ params1 ! $ pass1 ! (init ! 0 refl typed) $ pass0 ! $
-        assigns ! (agg ! (and-then ! (load ! (from ! (stop !)) (look ! 0 refl)) (and-then ! (lit ! tt) (no-more !)))) (from ! (stop !)) (init ! 2 refl (tt, (typed .1, (record { fits = lit< tt }, tt)))) $
+        assigns ! (agg ! (and-then ! (load ! (from ! (stop !)) (look ! 0 refl)) (and-then ! (lit ! tt) (and-then ! (lit ! tt) (and-then ! (lit ! tt) (no-more !)))))) (from ! (stop !)) (init ! 2 refl (tt, (typed .1, (record { fits = lit< tt }, (record { fits = lit< tt }, (record { fits = lit< tt }, tt)))))) $
         returns ! (look ! 2 refl) $ forget ! 0 refl $ forget ! 2 refl $ move ! (2 ∷ 3 ∷ []) $ free1 ! $ free1 ! $ free0 ! $ by ! exits))
 
 meets : {M : Type 1} (𝓤 : URA M) (H : Heap 𝓤) (A : Atoms 𝓤) → Given 𝓤 H A → (mem : Memory → SProp 𝓤) (run : Routine → Fun 𝓤) (𝓣 : Tables 𝓤 H)

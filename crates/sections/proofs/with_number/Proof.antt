@@ -1,8 +1,8 @@
 -- `with_number` meets its contract: a word, and digits behind it.
-use Rattle.lines.proofs.Laws.{adds-both, word-adds, number-adds}
+use Rattle.sections.proofs.Pieces.{adds-both, word-adds, number-adds}
 use borrow.Author.Needs.{needs}
-use Rattle.lines.proofs.with_number.Statement.{statement}
-use Rattle.lines.proofs.with_number.Tie as tie
+use Rattle.sections.proofs.with_number.Statement.{statement}
+use Rattle.sections.proofs.with_number.Tie as tie
 
 put-requires : tie.Need-put-requires
 put-requires c κs = search needs
