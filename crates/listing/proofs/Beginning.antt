@@ -22,7 +22,7 @@ pub begins-small : {text before : List ℕ} → length before < frontMost → Be
 begins-small {text} {before} h = record { small = λ l. (refl, refl); refuses = λ l. absurd (omega arith); accepts = λ l. absurd (omega arith) }
 
 module _ {text before after : List ℕ} {r : Page} (h : frontMost ≤ length before) where
-  pub begins-refused : {n p : ℕ} → meaning text ≡ refused n p → Fronts (refusal n p) before (r .length) after × (r ≡ lastOf (r .length)) → Begins text before r after
+  pub begins-refused : {n p : ℕ} → meaning text ≡ refused n p → Fronts (refusal text n p) before (r .length) after × (r ≡ lastOf (r .length)) → Begins text before r after
   begins-refused {n} {p} e k =
       record {
         small = λ l. absurd (omega arith);

@@ -168,7 +168,7 @@ module _ (text : List ℕ) {before after : List ℕ} {r : Page} (h : frontMost �
     where
       by : (a : Answer Meaning) → meaning text ≡ a → take (r .length) after ++ written ts ≡ listing text
       by (given m) e = given-whole text m e h b ts f z
-      by (refused n p) e = ap₂ (λ (x y : List ℕ). x ++ y) (front-taken (b .refuses h n p e .0)) (none-written text e ts r f) ∙ append-nil (refusal n p) ∙ rw (e, listing)
+      by (refused n p) e = ap₂ (λ (x y : List ℕ). x ++ y) (front-taken (b .refuses h n p e .0)) (none-written text e ts r f) ∙ append-nil (refusal text n p) ∙ rw (e, listing)
 
   -- and none is left after as many pages as there are rows, each with room for one
   pub ends : (ts : List Turned) → Follow text r ts → Roomy (r .width) ts → r .left ≤ length ts → leftBehind r ts ≡ 0

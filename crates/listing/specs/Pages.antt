@@ -20,7 +20,7 @@ tooSmall = record { room = false; length = 0; first = 0; left = 0; width = 0 }
 -- THE PROMISE of the first page
 pub record Begins (text before : List ℕ) (r : Page) (after : List ℕ) : Type 0 where
   pub small : length before < frontMost → (r ≡ tooSmall) × (after ≡ before)
-  pub refuses : frontMost ≤ length before → (n p : ℕ) → meaning text ≡ refused n p → Fronts (refusal n p) before (r .length) after × (r ≡ lastOf (r .length))
+  pub refuses : frontMost ≤ length before → (n p : ℕ) → meaning text ≡ refused n p → Fronts (refusal text n p) before (r .length) after × (r ≡ lastOf (r .length))
   pub accepts : frontMost ≤ length before → (m : Meaning) → meaning text ≡ given m
       → Fronts (front m) before (r .length) after × (r ≡ firstOf (length (m .signals)) (cycles 0 (m .run)) (r .length))
 

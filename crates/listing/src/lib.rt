@@ -45,7 +45,7 @@ fn shown<'a>(
         v,
     );
     if f.failed {
-        return sections::refused(page, NOT_PLAYABLE, f.place);
+        return sections::refused(page, text, NOT_PLAYABLE, f.place);
     }
     let parts = v.parts;
     let total = v.total;
@@ -95,7 +95,7 @@ pub fn begin(text: &[u8], page: &mut [u8]) -> Page
         &mut used,
     );
     if v.no != 0 {
-        return sections::refused(page, v.no, v.place);
+        return sections::refused(page, text, v.no, v.place);
     }
     shown(
         text,

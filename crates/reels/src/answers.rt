@@ -1,9 +1,9 @@
 // The one line of an answer, to standard output.
 use crate::asked;
 
-pub fn refused(no: u8, place: usize) {
+pub fn refused(text: &[u8], no: u8, place: usize) {
     let mut page = asked::page();
-    let end = lines::refused(&mut page, 0, no, place);
+    let end = sections::refusal(&mut page, 0, text, no, place);
     streams::write(&page, end);
 }
 

@@ -45,7 +45,7 @@ fn judged_line(file: &[u8], text: &[u8], page: &mut [u8]) -> Line
             }
         }
         Checked::Refused(no, place) => {
-            let end = lines::hurt(page, 0, file, no, place);
+            let end = lines::hurt(page, 0, file, text, no, place);
             Line {
                 found: Found::Hurt,
                 end,

@@ -25,7 +25,7 @@ fn answer(text: &[u8], table: bool, number: usize)
 {
     match stil::name(text, table, number) {
         Located::Found(at, long) => line(text, at, long),
-        Located::Refused(no, place) => answers::refused(no, place),
+        Located::Refused(no, place) => answers::refused(text, no, place),
     }
 }
 

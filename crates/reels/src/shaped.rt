@@ -36,7 +36,7 @@ fn answer(text: &[u8], table: usize, signal: usize, char: u8) {
     let mut letters = [0u8; waves::EVENTS];
     match stil::waveform(text, table, signal, char, &mut times, &mut letters) {
         Shaped::Events(k) => events(&times, &letters, k),
-        Shaped::Refused(no, place) => answers::refused(no, place),
+        Shaped::Refused(no, place) => answers::refused(text, no, place),
     }
 }
 

@@ -66,7 +66,7 @@ fn some_rows(text: &[u8], first: usize, n: usize, width: usize, mark: u8, page: 
             }
         }
         Shown::Refused(no, place) => {
-            answers::refused(no, place);
+            answers::refused(text, no, place);
             over()
         }
     }
@@ -103,7 +103,7 @@ fn answer(text: &[u8], first: usize, wanted: usize, mark: u8) {
             rows(text, first, due(cycles, first, wanted), signals + 2, mark);
         }
         Checked::Refused(no, place) => {
-            answers::refused(no, place);
+            answers::refused(text, no, place);
         }
     }
 }

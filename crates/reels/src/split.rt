@@ -34,10 +34,10 @@ fn count(page: &mut [u8], end: usize, k: usize)
     streams::write(page, last);
 }
 
-fn refused(page: &mut [u8], end: usize, no: u8, place: usize)
+fn refused(page: &mut [u8], end: usize, text: &[u8], no: u8, place: usize)
     requires { ⌜ end + 128 ≤ length (now page) ⌝ }
 {
-    let last = lines::refused(page, end, no, place);
+    let last = sections::refusal(page, end, text, no, place);
     streams::write(page, last);
 }
 
@@ -65,7 +65,7 @@ fn answer(text: &[u8])
                 return count(page, end, k);
             }
             Step::Refused(no, place) => {
-                return refused(page, end, no, place);
+                return refused(page, end, text, no, place);
             }
         }
     }

@@ -12,7 +12,7 @@ fn answer(raw: &[u8]) {
         Progress::Closed(n) => {
             streams::write(&store, n);
         }
-        Progress::Refused(no, place) => answers::refused(no, place),
+        Progress::Refused(no, place) => answers::refused(raw, no, place),
         Progress::Open(_) => streams::broken(b"the intake is not closed\n"),
     }
 }
