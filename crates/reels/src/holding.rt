@@ -8,7 +8,7 @@ fn answer(text: &[u8], bytes: &[u8], cycle: usize) {
     match stil::holds(text, bytes, cycle) {
         Holding::Pattern(k) => answers::pattern(k),
         Holding::NoPattern => answers::no_pattern(),
-        Holding::Refused(no, place) => answers::refused(no, place),
+        Holding::Refused(no, place) => answers::refused(text, no, place),
     }
 }
 

@@ -10,7 +10,7 @@ fn answer(text: &[u8]) {
         Indexed::Written(n) => {
             streams::write(&page, n);
         }
-        Indexed::Refused(no, place) => answers::refused(no, place),
+        Indexed::Refused(no, place) => answers::refused(text, no, place),
     }
 }
 
