@@ -1,7 +1,9 @@
 //! Both readers with one text after another, and what was seen of each service.
 
 use crate::check::Check;
+use crate::index::{Belongs, Holds, Index};
 use crate::intake::{Plan, ProvedIntake};
+use crate::line::Line;
 use crate::name::Name;
 use crate::proved::{self, Proved};
 use crate::reader::{Reader, Second};
@@ -27,7 +29,11 @@ pub struct Often {
     /// At most so many tokens are asked for one by one, and so many at places that are drawn.
     pub tokens: usize,
     pub places: usize,
-    /// Up to this many bytes, tokens are asked for at each of them.
+    /// Lines of so many places that are drawn.
+    pub lines: usize,
+    /// Indexes so often, each with a right or a wrong one asked of.
+    pub indexes: usize,
+    /// Up to this many bytes, tokens and lines are asked for at each of them.
     pub bytes: usize,
 }
 
@@ -35,7 +41,9 @@ impl Often {
     /// Without the calls that the linked library has no function for.
     fn linked(self) -> Often {
         let lists = if proved::WAVEFORMS { self.lists } else { 0 };
-        Often { lists, marks: self.marks && proved::MARKS, ..self }
+        let lines = if proved::LINES { self.lines } else { 0 };
+        let indexes = if proved::INDEX { self.indexes } else { 0 };
+        Often { lists, lines, indexes, marks: self.marks && proved::MARKS, ..self }
     }
 }
 
@@ -46,6 +54,10 @@ pub struct Comparison {
     waveforms: Tally,
     window: Tally,
     pub token: Tally,
+    pub line: Tally,
+    index: Tally,
+    belongs: Tally,
+    holds: Tally,
     pub intake: Tally,
 }
 
@@ -58,6 +70,10 @@ impl Comparison {
             waveforms: Tally::new("Waveforms"),
             window: Tally::new("Window"),
             token: Tally::new("Token"),
+            line: Tally::new("Line"),
+            index: Tally::new("Index"),
+            belongs: Tally::new("Belongs"),
+            holds: Tally::new("Holds"),
             intake: Tally::new("Intake"),
         }
     }
@@ -89,7 +105,16 @@ impl Comparison {
             let calls = Window::every(document, often.marks);
             calls.iter().for_each(|call| self.window.compare(named, call, proved, second));
         }
+        for _ in 0..times(often.indexes) {
+            self.index.compare(named, &Index::draw(document, random), proved, second);
+            self.belongs.compare(named, &Belongs::draw(document, random), proved, second);
+            self.holds.compare(named, &Holds::draw(document, random), proved, second);
+        }
+        if let Some(document) = document.filter(|_| often.indexes > 0) {
+            Holds::edges(document).iter().for_each(|call| self.holds.compare(named, call, proved, second));
+        }
         self.places(named, proved, second, often, random);
+        self.lines_of(named, proved, second, often, random);
     }
 
     /// The next token at places all over one text.
@@ -103,6 +128,15 @@ impl Comparison {
         calls.iter().for_each(|call| self.token.compare(named, call, proved, second));
     }
 
+    /// Line and column of places all over one text.
+    fn lines_of(&mut self, named: &str, proved: &dyn Reader, second: &Second, often: Often, random: &mut Random) {
+        let mut calls: Vec<Line> = (0..often.lines).map(|_| Line::draw(second, random)).collect();
+        if often.lines > 0 && second.text.len() <= often.bytes {
+            calls.extend(Line::every(second.text));
+        }
+        calls.iter().for_each(|call| self.line.compare(named, call, proved, second));
+    }
+
     /// All waveforms of one text, and all that it lacks.
     pub fn waveforms(&mut self, named: &str, text: &[u8]) {
         let (proved, second) = (Proved(text), Second::new(text));
@@ -114,10 +148,13 @@ impl Comparison {
         }
     }
 
-    /// The next token at every place of one text.
+    /// The next token, and the line, at every place of one text.
     pub fn tokens(&mut self, named: &str, text: &[u8]) {
         let (proved, second) = (Proved(text), Second::new(text));
         Token::every(text).iter().for_each(|call| self.token.compare(named, call, &proved, &second));
+        if proved::LINES {
+            Line::every(text).iter().for_each(|call| self.line.compare(named, call, &proved, &second));
+        }
     }
 
     /// Windows of which rows and visits are known: first, wanted, rows, visits.
@@ -133,13 +170,38 @@ impl Comparison {
         }
     }
 
+    /// An index that is known, where the linked library has one.
+    pub fn indexed(&mut self, named: &str, text: &[u8], due: &str) {
+        if !proved::INDEX {
+            return;
+        }
+        let call = Index { bytes: due.len(), room: Index::DUE };
+        let (answer, mut lent) = outcome(&call, &Proved(text));
+        let left = lent.slices();
+        if answer != 0 || left.bytes != due.as_bytes() || left.numbers != [due.len() as u64] {
+            self.index.report(&format!("{named}: proved {}, not {due:?}", say(answer)));
+        }
+    }
+
     /// One raw text in chunks.
     pub fn raw(&mut self, named: &str, plan: &Plan) {
         plan.follow(named, &mut ProvedIntake, &mut self.intake);
     }
 
     fn tallies(&self) -> Vec<&Tally> {
-        vec![&self.check, &self.name, &self.waveform, &self.waveforms, &self.window, &self.token, &self.intake]
+        vec![
+            &self.check,
+            &self.name,
+            &self.waveform,
+            &self.waveforms,
+            &self.window,
+            &self.token,
+            &self.line,
+            &self.index,
+            &self.belongs,
+            &self.holds,
+            &self.intake,
+        ]
     }
 
     pub fn differs(&self) -> bool {

@@ -5,8 +5,10 @@
 mod call;
 mod check;
 mod comparison;
+mod index;
 mod intake;
 mod lent;
+mod line;
 mod name;
 mod one;
 mod proved;
@@ -33,7 +35,10 @@ compare one name READER FILE signal|table N
 compare one waveform READER FILE TABLE SIGNAL CHARACTER
 compare one waveforms READER FILE [TABLE SIGNAL CHARACTER]..
 compare one window READER FILE FIRST WANTED
-compare one token READER FILE AT";
+compare one token READER FILE AT
+compare one line READER FILE PLACE
+compare one index READER FILE
+compare one holds READER FILE INDEXFILE N";
 
 fn main() -> ExitCode {
     let words: Vec<String> = std::env::args().skip(1).collect();

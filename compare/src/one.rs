@@ -2,15 +2,18 @@
 
 use crate::call::Call;
 use crate::check::Check;
+use crate::index::{Given, Holds, Index};
 use crate::lent::{Lent, Slices};
+use crate::line::Line;
 use crate::name::Name;
 use crate::number;
 use crate::proved::Proved;
-use crate::reader::{next_token, Reader, Second};
+use crate::reader::{line_of, token_at, Reader, Second};
 use crate::tally::say;
 use crate::token::Token;
 use crate::waveform::Waveform;
 use crate::waveforms::Waveforms;
+use second::bounds::MAX_INDEX;
 use second::timing::Asked;
 use second::waveforms::ASKED;
 use second::DOT;
@@ -41,7 +44,23 @@ impl Reader for Anew<'_> {
     }
 
     fn token(&self, at: u64, numbers: &mut [u64]) -> u64 {
-        next_token(self.0, at, numbers)
+        token_at(self.0, at, numbers)
+    }
+
+    fn line(&self, place: u64, numbers: &mut [u64]) -> u64 {
+        line_of(self.0, place, numbers)
+    }
+
+    fn index(&self, index: &mut [u8], numbers: &mut [u64]) -> u64 {
+        Second::new(self.0).index(index, numbers)
+    }
+
+    fn belongs(&self, index: &[u8]) -> u64 {
+        Second::new(self.0).belongs(index)
+    }
+
+    fn holds(&self, index: &[u8], cycle: u64, numbers: &mut [u64]) -> u64 {
+        Second::new(self.0).holds(index, cycle, numbers)
     }
 }
 
@@ -86,6 +105,9 @@ fn call_of(service: &str, text: &[u8], numbers: &[&str]) -> Result<Box<dyn Call>
         ("waveforms", list) if list.len() % ASKED == 0 => waveforms(list),
         ("window", [first, wanted]) => window(text, number(first)?, number(wanted)?),
         ("token", [at]) => Ok(Box::new(Token::with_room(number(at)?))),
+        ("line", [place]) => Ok(Box::new(Line::with_room(number(place)?))),
+        ("index", []) => Ok(Box::new(Index { bytes: MAX_INDEX, room: Index::DUE })),
+        ("holds", [index, cycle]) => holds(index, number(cycle)?),
         _ => Err(format!("no such service, or not its numbers: {service} {}", numbers.join(" "))),
     }
 }
@@ -102,6 +124,11 @@ fn waveforms(words: &[&str]) -> Result<Box<dyn Call>, String> {
         list.extend([table, signal, character.into()]);
     }
     Ok(Box::new(Waveforms::with_room(list)))
+}
+
+fn holds(file: &str, cycle: u64) -> Result<Box<dyn Call>, String> {
+    let index = std::fs::read(file).map_err(|error| format!("{file}: {error}"))?;
+    Ok(Box::new(Holds { index: Given(index), cycle, room: Holds::DUE }))
 }
 
 fn window(text: &[u8], first: u64, wanted: u64) -> Result<Box<dyn Call>, String> {

@@ -7,6 +7,33 @@ use crate::raw::{lutemeteor_check, lutemeteor_name, lutemeteor_token, lutemeteor
 use crate::reader::Reader;
 use second::timing::Asked;
 
+#[cfg(feature = "index")]
+extern "C" {
+    fn lutemeteor_index(
+        text: *const u8,
+        length: usize,
+        index: *mut u8,
+        index_room: usize,
+        numbers: *mut u64,
+        room: usize,
+    ) -> u64;
+    fn lutemeteor_belongs(text: *const u8, length: usize, index: *const u8, index_length: usize) -> u64;
+    fn lutemeteor_holds(
+        text: *const u8,
+        length: usize,
+        index: *const u8,
+        index_length: usize,
+        cycle: u64,
+        numbers: *mut u64,
+        room: usize,
+    ) -> u64;
+}
+
+#[cfg(feature = "lines")]
+extern "C" {
+    fn lutemeteor_line(text: *const u8, length: usize, place: u64, numbers: *mut u64, room: usize) -> u64;
+}
+
 #[cfg(feature = "marks")]
 extern "C" {
     fn lutemeteor_window(
@@ -46,7 +73,14 @@ pub const WAVEFORMS: bool = cfg!(feature = "waveforms");
 /// Whether its window takes a mark; else each is asked for with the dot, which it shows then.
 pub const MARKS: bool = cfg!(feature = "marks");
 
-pub const FEATURES: [(&str, bool); 2] = [("waveforms", WAVEFORMS), ("marks", MARKS)];
+/// Whether it tells the line and column of a place.
+pub const LINES: bool = cfg!(feature = "lines");
+
+/// Whether it has the index.
+pub const INDEX: bool = cfg!(feature = "index");
+
+pub const FEATURES: [(&str, bool); 4] =
+    [("waveforms", WAVEFORMS), ("marks", MARKS), ("lines", LINES), ("index", INDEX)];
 
 /// The proved reader with one text, which it reads at each call.
 pub struct Proved<'t>(pub &'t [u8]);
@@ -127,4 +161,51 @@ impl Reader for Proved<'_> {
     fn token(&self, at: u64, numbers: &mut [u64]) -> u64 {
         unsafe { lutemeteor_token(self.0.as_ptr(), self.0.len(), at, numbers.as_mut_ptr(), numbers.len()) }
     }
+
+    #[cfg(feature = "lines")]
+    fn line(&self, place: u64, numbers: &mut [u64]) -> u64 {
+        unsafe { lutemeteor_line(self.0.as_ptr(), self.0.len(), place, numbers.as_mut_ptr(), numbers.len()) }
+    }
+
+    #[cfg(not(feature = "lines"))]
+    fn line(&self, _: u64, _: &mut [u64]) -> u64 {
+        panic!("Cargo.toml says that the linked library tells no lines")
+    }
+
+    #[cfg(feature = "index")]
+    fn index(&self, index: &mut [u8], numbers: &mut [u64]) -> u64 {
+        let (text, length) = (self.0.as_ptr(), self.0.len());
+        let (index, index_room) = (index.as_mut_ptr(), index.len());
+        unsafe { lutemeteor_index(text, length, index, index_room, numbers.as_mut_ptr(), numbers.len()) }
+    }
+
+    #[cfg(feature = "index")]
+    fn belongs(&self, index: &[u8]) -> u64 {
+        unsafe { lutemeteor_belongs(self.0.as_ptr(), self.0.len(), index.as_ptr(), index.len()) }
+    }
+
+    #[cfg(feature = "index")]
+    fn holds(&self, index: &[u8], cycle: u64, numbers: &mut [u64]) -> u64 {
+        let (text, length) = (self.0.as_ptr(), self.0.len());
+        let (numbers, room) = (numbers.as_mut_ptr(), numbers.len());
+        unsafe { lutemeteor_holds(text, length, index.as_ptr(), index.len(), cycle, numbers, room) }
+    }
+
+    #[cfg(not(feature = "index"))]
+    fn index(&self, _: &mut [u8], _: &mut [u64]) -> u64 {
+        panic!("{NO_INDEX}")
+    }
+
+    #[cfg(not(feature = "index"))]
+    fn belongs(&self, _: &[u8]) -> u64 {
+        panic!("{NO_INDEX}")
+    }
+
+    #[cfg(not(feature = "index"))]
+    fn holds(&self, _: &[u8], _: u64, _: &mut [u64]) -> u64 {
+        panic!("{NO_INDEX}")
+    }
 }
+
+#[cfg(not(feature = "index"))]
+const NO_INDEX: &str = "Cargo.toml says that the linked library has no index";

@@ -4,8 +4,9 @@ use crate::lent::Slices;
 use second::refusal::{Answer, BUFFER_TOO_SHORT, NO_SUCH_ITEM};
 use second::services::Summary;
 use second::timing::Asked;
+use second::tokens::next_token;
 use second::waveforms::accept_list;
-use second::{accept_mark, token, Declared, Document, Located, Refusal, Waveforms};
+use second::{accept_mark, position, Declared, Document, Position, Refusal, Waveforms};
 
 /// Each service gives 0 for an answer, else 32 times the place plus the number of the refusal; then every lent slice is as it was,
 /// but for what a list of waveforms had served before.
@@ -22,6 +23,13 @@ pub trait Reader {
     fn window(&self, first: u64, wanted: u64, mark: u8, rows: &mut [u8], numbers: &mut [u64]) -> u64;
     /// Three numbers: 1, place and length; or three times 0 where there is no further token.
     fn token(&self, at: u64, numbers: &mut [u64]) -> u64;
+    /// Two numbers: line and column.
+    fn line(&self, place: u64, numbers: &mut [u64]) -> u64;
+    /// One number: the index's length.
+    fn index(&self, index: &mut [u8], numbers: &mut [u64]) -> u64;
+    fn belongs(&self, index: &[u8]) -> u64;
+    /// Two numbers: 1 and the listed pattern's number; or two times 0 where none holds the cycle.
+    fn holds(&self, index: &[u8], cycle: u64, numbers: &mut [u64]) -> u64;
 }
 
 /// The second reader, which reads its text once.
@@ -49,12 +57,20 @@ fn too_short() -> Refusal {
 }
 
 /// The token service, which needs no more of a text than its bytes.
-pub fn next_token(text: &[u8], at: u64, numbers: &mut [u64]) -> u64 {
-    told(token(text, at).and_then(|next| write_next(numbers, next)))
+pub fn token_at(text: &[u8], at: u64, numbers: &mut [u64]) -> u64 {
+    let next = next_token(text, at).map(|next| next.map(|next| (next.place.into(), next.length.into())));
+    told(next.and_then(|next| write_next(numbers, next)))
 }
 
-pub fn write_next(room: &mut [u64], next: Option<Located>) -> Answer<()> {
-    write_front(room, next.map_or([0; 3], |next| [1, next.place, next.length]))
+/// Place and length, if there is a token.
+pub fn write_next(room: &mut [u64], next: Option<(u64, u64)>) -> Answer<()> {
+    write_front(room, next.map_or([0; 3], |(place, length)| [1, place, length]))
+}
+
+/// The line service, which needs no more either, and refuses no text.
+pub fn line_of(text: &[u8], place: u64, numbers: &mut [u64]) -> u64 {
+    let Position { line, column } = position(text, place);
+    told(write_front(numbers, [line, column]))
 }
 
 /// Writes the numbers to the front; the rest stays.
@@ -112,6 +128,29 @@ impl Reader for Second<'_> {
     }
 
     fn token(&self, at: u64, numbers: &mut [u64]) -> u64 {
-        next_token(self.text, at, numbers)
+        token_at(self.text, at, numbers)
+    }
+
+    fn line(&self, place: u64, numbers: &mut [u64]) -> u64 {
+        line_of(self.text, place, numbers)
+    }
+
+    fn index(&self, index: &mut [u8], numbers: &mut [u64]) -> u64 {
+        told(self.document().and_then(|document| {
+            let length = numbers.first_mut().ok_or_else(too_short)?;
+            *length = document.index(index)?;
+            Ok(())
+        }))
+    }
+
+    fn belongs(&self, index: &[u8]) -> u64 {
+        told(self.document().and_then(|document| document.belongs(index)))
+    }
+
+    fn holds(&self, index: &[u8], cycle: u64, numbers: &mut [u64]) -> u64 {
+        told(self.document().and_then(|document| {
+            let pattern = document.holds(index, cycle)?;
+            write_front(numbers, pattern.map_or([0; 2], |number| [1, number]))
+        }))
     }
 }

@@ -1,6 +1,8 @@
 //! That a difference is found: readers that answer as the second one does, but for one slip.
 
+mod index;
 mod intake;
+mod lines;
 mod lists;
 mod marks;
 
@@ -115,6 +117,45 @@ slips! {
     TokenRest,
     TokenWritesThoughRefused,
     TokenWritesThoughShort,
+    LineFromNone,
+    LineColumnFromNone,
+    LineReturn,
+    LineEnd,
+    LineEndOfText,
+    LinePastEnd,
+    LineOutsideComments,
+    LineCut,
+    LineColumnCut,
+    LineSwapped,
+    LineRest,
+    LineRoom,
+    LineWritesThoughShort,
+    LineBytes,
+    IndexLength,
+    IndexNoTables,
+    IndexListedOnce,
+    IndexWithoutEmpty,
+    IndexPlaceOfName,
+    IndexLastLine,
+    IndexRest,
+    IndexRoomOneMore,
+    IndexWritesThoughShort,
+    IndexNumberThoughShort,
+    BelongsAny,
+    BelongsLonger,
+    BelongsShorter,
+    BelongsLength,
+    BelongsBeforeText,
+    HoldsOfAny,
+    HoldsFirstListed,
+    HoldsLastCycle,
+    HoldsPastEnd,
+    HoldsCut,
+    HoldsFromOne,
+    HoldsNumberAlone,
+    HoldsRoomFirst,
+    HoldsNoneWithoutRoom,
+    HoldsRest,
 }
 
 struct Slipping<'t> {
@@ -232,7 +273,23 @@ impl Reader for Slipping<'_> {
             (Slip::TokenWritesThoughShort, Ok(Some(_))) if (1..3).contains(&room) => numbers[0] = 1,
             _ => {}
         }
-        told(next.and_then(|next| write_next(numbers, next)))
+        told(next.and_then(|next| write_next(numbers, next.map(|next| (next.place, next.length)))))
+    }
+
+    fn line(&self, place: u64, numbers: &mut [u64]) -> u64 {
+        self.slipped_line(place, numbers)
+    }
+
+    fn index(&self, index: &mut [u8], numbers: &mut [u64]) -> u64 {
+        self.slipped_index(index, numbers)
+    }
+
+    fn belongs(&self, index: &[u8]) -> u64 {
+        self.slipped_belongs(index)
+    }
+
+    fn holds(&self, index: &[u8], cycle: u64, numbers: &mut [u64]) -> u64 {
+        self.slipped_holds(index, cycle, numbers)
     }
 }
 
@@ -285,8 +342,19 @@ fn opens_comment(text: &[u8], at: u64) -> bool {
     rest.starts_with(b"/*") && !rest[2..].windows(2).any(|two| two == b"*/")
 }
 
-const OFTEN: Often =
-    Often { names: 5, waveforms: 5, lists: 5, windows: 5, marks: true, every: 20, tokens: 100, places: 20, bytes: 100 };
+const OFTEN: Often = Often {
+    names: 5,
+    waveforms: 5,
+    lists: 5,
+    windows: 5,
+    marks: true,
+    every: 20,
+    tokens: 100,
+    places: 20,
+    lines: 20,
+    indexes: 5,
+    bytes: 100,
+};
 
 fn found(slip: Slip) -> bool {
     let mut comparison = Comparison::new();

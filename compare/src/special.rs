@@ -28,6 +28,9 @@ const WINDOWS: [(u64, u64, &str, u64); 7] = [
     (u64::MAX, u64::MAX, "", 10),
 ];
 
+/// Its index, as request 7 gives it.
+const INDEX: &str = include_str!("../../examples/worked.index");
+
 enum Due {
     /// Listed patterns, cycles and size.
     Accepted(u64, u64, u64),
@@ -64,6 +67,7 @@ pub fn compare(comparison: &mut Comparison, often: Often, random: &mut Random) {
     comparison.text("document 01", SAMPLE.as_bytes(), often, random);
     comparison.waveforms("document 01", SAMPLE.as_bytes());
     comparison.windows("document 01", SAMPLE.as_bytes(), &WINDOWS);
+    comparison.indexed("document 01", SAMPLE.as_bytes(), INDEX);
     for special in &list::SPECIAL {
         let (text, place) = special.text();
         let due = match special.due {

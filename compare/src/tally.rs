@@ -3,9 +3,9 @@
 use crate::call::{outcome, Call};
 use crate::lent::Lent;
 use crate::reader::Reader;
-use second::refusal::STORE_TOO_SHORT;
+use second::refusal::INDEX_NOT_OF_TEXT;
 
-const NUMBERS: usize = STORE_TOO_SHORT as usize + 1;
+const NUMBERS: usize = INDEX_NOT_OF_TEXT as usize + 1;
 
 pub struct Tally {
     service: &'static str,

@@ -7,8 +7,19 @@ use second::bounds::MAX_TEXT;
 use second::generate::random::Random;
 use second::generate::{large, nested, text, LARGE_KINDS};
 
-const SEEDED: Often =
-    Often { names: 2, waveforms: 3, lists: 3, windows: 4, marks: true, every: 0, tokens: 400, places: 16, bytes: 64 };
+const SEEDED: Often = Often {
+    names: 2,
+    waveforms: 3,
+    lists: 3,
+    windows: 4,
+    marks: true,
+    every: 0,
+    tokens: 400,
+    places: 16,
+    lines: 8,
+    indexes: 2,
+    bytes: 64,
+};
 const EACH: Often = Often { every: 200, bytes: 4_096, ..SEEDED };
 const SPECIAL: Often = Often {
     names: 100,
@@ -19,10 +30,23 @@ const SPECIAL: Often = Often {
     every: 200,
     tokens: 10_000,
     places: 200,
+    lines: 100,
+    indexes: 60,
     bytes: 10_000,
 };
-const LARGE: Often =
-    Often { names: 0, waveforms: 0, lists: 2, windows: 1, marks: true, every: 0, tokens: 1_000, places: 100, bytes: 0 };
+const LARGE: Often = Often {
+    names: 0,
+    waveforms: 0,
+    lists: 2,
+    windows: 1,
+    marks: true,
+    every: 0,
+    tokens: 1_000,
+    places: 100,
+    lines: 20,
+    indexes: 1,
+    bytes: 0,
+};
 
 /// One seed in so many has a text made for 17 as well, and one in so many a window at each cycle and a token at each byte.
 const NESTED: u64 = 2;

@@ -4,7 +4,7 @@ use crate::call::{number_around, room_around, Call};
 use crate::lent::{Rooms, Slices};
 use crate::reader::Reader;
 use second::generate::random::Random;
-use second::{token, Located};
+use second::tokens::next_token;
 use std::iter::{once, successors};
 use std::ops::Range;
 
@@ -30,7 +30,7 @@ impl Token {
 /// Where the tokens of a text are, as far as none is refused.
 pub struct Places {
     length: u64,
-    tokens: Vec<Located>,
+    tokens: Vec<Range<u64>>,
     /// From a token's end to the next one's place, where a comment stands between them.
     comments: Vec<Range<u64>>,
 }
@@ -38,10 +38,11 @@ pub struct Places {
 impl Places {
     pub fn new(text: &[u8]) -> Places {
         let length = text.len() as u64;
-        let next = |last: &Located| token(text, end(last)).ok().flatten();
-        let tokens: Vec<Located> = successors(token(text, 0).ok().flatten(), next).collect();
-        let ends = once(0).chain(tokens.iter().map(end));
-        let nexts = tokens.iter().map(|token| token.place).chain(once(length));
+        let span = |token: second::tokens::Token| token.place.into()..(token.place + token.length).into();
+        let next = |from| next_token(text, from).ok().flatten().map(span);
+        let tokens: Vec<Range<u64>> = successors(next(0), |last| next(last.end)).collect();
+        let ends = once(0).chain(tokens.iter().map(|token| token.end));
+        let nexts = tokens.iter().map(|token| token.start).chain(once(length));
         let commented = |gap: &Range<u64>| text[gap.start as usize..gap.end as usize].contains(&b'/');
         let comments = ends.zip(nexts).map(|(end, next)| end..next).filter(commented).collect();
         Places { length, tokens, comments }
@@ -49,7 +50,7 @@ impl Places {
 
     /// From 0 on, each from the end of the one before; of more than `most` as many of them, the first and the last too.
     pub fn one_by_one(&self, most: usize, random: &mut Random) -> Vec<Token> {
-        let asked: Vec<u64> = once(0).chain(self.tokens.iter().map(end)).collect();
+        let asked: Vec<u64> = once(0).chain(self.tokens.iter().map(|token| token.end)).collect();
         if asked.len() <= most {
             return asked.into_iter().map(Token::with_room).collect();
         }
@@ -62,7 +63,7 @@ impl Places {
         let at = match random.below(5) {
             0 => self.last(),
             1 => within(&self.token(random), random),
-            2 => end(&self.token(random)),
+            2 => self.token(random).end,
             3 => self.in_comment(random),
             _ => number_around(self.length, random),
         };
@@ -71,14 +72,14 @@ impl Places {
 
     /// The last end: no token follows there, or something is refused.
     fn last(&self) -> u64 {
-        self.tokens.last().map_or(0, end)
+        self.tokens.last().map_or(0, |token| token.end)
     }
 
     /// Any token; the whole text where it has none.
-    fn token(&self, random: &mut Random) -> Located {
+    fn token(&self, random: &mut Random) -> Range<u64> {
         match self.tokens.len() {
-            0 => Located { place: 0, length: self.length },
-            tokens => self.tokens[random.below(tokens)],
+            0 => 0..self.length,
+            tokens => self.tokens[random.below(tokens)].clone(),
         }
     }
 
@@ -93,12 +94,8 @@ impl Places {
     }
 }
 
-fn end(token: &Located) -> u64 {
-    token.place + token.length
-}
-
-fn within(token: &Located, random: &mut Random) -> u64 {
-    token.place + random.draw() % token.length.max(1)
+fn within(token: &Range<u64>, random: &mut Random) -> u64 {
+    token.start + random.draw() % (token.end - token.start).max(1)
 }
 
 impl Call for Token {

@@ -50,7 +50,7 @@ impl Window {
 }
 
 /// A cycle of the run or past it, most often where a statement begins or ends.
-fn draw_first(document: Option<&Document>, cycles: u64, random: &mut Random) -> u64 {
+pub fn draw_first(document: Option<&Document>, cycles: u64, random: &mut Random) -> u64 {
     let ends = [
         0,
         cycles.saturating_sub(1),

@@ -22,3 +22,9 @@ pub const MAX_CYCLES: u64 = 1_099_511_627_776;
 pub const MAX_LISTING: u64 = 1_000_000;
 pub const MAX_WAVEFORMS: usize = 64;
 pub const MAX_RAW: usize = 1_048_576;
+
+/// No index is longer: a line for each listed pattern, with a name, two numbers of cycles and a place, and one for each table.
+pub const MAX_INDEX: usize = "PATTERNS 16\n".len()
+    + MAX_LISTED * (MAX_NAME + " 1099511627776 1099511627776 65535\n".len())
+    + "TABLES 8\n".len()
+    + MAX_TABLES * (MAX_NAME + 1);

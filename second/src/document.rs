@@ -19,9 +19,17 @@ pub struct Document<'t> {
     pub bodies: Bodies,
     pub program: Program,
     pub patterns: Vec<Body>,
+    /// One for each pattern.
+    pub headings: Vec<Heading>,
     /// The listed patterns in order.
     pub run: Vec<usize>,
     pub extent: Extent,
+}
+
+/// The word Pattern and the pattern's name.
+pub struct Heading {
+    pub keyword: Token,
+    pub name: Token,
 }
 
 impl<'t> Document<'t> {
@@ -46,15 +54,16 @@ impl<'t> Document<'t> {
         let bodies = Bodies::read(reader, &pins, &timing, &mut program)?;
         let (mut names, listed) = burst(reader)?;
         exec(reader, &names)?;
-        let mut patterns = Vec::new();
+        let (mut patterns, mut headings) = (Vec::new(), Vec::new());
         while patterns.is_empty() || !reader.at_end() {
-            let name = pattern_name(reader, &names, patterns.len())?;
+            let heading = heading(reader, &names, patterns.len())?;
             patterns.push(body(reader, &pins, &timing, &bodies, &mut program, false)?);
-            names.add(text, name);
+            names.add(text, heading.name);
+            headings.push(heading);
         }
         let run = run_of(text, &names, &listed)?;
         let extent = extent_of(&run, &patterns)?;
-        Ok(Document { text, pins, timing, bodies, program, patterns, run, extent })
+        Ok(Document { text, pins, timing, bodies, program, patterns, headings, run, extent })
     }
 
     /// The bytes of one row: a character for each signal, the table's digit, LF.
@@ -99,12 +108,13 @@ fn exec(reader: &mut Reader, names: &NameTable) -> Answer<()> {
     reader.bytes(b";}")
 }
 
-fn pattern_name(reader: &mut Reader, names: &NameTable, patterns: usize) -> Answer<Token> {
-    let word = reader.fixed(b"Pattern")?;
+fn heading(reader: &mut Reader, names: &NameTable, patterns: usize) -> Answer<Heading> {
+    let keyword = reader.fixed(b"Pattern")?;
     if patterns == MAX_PATTERNS {
-        return Err(word.refuse(ONE_TOO_MANY));
+        return Err(keyword.refuse(ONE_TOO_MANY));
     }
-    reader.new_name(names, false)
+    let name = reader.new_name(names, false)?;
+    Ok(Heading { keyword, name })
 }
 
 /// The burst is number 0 of the name space, so a pattern's own number is one less than its name's.

@@ -1,6 +1,7 @@
 //! The intake: takes a raw text in chunks and fills a lent store, where each longest run of blanks and comments is one byte.
 
 use crate::bounds::{MAX_RAW, MAX_TEXT};
+use crate::lines::Position;
 use crate::refusal::*;
 use crate::tokens::{is_allowed, is_blank};
 
@@ -38,6 +39,9 @@ pub fn stored(raw: &[u8]) -> Answer<Vec<u8>> {
 #[derive(Clone, Debug)]
 pub struct Intake {
     progress: Progress,
+    /// Where the next raw byte stands, and where the last comment by `/*` was opened.
+    next: Position,
+    opened: Position,
     /// Raw bytes so far, and how many are stored.
     pub taken: usize,
     pub stored: usize,
@@ -48,7 +52,16 @@ pub struct Intake {
 
 impl Default for Intake {
     fn default() -> Intake {
-        Intake { progress: Progress::Open, taken: 0, stored: 0, within: Within::Tokens, mark: None }
+        let start = Position::START;
+        Intake {
+            progress: Progress::Open,
+            next: start,
+            opened: start,
+            taken: 0,
+            stored: 0,
+            within: Within::Tokens,
+            mark: None,
+        }
     }
 }
 
@@ -74,6 +87,15 @@ impl Intake {
         self.progress
     }
 
+    /// Line and column of the refusal's place in the raw text, which the intake alone has seen whole.
+    pub fn refused_at(&self) -> Option<Position> {
+        match self.progress {
+            Progress::Refused(Refusal { number: COMMENT_NOT_CLOSED, .. }) => Some(self.opened),
+            Progress::Refused(_) => Some(self.next),
+            Progress::Open | Progress::Closed(_) => None,
+        }
+    }
+
     fn chunk(&mut self, chunk: &[u8], store: &mut [u8]) -> Answer<()> {
         let mut added = Vec::new();
         for &byte in chunk {
@@ -89,6 +111,7 @@ impl Intake {
                 self.accept(&added, store)?;
             }
             self.taken += 1;
+            self.next = self.next.past(&[byte]);
         }
         self.write(&added, store);
         Ok(())
@@ -115,7 +138,10 @@ impl Intake {
             (Within::Comment { star: true, .. }, b'/') => self.within = Within::Tokens,
             (Within::Comment { open, .. }, _) => self.join(byte, Within::Comment { open, star: byte == b'*' }),
             (Within::Slash, b'/') => self.join(byte, Within::Line),
-            (Within::Slash, b'*') => self.join(byte, Within::Comment { open: self.taken - 1, star: false }),
+            (Within::Slash, b'*') => {
+                self.opened = Position { column: self.next.column - 1, ..self.next };
+                self.join(byte, Within::Comment { open: self.taken - 1, star: false });
+            }
             (Within::Tokens, b'/') => self.within = Within::Slash,
             (Within::Tokens, _) if is_blank(byte) => self.join(byte, Within::Tokens),
             // The run is over, or no comment opens.

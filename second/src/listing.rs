@@ -2,6 +2,7 @@
 
 use crate::bounds::MAX_LISTING;
 use crate::document::Document;
+use crate::lines::Position;
 use crate::refusal::{Answer, Refusal};
 use crate::rows::DOT;
 use crate::services::Declared;
@@ -25,15 +26,17 @@ pub fn listing(text: &[u8]) -> Answer<Vec<u8>> {
 }
 
 /// The one line that a refused text is answered with.
-pub fn refusal_line(refusal: Refusal) -> String {
-    format!("REFUSED {} AT {}\n", refusal.number, refusal.place)
+pub fn refusal_line(text: &[u8], refusal: Refusal) -> String {
+    let Refusal { number, place } = refusal;
+    let Position { line, column } = refusal.position(text);
+    format!("REFUSED {number} AT {place} LINE {line} COLUMN {column}\n")
 }
 
-fn section(out: &mut Vec<u8>, title: &str, count: u64) {
+pub(crate) fn section(out: &mut Vec<u8>, title: &str, count: u64) {
     out.extend_from_slice(format!("{title} {count}\n").as_bytes());
 }
 
-fn names(out: &mut Vec<u8>, document: &Document, declared: Declared) {
+pub(crate) fn names(out: &mut Vec<u8>, document: &Document, declared: Declared) {
     let mut number = 0;
     while let Some(name) = document.name(declared, number) {
         out.extend_from_slice(name.bytes(document.text));

@@ -3,7 +3,8 @@
 use second::listing::refusal_line;
 use second::refusal::Answer;
 use second::timing::Asked;
-use second::{accept_mark, bounds, listing, token, Declared, Document, Refusal, MARK};
+use second::tokens::next_token;
+use second::{accept_mark, bounds, listing, Declared, Document, Refusal, MARK};
 use std::ffi::OsString;
 use std::fs::File;
 use std::io::{self, BufWriter, Read, Write};
@@ -16,6 +17,8 @@ name FILE signal N
 name FILE table N
 window FILE FIRST COUNT [MARK]
 waveform FILE TABLE SIGNAL CHARACTER
+index FILE
+holds FILE INDEXFILE N
 tokens FILE
 intake FILE
 list FILE
@@ -58,6 +61,8 @@ fn answer(words: &[OsString], out: &mut dyn Write) -> Done {
         b"tokens" => tokens(exactly(rest, ["FILE"])?, out),
         b"intake" => intake(exactly(rest, ["FILE"])?, out),
         b"list" => list(exactly(rest, ["FILE"])?, out),
+        b"index" => index(exactly(rest, ["FILE"])?, out),
+        b"holds" => holds(exactly(rest, ["FILE", "INDEXFILE", "N"])?, out),
         b"help" => {
             exactly(rest, [])?;
             Ok(out.write_all(HELP.as_bytes())?)
@@ -103,15 +108,16 @@ fn one_byte(word: &OsString) -> Result<u8, Fault> {
     }
 }
 
-/// Writes the answer, or the one line of its refusal.
+/// Writes the answer, or the one line of the text's refusal.
 fn write_answer<T>(
     out: &mut dyn Write,
+    text: &[u8],
     answer: Answer<T>,
     write: impl FnOnce(&mut dyn Write, T) -> io::Result<()>,
 ) -> Done {
     match answer {
         Ok(value) => write(out, value)?,
-        Err(refusal) => out.write_all(refusal_line(refusal).as_bytes())?,
+        Err(refusal) => out.write_all(refusal_line(text, refusal).as_bytes())?,
     }
     Ok(())
 }
@@ -120,15 +126,17 @@ fn check(files: &[OsString], out: &mut dyn Write) -> Done {
     let (mut good, mut hurt, mut unread) = (0, 0, 0);
     for file in files {
         out.write_all(file.as_bytes())?;
-        match read_file(file, bounds::MAX_TEXT).map(|text| second::check(&text)) {
-            Ok(Ok(sum)) => {
-                good += 1;
-                writeln!(out, " OK {} {} {} {} {}", sum.signals, sum.tables, sum.patterns, sum.cycles, sum.size)?;
-            }
-            Ok(Err(refusal)) => {
-                hurt += 1;
-                write!(out, " {}", refusal_line(refusal))?;
-            }
+        match read_file(file, bounds::MAX_TEXT) {
+            Ok(text) => match second::check(&text) {
+                Ok(sum) => {
+                    good += 1;
+                    writeln!(out, " OK {} {} {} {} {}", sum.signals, sum.tables, sum.patterns, sum.cycles, sum.size)?;
+                }
+                Err(refusal) => {
+                    hurt += 1;
+                    write!(out, " {}", refusal_line(&text, refusal))?;
+                }
+            },
             Err(_) => {
                 unread += 1;
                 writeln!(out, " CANNOT BE READ")?;
@@ -146,7 +154,7 @@ fn name([file, kind, which]: &[OsString; 3], out: &mut dyn Write) -> Done {
     };
     let which = number(which)?;
     let text = text_of(file)?;
-    write_answer(out, second::name(&text, declared, which), |out, name| {
+    write_answer(out, &text, second::name(&text, declared, which), |out, name| {
         let bytes = &text[name.place as usize..(name.place + name.length) as usize];
         out.write_all(bytes)?;
         writeln!(out, " AT {} LENGTH {}", name.place, name.length)
@@ -162,14 +170,14 @@ fn window(words: &[OsString], out: &mut dyn Write) -> Done {
     let mark = chosen.map_or(Ok(MARK), one_byte)?;
     let text = text_of(file)?;
     let answer = Document::read(&text).and_then(|document| accept_mark(mark).map(|()| document));
-    write_answer(out, answer, |out, document| write_rows(out, &document, first, count, mark))
+    write_answer(out, &text, answer, |out, document| write_rows(out, &document, first, count, mark))
 }
 
 fn write_rows(out: &mut dyn Write, document: &Document, first: u64, count: u64, mark: u8) -> io::Result<()> {
     let due = count.min(document.extent.cycles.saturating_sub(first));
     let width = document.row_width();
     let mut buffer = vec![0; due.min(ROWS_AT_ONCE) as usize * width];
-    let fails = |refusal: Refusal| io::Error::new(io::ErrorKind::Other, refusal_line(refusal));
+    let fails = |refusal: Refusal| io::Error::new(io::ErrorKind::Other, format!("{refusal:?}"));
     let visits = document.window(first, 0, mark, &mut []).map_err(fails)?.visits;
     let mut written = 0;
     while written < due {
@@ -188,7 +196,7 @@ fn waveform([file, table, signal, character]: &[OsString; 4], out: &mut dyn Writ
     let (mut times, mut letters) = ([0; bounds::MAX_EVENTS], [0; bounds::MAX_EVENTS]);
     let asked = Asked { table, signal, character };
     let count = Document::read(&text).and_then(|document| document.waveform(asked, &mut times, &mut letters));
-    write_answer(out, count, |out, count| {
+    write_answer(out, &text, count, |out, count| {
         writeln!(out, "EVENTS {count}")?;
         let mut events = times.iter().zip(&letters).take(count as usize);
         events.try_for_each(|(time, &letter)| writeln!(out, "{time} {}", letter as char))
@@ -199,27 +207,44 @@ fn tokens([file]: &[OsString; 1], out: &mut dyn Write) -> Done {
     let text = text_of(file)?;
     let (mut place, mut count) = (0, 0);
     let end = loop {
-        match token(&text, place) {
+        match next_token(&text, place) {
             Ok(Some(found)) => {
-                place = found.place + found.length;
+                place = u64::from(found.place + found.length);
                 count += 1;
                 write!(out, "{} {} ", found.place, found.length)?;
-                out.write_all(&text[found.place as usize..place as usize])?;
+                out.write_all(found.bytes(&text))?;
                 out.write_all(b"\n")?;
             }
             Ok(None) => break Ok(count),
             Err(refusal) => break Err(refusal),
         }
     };
-    write_answer(out, end, |out, count: u64| writeln!(out, "TOKENS {count}"))
+    write_answer(out, &text, end, |out, count: u64| writeln!(out, "TOKENS {count}"))
 }
 
 fn intake([file]: &[OsString; 1], out: &mut dyn Write) -> Done {
     let raw = bytes_of(file, bounds::MAX_RAW)?;
-    write_answer(out, second::intake::stored(&raw), |out, stored| out.write_all(&stored))
+    write_answer(out, &raw, second::intake::stored(&raw), |out, stored| out.write_all(&stored))
 }
 
 fn list([file]: &[OsString; 1], out: &mut dyn Write) -> Done {
     let text = text_of(file)?;
-    write_answer(out, listing(&text), |out, lines| out.write_all(&lines))
+    write_answer(out, &text, listing(&text), |out, lines| out.write_all(&lines))
+}
+
+fn index([file]: &[OsString; 1], out: &mut dyn Write) -> Done {
+    let text = text_of(file)?;
+    let mut buffer = [0; bounds::MAX_INDEX];
+    let length = second::index(&text, &mut buffer);
+    write_answer(out, &text, length, |out, length| out.write_all(&buffer[..length as usize]))
+}
+
+fn holds([file, index, cycle]: &[OsString; 3], out: &mut dyn Write) -> Done {
+    let cycle = number(cycle)?;
+    // As much is read as of a text: what is longer is no index.
+    let (text, index) = (text_of(file)?, text_of(index)?);
+    write_answer(out, &text, second::holds(&text, &index, cycle), |out, pattern| match pattern {
+        Some(number) => writeln!(out, "PATTERN {number}"),
+        None => writeln!(out, "NO PATTERN"),
+    })
 }

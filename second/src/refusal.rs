@@ -1,5 +1,7 @@
 //! The one way a text or a call is turned down: a number of document 01's table, or of a request after it, and a place.
 
+use crate::lines::{position, Position};
+
 #[derive(Clone, Copy, Debug, PartialEq, Eq)]
 pub struct Refusal {
     pub number: u8,
@@ -28,8 +30,14 @@ pub const CYCLE_WITHOUT_WAVEFORM: u8 = 17;
 pub const NO_SUCH_ITEM: u8 = 18;
 pub const BUFFER_TOO_SHORT: u8 = 19;
 pub const STORE_TOO_SHORT: u8 = 20;
+pub const INDEX_NOT_OF_TEXT: u8 = 21;
 
 impl Refusal {
+    /// Of its place in the text that it is about; a refusal that is about no byte is at place 0, the first line's first.
+    pub fn position(self, text: &[u8]) -> Position {
+        position(text, self.place)
+    }
+
     pub fn new(number: u8, place: usize) -> Refusal {
         Refusal { number, place: place as u64 }
     }

@@ -36,7 +36,7 @@ pub fn name(text: &[u8], declared: Declared, number: u64) -> Answer<Located> {
     let document = Document::read(text)?;
     let number = usize::try_from(number).unwrap_or(usize::MAX);
     let name = document.name(declared, number).ok_or_else(|| Refusal::new(NO_SUCH_ITEM, 0))?;
-    Ok(name.located())
+    Ok(name.located(text))
 }
 
 /// The mark shows a signal that is unassigned.

@@ -1,13 +1,15 @@
 //! Bytes, comments and tokens: the rules other tools use without the blocks.
 
 use crate::bounds::MAX_TEXT;
+use crate::lines::{position, Position};
 use crate::refusal::*;
 
-/// A token's or a declared name's place in the whole text, and its length.
+/// A token's or a declared name's place in the whole text, its length, and its line and column.
 #[derive(Clone, Copy, Debug, PartialEq, Eq)]
 pub struct Located {
     pub place: u64,
     pub length: u64,
+    pub position: Position,
 }
 
 /// A token as the blocks use it: small, and with its first byte at hand.
@@ -31,8 +33,9 @@ impl Token {
         Refusal::new(number, self.place as usize)
     }
 
-    pub fn located(self) -> Located {
-        Located { place: self.place.into(), length: self.length.into() }
+    pub fn located(self, text: &[u8]) -> Located {
+        let place = self.place.into();
+        Located { place, length: self.length.into(), position: position(text, place) }
     }
 }
 
@@ -66,8 +69,13 @@ pub fn is_blank(byte: u8) -> bool {
     CLASS[byte as usize] == BLANK
 }
 
-/// The next token as if reading began at `place`.
+/// The next token as if reading began at `place`; its line and column are those in the whole text.
 pub fn token(text: &[u8], place: u64) -> Answer<Option<Located>> {
+    Ok(next_token(text, place)?.map(|token| token.located(text)))
+}
+
+/// The same without line and column, so that nothing before the place is looked at.
+pub fn next_token(text: &[u8], place: u64) -> Answer<Option<Token>> {
     if text.len() > MAX_TEXT {
         return Err(Refusal::new(TEXT_TOO_LONG, 0));
     }
@@ -75,7 +83,7 @@ pub fn token(text: &[u8], place: u64) -> Answer<Option<Located>> {
         return Ok(None);
     }
     let token = token_at(text, skip_separators(text, place as usize)?);
-    Ok(Some(token).filter(|token| token.length > 0).map(Token::located))
+    Ok(Some(token).filter(|token| token.length > 0))
 }
 
 /// Refusals 1 to 3, which a whole text must pass before its blocks are read.

@@ -38,6 +38,8 @@ fn help_names_the_commands() {
         "name FILE table N",
         "window FILE FIRST COUNT [MARK]",
         "waveform FILE TABLE SIGNAL CHARACTER",
+        "index FILE",
+        "holds FILE INDEXFILE N",
         "tokens FILE",
         "intake FILE",
         "list FILE",
@@ -51,7 +53,7 @@ fn check_goes_on_past_every_file() {
     let (good, hurt) = (file("good.stil", SAMPLE.as_bytes()), file("hurt.stil", b"STIL 2.0;"));
     let (long, none) = (file("long.stil", &[b' '; 200_000]), "/nowhere/at/all.stil");
     let due = format!(
-        "{good} OK 2 1 1 7 10\n{none} CANNOT BE READ\n{hurt} REFUSED 4 AT 5\n{long} REFUSED 1 AT 0\n/ CANNOT BE READ\nGOOD 1 HURT 2 UNREAD 2\n"
+        "{good} OK 2 1 1 7 10\n{none} CANNOT BE READ\n{hurt} REFUSED 4 AT 5 LINE 1 COLUMN 6\n{long} REFUSED 1 AT 0 LINE 1 COLUMN 1\n/ CANNOT BE READ\nGOOD 1 HURT 2 UNREAD 2\n"
     );
     answers(&["check", &good, none, &hurt, &long, "/"], &due);
     answers(&["check"], "GOOD 0 HURT 0 UNREAD 0\n");
@@ -63,12 +65,12 @@ fn single_answers() {
     answers(&["name", good, "signal", "0"], "A AT 20 LENGTH 1\n");
     answers(&["name", good, "signal", "0001"], "B AT 26 LENGTH 1\n");
     answers(&["name", good, "table", "0"], "t0 AT 87 LENGTH 2\n");
-    answers(&["name", good, "table", "1"], "REFUSED 18 AT 0\n");
+    answers(&["name", good, "table", "1"], "REFUSED 18 AT 0 LINE 1 COLUMN 1\n");
     answers(&["window", good, "2", "2"], "1H0\n0H0\nVISITS 16\n");
     answers(&["window", good, "6", "18446744073709551615"], "1H0\nVISITS 22\n");
     answers(&["window", good, "18446744073709551615", "1"], "VISITS 10\n");
     answers(&["waveform", good, "0", "1", "X"], "EVENTS 2\n0 Z\n50000 X\n");
-    answers(&["waveform", good, "0", "1", "0"], "REFUSED 18 AT 0\n");
+    answers(&["waveform", good, "0", "1", "0"], "REFUSED 18 AT 0 LINE 1 COLUMN 1\n");
     answers(&["list", good], "SIGNALS 2\nA\nB\nTABLES 1\nt0\nCYCLES 7\n1X0\n0H0\n1H0\n0H0\n1L0\n0H0\n1H0\n");
 }
 
@@ -81,12 +83,31 @@ fn windows_with_a_mark() {
     answers(&["window", text, "0", "1", " "], "1 0\nVISITS 14\n");
     answers(&["window", text, "7", "1", "#"], "VISITS 9\n");
     for mark in ["0", "9", "a", "z", "A", "Z", "X", "\n"] {
-        answers(&["window", text, "0", "1", mark], "REFUSED 12 AT 0\n");
-        answers(&["window", text, "7", "0", mark], "REFUSED 12 AT 0\n");
+        answers(&["window", text, "0", "1", mark], "REFUSED 12 AT 0 LINE 1 COLUMN 1\n");
+        answers(&["window", text, "7", "0", mark], "REFUSED 12 AT 0 LINE 1 COLUMN 1\n");
     }
-    answers(&["window", &file("marks-hurt.stil", b"STIL 2.0;"), "0", "1", "a"], "REFUSED 4 AT 5\n");
+    answers(&["window", &file("marks-hurt.stil", b"STIL 2.0;"), "0", "1", "a"], "REFUSED 4 AT 5 LINE 1 COLUMN 6\n");
     let listed = run(&["list", text]).stdout;
     assert!(listed.windows(4).any(|row| row == b"1.0\n"));
+}
+
+#[test]
+fn the_index_and_what_is_asked_of_it() {
+    let good = &file("indexed.stil", SAMPLE.as_bytes());
+    let due = "PATTERNS 1\np 0 7 312\nTABLES 1\nt0\n";
+    answers(&["index", good], due);
+    let right = &file("right.index", due.as_bytes());
+    answers(&["holds", good, right, "0"], "PATTERN 0\n");
+    answers(&["holds", good, right, "006"], "PATTERN 0\n");
+    answers(&["holds", good, right, "7"], "NO PATTERN\n");
+    answers(&["holds", good, right, "18446744073709551615"], "NO PATTERN\n");
+    let long = [due.as_bytes(), &[b'\n'; 70_000]].concat();
+    for wrong in [&b""[..], b"PATTERNS 1\np 0 7 312\nTABLES 1\nt0", &long] {
+        answers(&["holds", good, &file("wrong.index", wrong), "0"], "REFUSED 21 AT 0 LINE 1 COLUMN 1\n");
+    }
+    let hurt = &file("not-indexed.stil", b"STIL 1.0;\nSignals { }");
+    answers(&["index", hurt], "REFUSED 4 AT 20 LINE 2 COLUMN 11\n");
+    answers(&["holds", hurt, right, "0"], "REFUSED 4 AT 20 LINE 2 COLUMN 11\n");
 }
 
 #[test]
@@ -98,7 +119,7 @@ fn refusals_are_answers() {
         vec!["name", hurt, "table", "0"],
         vec!["waveform", hurt, "0", "0", "0"],
     ] {
-        answers(&words, "REFUSED 4 AT 20\n");
+        answers(&words, "REFUSED 4 AT 20 LINE 1 COLUMN 21\n");
     }
 }
 
@@ -108,10 +129,10 @@ fn tokens_up_to_the_refusal() {
         &["tokens", &file("tokens.stil", b"STIL 1.0; /* x */ 'A' // e")],
         "0 4 STIL\n5 3 1.0\n8 1 ;\n18 1 '\n19 1 A\n20 1 '\nTOKENS 6\n",
     );
-    answers(&["tokens", &file("bad.stil", b"ab\x01 cd")], "0 2 ab\nREFUSED 2 AT 2\n");
-    answers(&["tokens", &file("open.stil", b"ab /*")], "0 2 ab\nREFUSED 3 AT 3\n");
+    answers(&["tokens", &file("bad.stil", b"ab\x01 cd")], "0 2 ab\nREFUSED 2 AT 2 LINE 1 COLUMN 3\n");
+    answers(&["tokens", &file("open.stil", b"ab /*")], "0 2 ab\nREFUSED 3 AT 3 LINE 1 COLUMN 4\n");
     answers(&["tokens", &file("none.stil", b"")], "TOKENS 0\n");
-    answers(&["tokens", &file("toolong.stil", &[b'a'; 65_537])], "REFUSED 1 AT 0\n");
+    answers(&["tokens", &file("toolong.stil", &[b'a'; 65_537])], "REFUSED 1 AT 0 LINE 1 COLUMN 1\n");
 }
 
 #[test]
@@ -120,18 +141,39 @@ fn the_stored_text_of_a_raw_one() {
     answers(&["intake", &file("raw.stil", raw)], "\nSTIL 1.0;\nSignals{A In;} ");
     answers(&["intake", &file("raw-none.stil", b"")], "");
     answers(&["intake", &file("raw-slash.stil", b"a / b/")], "a / b/");
-    answers(&["intake", &file("raw-open.stil", b"a\n b/* c\n*")], "REFUSED 3 AT 4\n");
-    answers(&["intake", &file("raw-byte.stil", b"a\r\n/* \x80 */")], "REFUSED 2 AT 6\n");
+    answers(&["intake", &file("raw-open.stil", b"a\n b/* c\n*")], "REFUSED 3 AT 4 LINE 2 COLUMN 3\n");
+    answers(&["intake", &file("raw-byte.stil", b"a\r\n/* \x80 */")], "REFUSED 2 AT 6 LINE 2 COLUMN 4\n");
     // As many bytes are read as decide, so that what is far behind does not matter.
     let of = |length: usize, end: &[u8]| [b"\n".as_slice(), &vec![b' '; length - 1], end].concat();
     answers(&["intake", &file("raw-full.stil", &of(1_048_575, b"a"))], "\na");
-    answers(&["intake", &file("raw-past.stil", &of(1_048_576, b"a"))], "REFUSED 1 AT 1048576\n");
+    answers(&["intake", &file("raw-past.stil", &of(1_048_576, b"a"))], "REFUSED 1 AT 1048576 LINE 2 COLUMN 1048576\n");
     let past = &file("raw-far-past.stil", &of(1_048_576, &[0; 100_000]));
-    answers(&["intake", past], "REFUSED 1 AT 1048576\n");
+    answers(&["intake", past], "REFUSED 1 AT 1048576 LINE 2 COLUMN 1048576\n");
     let stores = |length: usize, end: &str| [&vec![b'a'; length], end.as_bytes()].concat();
     answers(&["intake", &file("raw-fits.stil", &stores(65_535, "//"))], &("a".repeat(65_535) + " "));
-    answers(&["intake", &file("raw-more.stil", &stores(65_536, "a"))], "REFUSED 20 AT 65536\n");
-    answers(&["intake", &file("raw-close.stil", &stores(65_536, " \n"))], "REFUSED 20 AT 65538\n");
+    answers(&["intake", &file("raw-more.stil", &stores(65_536, "a"))], "REFUSED 20 AT 65536 LINE 1 COLUMN 65537\n");
+    answers(&["intake", &file("raw-close.stil", &stores(65_536, " \n"))], "REFUSED 20 AT 65538 LINE 2 COLUMN 1\n");
+}
+
+#[test]
+fn refusals_show_line_and_column() {
+    // The request's own line: the fourth line begins at 112, and eight bytes into it stands the name.
+    let head = "STIL 1.0;\nSignals { A In; B Out; }\nSignalGroups {";
+    let text = &file("lines.stil", format!("{head:<111}\n g = 'A+E'; }}").as_bytes());
+    let due = "REFUSED 6 AT 120 LINE 4 COLUMN 9\n";
+    answers(&["list", text], due);
+    answers(&["name", text, "signal", "0"], due);
+    answers(&["window", text, "0", "1"], due);
+    answers(&["waveform", text, "0", "0", "0"], due);
+    answers(&["check", text], &format!("{text} {due}GOOD 0 HURT 1 UNREAD 0\n"));
+    // Where the text has ended: behind its last LF, and in a line without one.
+    answers(&["list", &file("ended.stil", b"STIL 1.0;\r\n\r\n")], "REFUSED 4 AT 13 LINE 3 COLUMN 1\n");
+    answers(&["list", &file("cut.stil", b"STIL 1.0;\r\n\r // x")], "REFUSED 4 AT 17 LINE 2 COLUMN 7\n");
+    answers(&["tokens", &file("below.stil", b"a\n\n b/*\n")], "0 1 a\n4 1 b\nREFUSED 3 AT 5 LINE 3 COLUMN 3\n");
+    let too_long = [&b"\n"[..], &[b'\n'; 65_536]].concat();
+    answers(&["tokens", &file("lines-long.stil", &too_long)], "REFUSED 1 AT 0 LINE 1 COLUMN 1\n");
+    let too_large = SAMPLE.replace("Loop 2 ", "Loop 16777215 { Loop 16777215 { V { } } } Loop 2 ");
+    answers(&["list", &file("large.stil", too_large.as_bytes())], "REFUSED 16 AT 0 LINE 1 COLUMN 1\n");
 }
 
 #[test]
@@ -172,4 +214,13 @@ fn faults_of_the_command_line() {
     turned_down(&["intake", "/nowhere.stil"], "/nowhere.stil");
     turned_down(&["intake", "/"], "cannot be read: /");
     turned_down(&["help", "me"], "me");
+    turned_down(&["index"], "FILE");
+    turned_down(&["index", good, "more"], "more");
+    turned_down(&["index", "/nowhere.stil"], "/nowhere.stil");
+    turned_down(&["holds", good], "INDEXFILE");
+    turned_down(&["holds", good, good], "N");
+    turned_down(&["holds", "/nowhere.stil", "/nowhere.index", "x"], "not a number: x");
+    turned_down(&["holds", "/nowhere.stil", "/nowhere.index", "0"], "/nowhere.stil");
+    turned_down(&["holds", good, "/nowhere.index", "0"], "/nowhere.index");
+    turned_down(&["holds", good, "/", "0"], "cannot be read: /");
 }

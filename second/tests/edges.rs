@@ -4,7 +4,7 @@ mod common;
 use common::{build, judge, No, Ok5, SAMPLE};
 use second::edges::edge;
 use second::generate::random::Random;
-use second::{check, listing, name, token, waveform, window, Declared, Document, Located, Refusal, MARK};
+use second::{check, listing, name, token, waveform, window, Declared, Document, Located, Position, Refusal, MARK};
 use std::collections::BTreeSet;
 
 fn many(count: usize, item: impl Fn(usize) -> String) -> String {
@@ -100,10 +100,11 @@ fn names_where_they_are_declared() {
     let text = SAMPLE.as_bytes();
     let found = |declared, number| name(text, declared, number);
     let none = Err(Refusal { number: 18, place: 0 });
-    assert_eq!(found(Declared::Signal, 0), Ok(Located { place: 20, length: 1 }));
-    assert_eq!(found(Declared::Signal, 1), Ok(Located { place: 26, length: 1 }));
+    let at = |place, length, line, column| Ok(Located { place, length, position: Position { line, column } });
+    assert_eq!(found(Declared::Signal, 0), at(20, 1, 2, 11));
+    assert_eq!(found(Declared::Signal, 1), at(26, 1, 2, 17));
     assert_eq!(found(Declared::Signal, 2), none);
-    assert_eq!(found(Declared::Table, 0), Ok(Located { place: 87, length: 2 }));
+    assert_eq!(found(Declared::Table, 0), at(87, 2, 4, 24));
     assert_eq!(found(Declared::Table, 1), none);
     assert_eq!(found(Declared::Table, u64::MAX), none);
     assert_eq!(name(b"x", Declared::Table, 9), Err(Refusal { number: 4, place: 0 }));

@@ -23,7 +23,8 @@ fn each_text_gives_its_listing() {
     // A folder that has gone must not pass for one without faults.
     assert!(texts.len() >= 38, "only {} texts", texts.len());
     for path in texts {
-        let given = listing(&read(&path)).unwrap_or_else(|refusal| refusal_line(refusal).into_bytes());
+        let text = read(&path);
+        let given = listing(&text).unwrap_or_else(|refusal| refusal_line(&text, refusal).into_bytes());
         let due = read(&path.with_extension("list"));
         assert_eq!(String::from_utf8_lossy(&given), String::from_utf8_lossy(&due), "{}", path.display());
     }
