@@ -21,6 +21,14 @@ use Rattle.stil.specs.Interface.{withRoom, packed, Hands, Opens, Draws}
 use Rattle.stil.specs.Views.{Views}
 use Rattle.stil.specs.Waveforms.{Shapes}
 use Rattle.stil.specs.Charts.{chartedOf, Plots, Sketches}
+use Rattle.index.specs.Index.{Rebuilt as Bytes}
+use Rattle.stil.specs.Indexes.{indexedOf, belongingOf, holdingOf, Indexes, Writes}
+use Rattle.stil.specs.declared.Indexed.{Indexed}
+use Rattle.stil.specs.declared.Indexed.the-variants.{Written, Refused as IndexRefused}
+use Rattle.stil.specs.declared.Belonging.{Belonging}
+use Rattle.stil.specs.declared.Belonging.the-variants.{Belongs, Refused as BelongsRefused}
+use Rattle.stil.specs.declared.Holding.{Holding}
+use Rattle.stil.specs.declared.Holding.the-variants.{Pattern, NoPattern, Refused as HoldsRefused}
 use Rattle.stil.specs.declared.Checked.{Checked}
 use Rattle.stil.specs.declared.Checked.the-variants.{Counted, Refused as CheckRefused}
 use Rattle.stil.specs.declared.Located.{Located}
@@ -130,7 +138,42 @@ pub waveforms-determined : {a : Answer Chart} {times t u letters l k counts c d 
 waveforms-determined h j =
     (h .answers ∙ sym (j .answers), h .times-are ∙ sym (j .times-are), h .letters-are ∙ sym (j .letters-are), h .counts-are ∙ sym (j .counts-are))
 
--- for callers in C: Check, Name and the next token; Window; Waveform; waveforms by the list
+pub index-determined : {a : Answer Bytes} {before x y : List ℕ} {r s : Indexed} → Indexes a before x r → Indexes a before y s → (r ≡ s) × (x ≡ y)
+index-determined {a} {before} {x} {y} {r} {s} h k = (told r x (h .answers) ∙ sym (told s y (k .answers)), h .buffer-is ∙ sym (k .buffer-is))
+  where
+    back : Answer Bytes → Indexed
+    back (given w) = Written (w .size)
+    back (refused n p) = IndexRefused n p
+
+    told : (r : Indexed) (after : List ℕ) → indexedOf r after ≡ a → r ≡ back a
+    told (Written n) after e = ap back e
+    told (IndexRefused n p) after e = ap back e
+
+pub belongs-determined : {a : Answer (Unit {0})} (r s : Belonging) → belongingOf r ≡ a → belongingOf s ≡ a → r ≡ s
+belongs-determined {a} r s h k = told r h ∙ sym (told s k)
+  where
+    back : Answer (Unit {0}) → Belonging
+    back (given x) = Belongs
+    back (refused n p) = BelongsRefused n p
+
+    told : (r : Belonging) → belongingOf r ≡ a → r ≡ back a
+    told Belongs e = ap back e
+    told (BelongsRefused n p) e = ap back e
+
+pub holds-determined : {a : Answer (Option ℕ)} (r s : Holding) → holdingOf r ≡ a → holdingOf s ≡ a → r ≡ s
+holds-determined {a} r s h k = told r h ∙ sym (told s k)
+  where
+    back : Answer (Option ℕ) → Holding
+    back (given (some k)) = Pattern k
+    back (given none) = NoPattern
+    back (refused n p) = HoldsRefused n p
+
+    told : (r : Holding) → holdingOf r ≡ a → r ≡ back a
+    told (Pattern k) e = ap back e
+    told NoPattern e = ap back e
+    told (HoldsRefused n p) e = ap back e
+
+-- for callers in C: Check, Name, the next token and the holder of a cycle; Window; the index; Waveform; waveforms by the list
 pub hands-determined : {A : Type 0} {k : ℕ} {f : A → List ℕ} {a : Answer A} {before x y : List ℕ} {r s : ℕ}
     → Hands k f a before r x → Hands k f a before s y → (r ≡ s) × (x ≡ y)
 hands-determined h j = (h .number ∙ sym (j .number), h .buffer ∙ sym (j .buffer))
@@ -148,7 +191,15 @@ pub sketches-determined : {a : Answer Chart} {times t u letters l k counts c d n
 sketches-determined h j =
     ((h .number ∙ sym (j .number), h .told ∙ sym (j .told)), h .times-are ∙ sym (j .times-are), h .letters-are ∙ sym (j .letters-are), h .counts-are ∙ sym (j .counts-are))
 
+pub writes-determined : {a : Answer Bytes} {buffer x y numbers n m : List ℕ} {r s : ℕ}
+    → Writes a buffer x numbers r n → Writes a buffer y numbers s m → ((r ≡ s) × (n ≡ m)) × (x ≡ y)
+writes-determined h j = (hands-determined (h .counted) (j .counted), h .index-is ∙ sym (j .index-is))
+
 -- ---- a refused call leaves every buffer as it was
+
+pub index-untouched : {a : Answer Bytes} {before after : List ℕ} {n p : ℕ} → Indexes a before after (IndexRefused n p) → after ≡ before
+unfolding afterwards
+index-untouched {a} {before} h = h .buffer-is ∙ ap (λ (x : Answer Bytes). afterwards (λ w. w .buffer) x before) (sym (h .answers))
 
 pub window-untouched : {a : Answer Window} {before after : List ℕ} {n p : ℕ} → Views a before after (WindowRefused n p) → after ≡ before
 unfolding afterwards
@@ -188,6 +239,10 @@ hands-untouched {A} {k} {f} {a} {before} h z = h .buffer ∙ not-given (withRoom
 pub opens-untouched : {a : Answer Window} {rows x numbers n : List ℕ} {r : ℕ} → Opens a rows x numbers r n → (r ≡ 0 → ⊥) → (n ≡ numbers) × (x ≡ rows)
 opens-untouched {a} {rows} {x} {numbers} h z =
     (hands-untouched (h .counted) z, h .rows-are ∙ not-given (withRoom 2 numbers a) _ rows (λ e. z (h .counted .number ∙ e)))
+
+pub writes-untouched : {a : Answer Bytes} {buffer x numbers n : List ℕ} {r : ℕ} → Writes a buffer x numbers r n → (r ≡ 0 → ⊥) → (n ≡ numbers) × (x ≡ buffer)
+writes-untouched {a} {buffer} {x} {numbers} h z =
+    (hands-untouched (h .counted) z, h .index-is ∙ not-given (withRoom 1 numbers a) _ buffer (λ e. z (h .counted .number ∙ e)))
 
 pub draws-untouched : {a : Answer Waveform} {times t letters l count n : List ℕ} {r : ℕ} → Draws a times t letters l count r n → (r ≡ 0 → ⊥)
     → (n ≡ count) × (t ≡ times) × (l ≡ letters)
