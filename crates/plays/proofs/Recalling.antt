@@ -1,5 +1,5 @@
 -- A use depends on what stands in the text, on the pins and on the table: one that was played before from the same leaves the same.
-use Prim.Native.Nat.{ℕ, _+_, _*_, _-_, _<_, _≤_}
+use Prim.Native.Nat.{ℕ, _+_, _*_, _≤_}
 use native.Mathlib.Omega.{arith}
 use mathlib.Core.Path.{_≡_, refl, sym, ap, _∙_}
 use mathlib.Core.Bool.{Bool, true, false}
@@ -7,12 +7,11 @@ use mathlib.Core.Option.{none}
 use mathlib.Core.Logic.{_⊎_, inl, inr}
 use mathlib.Core.List.{List}
 use lib.ListN.{length, getD, take}
-use Rattle.tokens.specs.Tokens.{Toks, toks}
-use Rattle.meaning.specs.Bounds.{signalsMost}
+use Rattle.tokens.specs.Tokens.{Toks}
 use Rattle.meaning.specs.Timing.{Tables}
 use Rattle.meaning.specs.Reader.{Res, ok}
 use Rattle.meaning.specs.Body.{Args, Kind, macro, procedure, listed, Body}
-use Rattle.meaning.specs.Run.{State, Played as Play, bare, entering}
+use Rattle.meaning.specs.Run.{State, Played as Play, entering}
 use Rattle.meaning.specs.Meaning.{firstFailing}
 use Rattle.meaning.specs.Statements.{Decl, Env, Head, uses}
 use Rattle.meaning.proofs.Turns.{Plain}
