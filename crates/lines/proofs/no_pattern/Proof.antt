@@ -3,7 +3,7 @@ use Rattle.tokens.specs.Written.{bytes}
 use native.Mathlib.Omega.{arith}
 use mathlib.Core.Path.{refl}
 use Rattle.lines.specs.Lines.{noPattern}
-use Rattle.lines.proofs.Laws.{adds-whole, word-adds}
+use Rattle.sections.proofs.Pieces.{adds-whole, word-adds}
 use borrow.Author.Needs.{needs}
 use Rattle.lines.proofs.no_pattern.Statement.{statement}
 use Rattle.lines.proofs.no_pattern.Tie as tie

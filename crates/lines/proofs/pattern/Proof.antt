@@ -2,7 +2,7 @@
 use Rattle.tokens.specs.Written.{bytes}
 use native.Mathlib.Omega.{arith}
 use mathlib.Core.Path.{refl}
-use Rattle.lines.proofs.Laws.{adds-whole}
+use Rattle.sections.proofs.Pieces.{adds-whole}
 use borrow.Author.Needs.{needs}
 use Rattle.lines.proofs.pattern.Statement.{statement}
 use Rattle.lines.proofs.pattern.Tie as tie
