@@ -1,5 +1,5 @@
 -- What a position says: the line is 1 and the LFs before the place, the column 1 and the bytes since the last of them; and going on joins.
-use Prim.Native.Nat.{ℕ, zero, suc, _+_, _*_, _-_, _<_, _≤_, _^_}
+use Prim.Native.Nat.{ℕ, zero, suc, _+_, _*_, _-_, _<_, _≤_, _^_, min}
 use native.Mathlib.Omega.{arith}
 use native.Mathlib.Numerals.{add-one}
 use mathlib.Core.Path.{_≡_, refl, sym, ap, _∙_, subst}
@@ -10,7 +10,7 @@ use lib.ListN.{length, getD, take, drop, drop-of-length-le, length-take, length-
 use lib.Seq.{drop-cons, take-all, take-add}
 use borrow.Author.Tests.{eq-eqb, ne-eqb}
 use Rattle.columns.specs.declared.Position.{Position}
-use Rattle.columns.specs.Columns.{lf, start, past, onward, position, Room}
+use Rattle.columns.specs.Columns.{lf, start, past, onward, position, numberMost, capped}
 
 -- ---- one byte
 
@@ -33,18 +33,6 @@ pub onward-over : (at : Position) (bytes : List ℕ) (i : ℕ) → length bytes 
 unfolding onward
 onward-over at bytes i h = rw (drop-of-length-le bytes h)
 
--- room for so many bytes is room for the first, and behind it for the others
-pub room-less : (at : Position) (n m : ℕ) → m ≤ n → Room at n → Room at m
-room-less at n m h r = record { lines = omega (arith, r .lines); columns = omega (arith, r .columns) }
-
-pub room-past : (at : Position) (b n : ℕ) → Room at (suc n) → Room (past at b) n
-unfolding past
-room-past at b n r = by (eqb b lf)
-  where
-    by : (t : Bool) → Room (elim t [ true ↦ record { line = at .line + 1; column = 1 } | false ↦ record { line = at .line; column = at .column + 1 } ]) n
-    by true = record { lines = omega (arith, r .lines); columns = omega (arith, r .lines) }
-    by false = record { lines = omega (arith, r .lines); columns = omega (arith, r .columns) }
-
 -- going on over two parts is going on over both
 pub onward-joins : (at : Position) (xs ys : List ℕ) → onward at (xs ++ ys) ≡ onward (onward at xs) ys
 unfolding onward
@@ -64,29 +52,50 @@ from-start text p q e = ap (λ (s : Position). onward s (take p text)) e
 pub from-start-over : (text : List ℕ) (p : ℕ) (q : Position) → q ≡ start → length text ≤ p → onward q text ≡ position text p
 from-start-over text p q e h = ap (onward q) (sym (take-all p text h)) ∙ from-start text p q e
 
--- a text's start has room for every slice
-pub room-from-start : (n : ℕ) → n * 1 < 2 ^ 63 → (m : ℕ) → m ≤ n → Room start m
-room-from-start n h m le = record { lines = omega (arith, h); columns = omega (arith, h) }
+-- ---- up to the largest number
 
--- and behind some bytes there is room for the others
-pub room-onward : (at : Position) (xs : List ℕ) (n : ℕ) → Room at (length xs + n) → Room (onward at xs) n
+-- numbers that a machine keeps
+pub record Kept (at : Position) : Type 0 where
+  pub line : at .line ≤ numberMost
+  pub column : at .column ≤ numberMost
+
+pub position-same : {p q : Position} → p .line ≡ q .line → p .column ≡ q .column → p ≡ q
+position-same e f i = record { line = e i; column = f i }
+
+pub capped-kept : (at : Position) → Kept at → at ≡ capped at
+unfolding capped
+capped-kept at k = position-same (omega (arith, k .line)) (omega (arith, k .column))
+
+pub keeps-capped : (at : Position) → Kept (capped at)
+unfolding capped
+keeps-capped at = record { line = omega arith; column = omega arith }
+
+-- one byte more, of what was kept and of all of it
+past-capped : (at : Position) (b : ℕ) → capped (past (capped at) b) ≡ capped (past at b)
+unfolding past capped
+past-capped at b = by (eqb b lf)
+  where
+    by : (t : Bool)
+        → capped (elim t [ true ↦ record { line = capped at .line + 1; column = 1 } | false ↦ record { line = capped at .line; column = capped at .column + 1 } ])
+        ≡ capped (elim t [ true ↦ record { line = at .line + 1; column = 1 } | false ↦ record { line = at .line; column = at .column + 1 } ])
+    by true = position-same (omega arith) refl
+    by false = position-same (omega arith) (omega arith)
+
+pub onward-capped : (at : Position) (xs : List ℕ) → capped (onward (capped at) xs) ≡ capped (onward at xs)
 unfolding onward
-room-onward at [] n r = room-less at (0 + n) n (omega arith) r
-room-onward at (x ∷ xs) n r = room-onward (past at x) xs n (room-past at x (length xs + n) (room-less at (suc (length xs) + n) (suc (length xs + n)) (omega arith) r))
+onward-capped at [] = sym (capped-kept (capped at) (keeps-capped at))
+onward-capped at (x ∷ xs) =
+    sym (onward-capped (past (capped at) x) xs) ∙ ap (λ q. capped (onward q xs)) (past-capped at x) ∙ onward-capped (past at x) xs
 
--- ---- a later place of a text
+-- one byte more, in the code's words
+pub capped-lf : (at : Position) (b n : ℕ) → b ≡ lf → n ≡ min (at .line + 1) numberMost → record { line = n; column = 1 } ≡ capped (past at b)
+unfolding capped
+capped-lf at b n e f = position-same f refl ∙ ap capped (sym (past-lf at b e))
 
-module _ (text : List ℕ) (at : Position) (from to : ℕ) (e : at ≡ position text from) (h : from ≤ to) (k : to ≤ length text) where
-  pub later-room : length text * 1 < 2 ^ 63 → Room at (length (take (to - from) (drop from text)))
-  unfolding position
-  later-room short =
-      subst (λ q. Room q (length (take (to - from) (drop from text)))) (sym e)
-      (room-onward start (take from text) _ (room-from-start (length text) short _ (omega (arith, length-take from text, length-take (to - from) (drop from text), length-drop from text))))
-
-  pub later-is : onward at (take (to - from) (drop from text)) ≡ position text to
-  later-is =
-      let there : from + (to - from) ≡ to = omega arith in
-      ap (λ q. onward q (take (to - from) (drop from text))) e ∙ sym (moves-on text from (to - from)) ∙ ap (position text) there
+pub capped-other : (at : Position) (b n : ℕ) → (b ≡ lf → ⊥) → at .line ≤ numberMost → n ≡ min (at .column + 1) numberMost
+    → record { line = at .line; column = n } ≡ capped (past at b)
+unfolding capped
+capped-other at b n ne k f = position-same {q = capped (record { line = at .line; column = at .column + 1 })} (omega (arith, k)) f ∙ ap capped (sym (past-other at b ne))
 
 -- ---- lines
 
@@ -136,3 +145,29 @@ column-is text p before after e none =
 pub column-of-first-line : (text : List ℕ) (p : ℕ) → breaks (take p text) ≡ 0 → position text p .column ≡ 1 + length (take p text)
 unfolding position
 column-of-first-line text p none = onward-columns start (take p text) none
+
+-- ---- no position of a text is too large
+
+onward-kept : (at : Position) (xs : List ℕ) (n : ℕ) → at .line + length xs ≤ n → at .column + length xs ≤ n → 1 + length xs ≤ n → (onward at xs .line ≤ n) × (onward at xs .column ≤ n)
+unfolding onward past
+onward-kept at [] n l c o = (omega (arith, l), omega (arith, c))
+onward-kept at (x ∷ xs) n l c o = by (eqb x lf) (λ q. onward-kept q xs n)
+  where
+    by : (t : Bool) → ((q : Position) → q .line + length xs ≤ n → q .column + length xs ≤ n → 1 + length xs ≤ n → (onward q xs .line ≤ n) × (onward q xs .column ≤ n))
+        → (onward (elim t [ true ↦ record { line = at .line + 1; column = 1 } | false ↦ record { line = at .line; column = at .column + 1 } ]) xs .line ≤ n)
+        × (onward (elim t [ true ↦ record { line = at .line + 1; column = 1 } | false ↦ record { line = at .line; column = at .column + 1 } ]) xs .column ≤ n)
+    by true others = others record { line = at .line + 1; column = 1 } (omega (arith, l)) (omega (arith, o)) (omega (arith, o))
+    by false others = others record { line = at .line; column = at .column + 1 } (omega (arith, l)) (omega (arith, c)) (omega (arith, o))
+
+pub position-kept : (text : List ℕ) (p : ℕ) → length text * 1 < 2 ^ 63 → Kept (position text p)
+unfolding position
+position-kept text p short =
+    let k = onward-kept start (take p text) numberMost (omega (arith, short, length-take p text)) (omega (arith, short, length-take p text)) (omega (arith, short, length-take p text)) in
+    record { line = k .0; column = k .1 }
+
+-- THE POSITION OF A LATER PLACE, from that of an earlier one and the bytes between
+pub later-is : (text : List ℕ) (from to : ℕ) → from ≤ to → length text * 1 < 2 ^ 63
+    → capped (onward (position text from) (take (to - from) (drop from text))) ≡ position text to
+later-is text from to h short =
+    let there : from + (to - from) ≡ to = omega arith in
+    ap capped (sym (moves-on text from (to - from)) ∙ ap (position text) there) ∙ sym (capped-kept (position text to) (position-kept text to short))

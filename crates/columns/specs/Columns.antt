@@ -1,5 +1,5 @@
 -- The line and the column of a place (document 02, wish 6): a line begins behind each LF and at the text's start; both are counted from 1, columns in bytes.
-use Prim.Native.Nat.{ℕ, suc, _+_, _<_, _^_}
+use Prim.Native.Nat.{ℕ, _+_, min}
 use mathlib.Core.Bool.{true, false}
 use mathlib.Core.List.{List, [], _∷_}
 use lib.Dec.{eqb}
@@ -26,7 +26,11 @@ onward at (b ∷ bs) = onward (past at b) bs
 unfoldable pub position : List ℕ → ℕ → Position
 position text place = onward start (take place text)
 
--- line and column have room for n bytes more
-pub record Room (at : Position) (n : ℕ) : Type 0 where
-  pub lines : at .line + n < 2 ^ 64
-  pub columns : at .column + n < 2 ^ 64
+-- ---- for whoever goes on from a line and a column of their own
+
+abbrev pub numberMost : ℕ
+numberMost = 18_446_744_073_709_551_615
+
+-- what a machine keeps of it: no position of a text is as large
+unfoldable pub capped : Position → Position
+capped at = record { line = min (at .line) numberMost; column = min (at .column) numberMost }

@@ -1,10 +1,11 @@
 // The line and the column of a place: what an editor shows for it.
 ghost use mathlib.Core.Path.{_≡_};
-ghost use Prim.Native.Nat.{_≤_};
-ghost use lib.ListN.{length};
-ghost use Rattle.columns.specs.Columns.{start as startOf, past as pastOf, onward as onwardOf, position, Room};
+ghost use Prim.Native.Nat.{_+_, min};
+ghost use Rattle.columns.specs.Columns.{start as startOf, past as pastOf, onward as onwardOf, position, numberMost, capped};
 
 const LF: u8 = 10;
+// The largest number that a line or a column can be.
+const MOST: usize = 18_446_744_073_709_551_615;
 
 // Both from 1; a column is counted in bytes.
 pub struct Position {
@@ -19,27 +20,35 @@ pub fn start() -> Position
     Position { line: 1, column: 1 }
 }
 
+// One more, as far as a number goes.
+fn more(n: usize) -> usize
+    ensures { λ r. ⌜ r ≡ min (n + 1) numberMost ⌝ }
+{
+    if n == MOST {
+        return n;
+    }
+    n + 1
+}
+
 // Behind one more byte.
 fn past(at: Position, b: u8) -> Position
-    requires { ⌜ Room at 1 ⌝ }
-    ensures { λ r. ⌜ r ≡ pastOf at b ⌝ }
+    ensures { λ r. ⌜ r ≡ capped (pastOf at b) ⌝ }
 {
     if b == LF {
         return Position {
-            line: at.line + 1,
+            line: more(at.line),
             column: 1,
         };
     }
     Position {
         line: at.line,
-        column: at.column + 1,
+        column: more(at.column),
     }
 }
 
 // Behind some more bytes: whoever reads along looks at each byte once.
 pub fn onward(at: Position, bytes: &[u8]) -> Position
-    requires { ⌜ Room at (length (now bytes)) ⌝ }
-    ensures { λ r. ⌜ r ≡ onwardOf at (now (bytes .entry)) ⌝ }
+    ensures { λ r. ⌜ r ≡ capped (onwardOf at (now (bytes .entry))) ⌝ }
 {
     let mut p = at;
     let mut i = 0;
@@ -48,14 +57,6 @@ pub fn onward(at: Position, bytes: &[u8]) -> Position
         i += 1;
     }
     p
-}
-
-// The position of a later place of a text, from that of an earlier one.
-pub fn later(text: &[u8], at: Position, from: usize, to: usize) -> Position
-    requires { ⌜ (at ≡ position (now text) from) × (from ≤ to) × (to ≤ length (now text)) ⌝ }
-    ensures { λ r. ⌜ r ≡ position (now (text .entry)) to ⌝ }
-{
-    onward(at, &text[from..to])
 }
 
 // The position of a place; past the text's end that of its length.

@@ -2,10 +2,10 @@
 ghost use mathlib.Core.Path.{_≡_};
 ghost use Prim.Native.Nat.{_+_, _≤_};
 ghost use lib.ListN.{length};
-ghost use Rattle.reader.specs.Pass.{Stands, seen as seenOf, seenIn, aheadOf, aheadAt, standing, passed};
+ghost use Rattle.reader.specs.Pass.{seen as seenOf, aheadOf, aheadAt, held, standing, passed};
 ghost use Rattle.tokens.specs.Tokens.{found};
 
-// Line and column are those of the place, moved on with it: each byte is counted once.
+// Line and column are those of the place, moved on with it: each byte is counted once. Whatever they are, reading goes on from them.
 pub struct Reader<'a> {
     pub text: &'a [u8],
     pub at: usize,
@@ -38,12 +38,12 @@ fn token_ahead(
     place: usize,
     long: usize,
 ) -> Ahead
-    requires { ⌜ Stands (now text) at line column × (at ≤ place) × (place + long ≤ length (now text)) ⌝ }
-    ensures { λ a. ⌜ a ≡ aheadAt (now (text .entry)) (found place long) at ⌝ }
+    requires { ⌜ (at ≤ place) × (place + long ≤ length (now text)) ⌝ }
+    ensures { λ a. ⌜ a ≡ aheadAt (now (text .entry)) at (record { line = line; column = column }) (found place long) ⌝ }
 {
-    let here = columns::later(text, columns::Position { line, column }, at, place);
+    let here = columns::onward(columns::Position { line, column }, &text[at..place]);
     let behind = place + long;
-    let there = columns::later(text, here, place, behind);
+    let there = columns::onward(here, &text[place..behind]);
     Ahead {
         seen: Seen::Token(place, long, here.line, here.column),
         behind,
@@ -54,8 +54,7 @@ fn token_ahead(
 
 // The next token from a place on, and its end; where there is none, or a refusal, the place itself.
 fn ahead_from(text: &[u8], at: usize, line: usize, column: usize) -> Ahead
-    requires { ⌜ Stands (now text) at line column ⌝ }
-    ensures { λ a. ⌜ a ≡ aheadOf (now (text .entry)) at ⌝ }
+    ensures { λ a. ⌜ a ≡ aheadOf (now (text .entry)) at (record { line = line; column = column }) ⌝ }
 {
     match tokens::next_token(text, at) {
         tokens::Step::Token(p, l) => token_ahead(text, at, line, column, p, l),
@@ -101,8 +100,7 @@ pub fn moved<'a>(r: Reader<'a>, at: usize) -> Reader<'a>
 
 // The next token, as if reading began at the reader's place.
 pub fn next<'a>(r: Reader<'a>) -> Seen
-    requires { ⌜ Stands (now (r .text)) (r .at) (r .line) (r .column) ⌝ }
-    ensures { λ s. ⌜ s ≡ seenOf (now (r .entry .text)) (r .entry .at) ⌝ }
+    ensures { λ s. ⌜ s ≡ seenOf (now (r .entry .text)) (r .entry .at) (held (r .entry)) ⌝ }
 {
     let ahead = ahead_from(r.text, r.at, r.line, r.column);
     ahead.seen
@@ -110,8 +108,7 @@ pub fn next<'a>(r: Reader<'a>) -> Seen
 
 // The next token, which the reader passes: a loop over this goes through all tokens. Where there is none, or a refusal, the reader stays.
 pub fn pass<'s, 'a>(r: &'s mut Reader<'a>) -> Seen
-    requires { ⌜ Stands (now (now r .text)) (now r .at) (now r .line) (now r .column) ⌝ }
-    ensures { λ s. ⌜ (s ≡ seenOf (now (now (r .entry) .text)) (now (r .entry) .at)) × (now (r .exit) ≡ passed (now (r .entry))) ⌝ }
+    ensures { λ s. ⌜ (s ≡ seenOf (now (now (r .entry) .text)) (now (r .entry) .at) (held (now (r .entry)))) × (now (r .exit) ≡ passed (now (r .entry))) ⌝ }
 {
     let ahead = ahead_from(r.text, r.at, r.line, r.column);
     r.at = ahead.behind;

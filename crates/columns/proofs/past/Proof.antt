@@ -1,21 +1,21 @@
 -- `past` meets its contract: behind an LF a line begins.
-use mathlib.Core.Path.{sym}
 use borrow.Author.Needs.{needs}
-use Rattle.columns.proofs.Laws.{past-lf, past-other}
+use native.Mathlib.Omega.{arith}
+use Rattle.columns.proofs.Laws.{capped-lf, capped-other}
 use Rattle.columns.proofs.past.Statement.{statement}
 use Rattle.columns.proofs.past.Tie as tie
 
-add-t4 : tie.Need-add-t4
-add-t4 c = search needs
+more-requires : tie.Need-more-requires
+more-requires c κs = search needs
 
 returns : tie.Need-returns
-returns c = sym (past-lf _ _ (c .before .if1 .taken))
+returns c = capped-lf _ _ _ (c .before .if1 .taken) (c .more .ensures)
 
-add-t5 : tie.Need-add-t5
-add-t5 c = search needs
+more-requires-2 : tie.Need-more-requires-2
+more-requires-2 c κs = search needs
 
 returns-2 : tie.Need-returns-2
-returns-2 c = sym (past-other _ _ (c .before .if1 .left))
+returns-2 c = capped-other _ _ _ (c .before .if1 .left) (omega arith) (c .more2 .ensures)
 
 pub past-spec : {M : Type 1} → statement M
-past-spec = tie.close (tie.spec add-t4 returns add-t5 returns-2)
+past-spec = tie.close (tie.spec more-requires returns more-requires-2 returns-2)

@@ -1,11 +1,10 @@
--- `position_of` meets its contract: the bytes before the place are gone over from the text's start; no slice is so long that a line's or a column's number would wrap.
+-- `position_of` meets its contract: the bytes before the place are gone over from the text's start; no slice is so long that a line's or a column's number would be too large.
 use native.Mathlib.Omega.{arith}
-use mathlib.Core.Path.{sym, _∙_, subst}
-use lib.ListN.{length, take, length-take}
+use mathlib.Core.Path.{sym, _∙_, ap}
 use lib.Seq.{length-take-le}
 use borrow.Author.Needs.{needs}
-use Rattle.columns.specs.Columns.{Room}
-use Rattle.columns.proofs.Laws.{from-start, from-start-over, room-from-start}
+use Rattle.columns.specs.Columns.{capped}
+use Rattle.columns.proofs.Laws.{from-start, from-start-over, capped-kept, position-kept}
 use Rattle.columns.proofs.position_of.Statement.{statement}
 use Rattle.columns.proofs.position_of.Tie as tie
 
@@ -18,24 +17,23 @@ slice-aggregate-onward c =
     sym (length-take-le (a .place) (a .text .now) (omega arith))
 
 onward-requires : tie.Need-onward-requires
-onward-requires c κs =
-    let entry = c .before .before .before .before in
-    subst (λ q. Room q (length (take (entry .args .place) (entry .args .text .now)))) (sym (c .before .start .ensures)) (room-from-start _ (entry .good .0 .1) _ (omega (arith, length-take (entry .args .place) (entry .args .text .now))))
+onward-requires c κs = search needs
 
 returns : tie.Need-returns
-returns c = c .onward .ensures ∙ from-start _ _ _ (c .before .before .start .ensures)
+returns c =
+    let entry = c .before .before .before .before .before in
+    c .onward .ensures ∙ ap capped (from-start _ _ _ (c .before .before .start .ensures)) ∙ sym (capped-kept _ (position-kept _ _ (entry .good .0 .1)))
 
 start-requires-2 : tie.Need-start-requires-2
 start-requires-2 c κs = search needs
 
 onward-requires-2 : tie.Need-onward-requires-2
-onward-requires-2 c κs =
-    subst (λ q. Room q (length (c .before .before .before .args .text .now))) (sym (c .start2 .ensures)) (room-from-start _ (c .before .before .before .good .0 .1) _ (omega arith))
+onward-requires-2 c κs = search needs
 
 returns-2 : tie.Need-returns-2
 returns-2 c =
-    let a = c .before .before .before .before .args in
-    c .onward2 .ensures ∙ from-start-over (a .text .now) (a .place) _ (c .before .start2 .ensures) (omega arith)
+    let entry = c .before .before .before .before in
+    c .onward2 .ensures ∙ ap capped (from-start-over (entry .args .text .now) (entry .args .place) _ (c .before .start2 .ensures) (omega arith)) ∙ sym (capped-kept _ (position-kept _ _ (entry .good .0 .1)))
 
 pub position-of-spec : {M : Type 1} → statement M
 position-of-spec =
