@@ -2,7 +2,7 @@
 ghost use mathlib.Core.Path.{_≡_};
 ghost use Prim.Native.Nat.{_≤_};
 ghost use lib.ListN.{length};
-ghost use Rattle.stil.specs.Found.{SomeFound};
+ghost use Rattle.verdicts.specs.Found.{SomeFound};
 ghost use Rattle.sections.specs.Listing.{frontMost};
 ghost use Rattle.listing.specs.Pages.{fitting as fittingOf, Begins, GoesOn};
 use sections::Page;
@@ -32,7 +32,7 @@ fn shown<'a>(
     requires { ⌜ (frontMost ≤ length (now page)) × SomeFound (now text) (now places) (now lists) (now tplaces) (now waves) (now book) (now rows) (now list) (now used) v ⌝ }
     ensures { λ r. ⌜ Begins (now (text .entry)) (now (page .entry)) r (now (page .exit)) ⌝ }
 {
-    let f = stil::failing(
+    let f = verdicts::failing(
         text,
         places,
         lists,
@@ -91,7 +91,7 @@ pub fn begin(text: &[u8], page: &mut [u8]) -> Page
         &mut book,
         &mut rows,
         &mut list,
-        stil::nowhere(),
+        verdicts::nowhere(),
         &mut used,
     );
     if v.no != 0 {

@@ -6,10 +6,10 @@ use mathlib.Core.List.{List}
 use Rattle.meaning.specs.Refusals.{noSuch}
 use Rattle.meaning.specs.Meaning.{Answer, given, refused, answering, Meaning, meaning}
 use Rattle.meaning.specs.Services.{check, nameOf}
-use Rattle.stil.specs.Answers.{whichOf}
-use Rattle.stil.specs.Judged.{namedOf, countsIn, Tells, Judges}
-use Rattle.stil.specs.declared.Wanted.{Wanted}
-use Rattle.stil.specs.declared.Judged.{Judged}
+use Rattle.verdicts.specs.Judged.{whichOf}
+use Rattle.verdicts.specs.Judged.{namedOf, countsIn, Tells, Judges}
+use Rattle.verdicts.specs.declared.Wanted.{Wanted}
+use Rattle.verdicts.specs.declared.Judged.{Judged}
 
 module _ {text : List ℕ} {w : Wanted} {r : Judged} (j : Judges text w r) where
   -- a refusal is every service's

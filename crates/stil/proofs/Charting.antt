@@ -16,10 +16,10 @@ use Rattle.charts.specs.declared.Served.{Served}
 use Rattle.stil.specs.Answers.{afterwards}
 use Rattle.stil.specs.Interface.{withRoom, fronted}
 use Rattle.stil.specs.Views.{spared}
-use Rattle.stil.specs.Judged.{Judges}
+use Rattle.verdicts.specs.Judged.{Judges}
 use Rattle.stil.specs.Charts.{chartedOf, Plots, chartNumber, chartTold, Sketches}
-use Rattle.stil.specs.declared.Wanted.{Wanted}
-use Rattle.stil.specs.declared.Judged.{Judged}
+use Rattle.verdicts.specs.declared.Wanted.{Wanted}
+use Rattle.verdicts.specs.declared.Judged.{Judged}
 use Rattle.stil.specs.declared.Charted.{Charted}
 use Rattle.stil.specs.declared.Charted.the-variants.{Drawn, Stopped, Refused}
 use Rattle.stil.proofs.Viewing.{spared-all}

@@ -33,14 +33,14 @@ use Rattle.index.specs.Lines.{Lists, indexIn, heldOf}
 use Rattle.index.specs.declared.Held.{Held}
 use Rattle.index.proofs.Names.{tables-few, listed-few}
 use Rattle.stil.specs.Answers.{afterwards}
-use Rattle.stil.specs.Found.{Plays}
+use Rattle.verdicts.specs.Found.{Plays}
 use Rattle.stil.specs.Views.{spared}
 use Rattle.stil.specs.Indexes.{Stands, Rebuilds, indexedOf, Indexes, Writes}
 use Rattle.stil.specs.Interface.{withRoom, packed, fronted, Hands}
 use Rattle.stil.specs.declared.Rebuilt.{Rebuilt}
 use Rattle.stil.specs.declared.Indexed.{Indexed}
 use Rattle.stil.specs.declared.Indexed.the-variants.{Written, Refused}
-use Rattle.stil.proofs.Found.{meantBy, meaning-refused, meaning-failing, meaning-given}
+use Rattle.verdicts.proofs.Found.{meantBy, meaning-refused, meaning-failing, meaning-given}
 use Rattle.stil.proofs.Viewing.{room, spared-room}
 use Rattle.stil.proofs.Handing.{hands-none, hands-all}
 use Rattle.stil.proofs.Opening.{spared-none}

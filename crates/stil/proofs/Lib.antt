@@ -1,6 +1,3 @@
-mod Naming
-pub mod Found
-mod Judging
 mod Viewing
 mod Answering
 mod Outlining

@@ -14,10 +14,10 @@ use Rattle.meaning.specs.Services.{waveOf, eventsOut, waveform}
 use Rattle.waves.specs.Waves.{EntryAt, Reads}
 use Rattle.waves.proofs.Entries.{entry-found}
 use Rattle.waves.proofs.Fronts.{times-front, letters-front}
-use Rattle.stil.specs.Judged.{Judges}
+use Rattle.verdicts.specs.Judged.{Judges}
 use Rattle.stil.specs.Waveforms.{eventsOf, Outlines}
-use Rattle.stil.specs.declared.Wanted.{Wanted}
-use Rattle.stil.specs.declared.Judged.{Judged}
+use Rattle.verdicts.specs.declared.Wanted.{Wanted}
+use Rattle.verdicts.specs.declared.Judged.{Judged}
 use Rattle.stil.proofs.Answering.{answer-refused, answer-given, tells}
 
 -- the service is the events, and then 19

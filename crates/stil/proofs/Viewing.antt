@@ -23,7 +23,7 @@ use Rattle.windows.specs.Run.{Accepts, Windows}
 use Rattle.stil.specs.Answers.{afterwards}
 use Rattle.stil.specs.Views.{spared, Views}
 use Rattle.stil.specs.declared.Shown.the-variants.{Rows, Refused}
-use Rattle.stil.proofs.Found.{meantBy, runs, signals-counted, counts-met}
+use Rattle.verdicts.proofs.Found.{meantBy, runs, signals-counted, counts-met}
 
 -- ---- as the service answers it
 

@@ -1,9 +1,8 @@
 -- The services' answers, case by case, as the definitions' answers: document 01's numbers and values; and the lent buffers afterwards.
 use Prim.Native.Nat.{ℕ}
-use mathlib.Core.Bool.{Bool, true, false}
 use mathlib.Core.List.{List}
 use Rattle.meaning.specs.Meaning.{Answer, given, refused}
-use Rattle.meaning.specs.Services.{Counts, Which, signal, table, Window, Waveform}
+use Rattle.meaning.specs.Services.{Counts, Window, Waveform}
 use Rattle.stil.specs.declared.Checked.{Checked}
 use Rattle.stil.specs.declared.Checked.the-variants.{Counted, Refused as CheckRefused}
 use Rattle.stil.specs.declared.Located.{Located}
@@ -19,10 +18,6 @@ checkedOf (Counted s t l c z) = given (record { signals = s; tables = t; listed 
 checkedOf (CheckRefused n p) = refused n p
 
 -- Name
-abbrev pub whichOf : Bool → Which
-whichOf true = table
-whichOf false = signal
-
 abbrev pub locatedOf : Located → Answer (ℕ × ℕ)
 locatedOf (Found at length) = given (at, length)
 locatedOf (NameRefused n p) = refused n p

@@ -1,6 +1,4 @@
 pub mod Answers
-pub mod Found
-pub mod Judged
 pub mod Views
 pub mod Calls
 pub mod Waveforms

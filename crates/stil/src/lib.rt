@@ -9,20 +9,18 @@ ghost use lib.Dec.{eqb};
 ghost use Rattle.tokens.specs.Tokens.{nextToken};
 ghost use Rattle.columns.specs.Columns.{position};
 ghost use Rattle.intake.specs.Intake.{chunked, closed as closedOf};
-ghost use Rattle.meaning.specs.Bounds.{signalsMost, tablesMost, entryMost};
-ghost use Rattle.meaning.specs.Meaning.{given, firsts};
-ghost use Rattle.meaning.specs.Services.{check as checkOf, nameAt, nameOf, badMark, window as windowOf, waveform as waveformOf};
+ghost use Rattle.meaning.specs.Bounds.{entryMost};
+ghost use Rattle.meaning.specs.Meaning.{given};
+ghost use Rattle.meaning.specs.Services.{check as checkOf, nameOf, badMark, window as windowOf, waveform as waveformOf};
 ghost use Rattle.meaning.specs.Charts.{waveforms as waveformsOf};
-ghost use Rattle.words.specs.Table.{names};
-ghost use Rattle.timing.specs.Marks.{tableSize};
 ghost use Rattle.timing.specs.declared.Watch.{Watch};
-ghost use Rattle.texts.specs.Tables.{Found, NotesSound};
+ghost use Rattle.texts.specs.Tables.{Found};
 ghost use Rattle.texts.specs.Told.{packedRefusal};
 ghost use Rattle.index.specs.Index.{index as indexOf, belongs as belongsTo, holds as holdsIn};
 ghost use Rattle.index.specs.Lines.{indexMost};
-ghost use Rattle.stil.specs.Answers.{checkedOf, whichOf, locatedOf};
-ghost use Rattle.stil.specs.Judged.{namedOf, numbered, Judges, Copies};
-ghost use Rattle.stil.specs.Found.{noWaveform, SomeFound, Plays};
+ghost use Rattle.stil.specs.Answers.{checkedOf, locatedOf};
+ghost use Rattle.verdicts.specs.Judged.{whichOf};
+ghost use Rattle.verdicts.specs.Found.{SomeFound};
 ghost use Rattle.stil.specs.Views.{spared, Views};
 ghost use Rattle.stil.specs.Waveforms.{Outlines, Shapes};
 ghost use Rattle.stil.specs.Charts.{Plots, Sketches};
@@ -35,6 +33,7 @@ use intake::Progress;
 use plays::Failing;
 use texts::Verdict;
 use timing::Watch;
+use verdicts::Wanted;
 
 const TEXT_MOST: usize = 65_536;
 
@@ -50,35 +49,6 @@ const NO_SUCH: u8 = 18;
 const NO_ROOM: u8 = 19;
 
 const NOT_THE_INDEX: u8 = 21;
-
-// What is wanted of a text beside its counts: a name by its number, and where a waveform stands.
-struct Wanted {
-    table: bool,
-    number: usize,
-    watch: Watch,
-}
-
-// A name by its number, if there is one (`named`): its place in the text, and its length.
-struct Named {
-    named: bool,
-    at: usize,
-    length: usize,
-}
-
-// The refusal's number, 0 for none, and its place; or else the counts, the name that is wanted, and where the waveform's entry stands (`found`: there is
-// one).
-struct Judged {
-    no: u8,
-    place: usize,
-    signals: usize,
-    tables: usize,
-    listed: usize,
-    cycles: usize,
-    size: usize,
-    name: Named,
-    found: bool,
-    entry: usize,
-}
 
 // The refusal's number, 0 for none, and its place; or else how many events there are.
 struct Outline {
@@ -147,299 +117,13 @@ pub enum Holding {
     Refused(u8, usize),
 }
 
-// ---- a name by its number
-
-fn nameless() -> Named
-    ensures { λ r. ⌜ r .named ≡ false ⌝ }
-{
-    Named {
-        named: false,
-        at: 0,
-        length: 0,
-    }
-}
-
-// Of `count` names.
-fn name_at<'a>(text: &'a [u8], places: &'a [usize], count: usize, number: usize) -> Named
-    requires { ⌜ count ≤ signalsMost ⌝ }
-    ensures { λ r. ⌜ nameAt (firsts (names (now (text .entry)) (now (places .entry)) count)) number ≡ namedOf r ⌝ }
-{
-    if count <= number {
-        return nameless();
-    }
-    let word = words::name_bytes(text, places, number);
-    Named {
-        named: true,
-        at: words::number_at(places, number * 2),
-        length: word.len(),
-    }
-}
-
-// Of the tables, or of the signals.
-fn name_of<'a>(
-    text: &'a [u8],
-    places: &'a [usize],
-    tplaces: &'a [usize],
-    signals: usize,
-    tables: usize,
-    table: bool,
-    number: usize,
-) -> Named
-    requires { ⌜ (signals ≤ signalsMost) × (tables ≤ tablesMost) ⌝ }
-    ensures { λ r. ⌜ nameAt (numbered table (now (text .entry)) (now (places .entry)) (now (tplaces .entry)) signals tables) number ≡ namedOf r ⌝ }
-{
-    if table {
-        return name_at(text, tplaces, tables, number);
-    }
-    name_at(text, places, signals, number)
-}
-
-// ---- any text, judged once: 1 to 17
-
-fn refused(no: u8, place: usize) -> Judged
-    ensures { λ r. ⌜ (r .no ≡ no) × (r .place ≡ place) ⌝ }
-{
-    Judged {
-        no,
-        place,
-        signals: 0,
-        tables: 0,
-        listed: 0,
-        cycles: 0,
-        size: 0,
-        name: nameless(),
-        found: false,
-        entry: 0,
-    }
-}
-
-// What is told of a text that is not refused.
-fn told<'a>(
-    text: &'a [u8],
-    places: &'a [usize],
-    tplaces: &'a [usize],
-    v: Verdict,
-    wanted: Wanted,
-) -> Judged
-    requires { ⌜ (v .parts .signals ≤ signalsMost) × (v .parts .known .tables ≤ tablesMost) ⌝ }
-    ensures { λ r. ⌜ Copies (now (text .entry)) (now (places .entry)) (now (tplaces .entry)) v wanted r ⌝ }
-{
-    let parts = v.parts;
-    let total = v.total;
-    let known = parts.known;
-    let signals = parts.signals;
-    let tables = known.tables;
-    let name = name_of(
-        text,
-        places,
-        tplaces,
-        signals,
-        tables,
-        wanted.table,
-        wanted.number,
-    );
-    Judged {
-        no: 0,
-        place: 0,
-        signals,
-        tables,
-        listed: parts.listed,
-        cycles: total.cycles,
-        size: total.size,
-        name,
-        found: parts.found,
-        entry: parts.place,
-    }
-}
-
-// The first cycle of a text's run that fails. Where the sums of its bodies show that none does, nothing is played; else they tell which of them can be passed.
-fn summed<'a>(
-    text: &'a [u8],
-    places: &'a [usize],
-    lists: &'a [u16],
-    tplaces: &'a [usize],
-    waves: &'a [u8],
-    book: &'a [usize],
-    rows: &'a [u16],
-    list: &'a [usize],
-    v: Verdict,
-) -> Failing
-    requires { ⌜ ((w : Watch) × Found (now text) w (now places) (now lists) (now tplaces) (now waves) (now book) (now rows) (now list) v) ⌝ }
-    ensures { λ r. ⌜ Plays (now (text .entry)) (now (places .entry)) (now (lists .entry)) (now (tplaces .entry)) (now (waves .entry)) (now (book .entry)) (now (rows .entry)) (now (list .entry)) v r ⌝ }
-{
-    let parts = v.parts;
-    let known = parts.known;
-    let mut marks = [0u8; measures::BODIES];
-    let mut sums = [0u8; grants::SUMS];
-    let granted = grants::granted(
-        text,
-        places,
-        lists,
-        tplaces,
-        book,
-        rows,
-        waves,
-        list,
-        known,
-        parts.signals,
-        parts.listed,
-        parts.patterns,
-        &mut marks,
-        &mut sums,
-    );
-    if granted {
-        return Failing {
-            failed: false,
-            place: 0,
-        };
-    }
-    plays::first_failing(
-        text,
-        places,
-        lists,
-        tplaces,
-        book,
-        rows,
-        waves,
-        &marks,
-        &sums,
-        list,
-        known,
-        parts.signals,
-        parts.listed,
-        parts.patterns,
-    )
-}
-
-// The first cycle of a text's run that fails, where 1 to 16 leave the text. Most texts are plain, and none of theirs does.
-pub fn failing<'a>(
-    text: &'a [u8],
-    places: &'a [usize],
-    lists: &'a [u16],
-    tplaces: &'a [usize],
-    waves: &'a [u8],
-    book: &'a [usize],
-    rows: &'a [u16],
-    list: &'a [usize],
-    used: &'a [u8],
-    v: Verdict,
-) -> Failing
-    requires { ⌜ SomeFound (now text) (now places) (now lists) (now tplaces) (now waves) (now book) (now rows) (now list) (now used) v ⌝ }
-    ensures { λ r. ⌜ Plays (now (text .entry)) (now (places .entry)) (now (lists .entry)) (now (tplaces .entry)) (now (waves .entry)) (now (book .entry)) (now (rows .entry)) (now (list .entry)) v r ⌝ }
-{
-    let parts = v.parts;
-    if !grants::plain(
-        text,
-        book,
-        list,
-        waves,
-        used,
-        parts.known,
-        parts.listed,
-        parts.patterns,
-    ) {
-        return summed(text, places, lists, tplaces, waves, book, rows, list, v);
-    }
-    Failing {
-        failed: false,
-        place: 0,
-    }
-}
-
-// A text that 1 to 16 leave: 17, or what is wanted of it.
-fn play<'a>(
-    text: &'a [u8],
-    places: &'a [usize],
-    lists: &'a [u16],
-    tplaces: &'a [usize],
-    waves: &'a [u8],
-    book: &'a [usize],
-    rows: &'a [u16],
-    list: &'a [usize],
-    used: &'a [u8],
-    v: Verdict,
-    wanted: Wanted,
-) -> Judged
-    requires { ⌜ Found (now text) (wanted .watch) (now places) (now lists) (now tplaces) (now waves) (now book) (now rows) (now list) v × NotesSound (now text) (now used) v × (length (now used) ≡ tableSize) ⌝ }
-    ensures { λ r. ⌜ Judges (now (text .entry)) wanted r ⌝ }
-{
-    let f = failing(
-        text,
-        places,
-        lists,
-        tplaces,
-        waves,
-        book,
-        rows,
-        list,
-        used,
-        v,
-    );
-    if f.failed {
-        return refused(NOT_PLAYABLE, f.place);
-    }
-    told(text, places, tplaces, v, wanted)
-}
-
-fn judge(text: &[u8], wanted: Wanted) -> Judged
-    ensures { λ r. ⌜ Judges (now (text .entry)) wanted r ⌝ }
-{
-    let mut places = [0usize; signals::PLACES];
-    let mut lists = [0u16; signals::LISTS];
-    let mut tplaces = [0usize; timing::PLACES];
-    let mut waves = [0u8; timing::WAVES];
-    let mut book = [0usize; measures::BOOK];
-    let mut rows = [0u16; measures::ROWS];
-    let mut list = [0usize; bursts::LISTED];
-    let mut used = [0u8; noted::USED];
-    let v = texts::decide(
-        text,
-        &mut places,
-        &mut lists,
-        &mut tplaces,
-        &mut waves,
-        &mut book,
-        &mut rows,
-        &mut list,
-        wanted.watch,
-        &mut used,
-    );
-    if v.no != 0 {
-        return refused(v.no, v.place);
-    }
-    play(
-        text,
-        &places,
-        &lists,
-        &tplaces,
-        &waves,
-        &book,
-        &rows,
-        &list,
-        &used,
-        v,
-        wanted,
-    )
-}
-
 // ---- Check
-
-// A waveform that no text has.
-pub fn nowhere() -> Watch
-    ensures { λ r. ⌜ r ≡ noWaveform ⌝ }
-{
-    Watch {
-        table: timing::TABLES,
-        signal: 0,
-        char: 0,
-    }
-}
 
 pub fn check(text: &[u8]) -> Checked
     ensures { λ r. ⌜ checkedOf r ≡ checkOf (now (text .entry)) ⌝ }
 {
-    let watch = nowhere();
-    let j = judge(
+    let watch = verdicts::nowhere();
+    let j = verdicts::judge(
         text,
         Wanted {
             table: false,
@@ -459,8 +143,8 @@ pub fn check(text: &[u8]) -> Checked
 pub fn name(text: &[u8], table: bool, number: usize) -> Located
     ensures { λ r. ⌜ locatedOf r ≡ nameOf (now (text .entry)) (whichOf table) number ⌝ }
 {
-    let watch = nowhere();
-    let j = judge(
+    let watch = verdicts::nowhere();
+    let j = verdicts::judge(
         text,
         Wanted {
             table,
@@ -524,7 +208,7 @@ fn view<'a>(
 {
     let parts = v.parts;
     let total = v.total;
-    let f = failing(
+    let f = verdicts::failing(
         text,
         places,
         lists,
@@ -596,7 +280,7 @@ fn viewed(
         &mut book,
         &mut rows,
         &mut list,
-        nowhere(),
+        verdicts::nowhere(),
         &mut used,
     );
     if v.no != 0 {
@@ -647,7 +331,7 @@ fn events(
         signal,
         char,
     };
-    let j = judge(
+    let j = verdicts::judge(
         text,
         Wanted {
             table: false,
@@ -715,8 +399,8 @@ fn plotted(
 ) -> Charted
     ensures { λ r. ⌜ Plots (spared spare (waveformsOf (now (text .entry)) (now (asked .entry)) (now (times .entry)) (now (letters .entry)) (now (counts .entry)))) (now (times .entry)) (now (times .exit)) (now (letters .entry)) (now (letters .exit)) (now (counts .entry)) (now (counts .exit)) r ⌝ }
 {
-    let watch = nowhere();
-    let j = judge(
+    let watch = verdicts::nowhere();
+    let j = verdicts::judge(
         text,
         Wanted {
             table: false,
@@ -777,7 +461,7 @@ fn rebuild_found<'a>(
 {
     let parts = v.parts;
     let known = parts.known;
-    let f = failing(
+    let f = verdicts::failing(
         text,
         places,
         lists,
@@ -847,7 +531,7 @@ fn rebuild(text: &[u8], cycle: usize, page: &mut [u8]) -> Rebuilt
         &mut book,
         &mut rows,
         &mut list,
-        nowhere(),
+        verdicts::nowhere(),
         &mut used,
     );
     if v.no != 0 {

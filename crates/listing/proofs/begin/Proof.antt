@@ -1,7 +1,7 @@
 -- `begin` meets its contract: a small page stays; arrays of zeros are blank; a text is refused as it is decided, or shown.
 use mathlib.Core.Path.{refl}
 use Rattle.declared.proofs.Numbers.{zeros}
-use Rattle.stil.proofs.Found.{meaning-refused}
+use Rattle.verdicts.proofs.Found.{meaning-refused}
 use Rattle.listing.proofs.Beginning.{begins-refused, begins-small}
 use borrow.Author.Needs.{needs}
 use Rattle.listing.proofs.begin.Statement.{statement}

@@ -2,7 +2,7 @@
 use native.Mathlib.Omega.{arith}
 use mathlib.Core.Path.{refl, sym, _∙_}
 use borrow.Author.Needs.{needs}
-use Rattle.stil.proofs.Found.{meaning-failing, meaning-given}
+use Rattle.verdicts.proofs.Found.{meaning-failing, meaning-given}
 use Rattle.stil.proofs.Viewing.{bytes-fit, few-due, accepts, view-refused, view-unmarked, view-full, view-given}
 use Rattle.stil.proofs.view.Statement.{statement}
 use Rattle.stil.proofs.view.Tie as tie

@@ -2,7 +2,7 @@
 use mathlib.Core.Path.{refl}
 use borrow.Author.Needs.{needs}
 use Rattle.declared.proofs.Numbers.{zeros}
-use Rattle.stil.proofs.Found.{meaning-refused}
+use Rattle.verdicts.proofs.Found.{meaning-refused}
 use Rattle.stil.proofs.Viewing.{view-refused}
 use Rattle.stil.proofs.viewed.Statement.{statement}
 use Rattle.stil.proofs.viewed.Tie as tie

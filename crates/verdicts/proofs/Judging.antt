@@ -11,11 +11,11 @@ use Rattle.texts.specs.Texts.{sound}
 use Rattle.texts.specs.Tables.{Found}
 use Rattle.texts.specs.declared.Verdict.{Verdict}
 use Rattle.plays.specs.declared.Failing.{Failing}
-use Rattle.stil.specs.Found.{Plays}
-use Rattle.stil.specs.Judged.{Judges, Copies}
-use Rattle.stil.specs.declared.Wanted.{Wanted}
-use Rattle.stil.specs.declared.Judged.{Judged}
-use Rattle.stil.proofs.Found.{meantBy, meaning-refused, meaning-failing, meaning-given, names-are, counts-met}
+use Rattle.verdicts.specs.Found.{Plays}
+use Rattle.verdicts.specs.Judged.{Judges, Copies}
+use Rattle.verdicts.specs.declared.Wanted.{Wanted}
+use Rattle.verdicts.specs.declared.Judged.{Judged}
+use Rattle.verdicts.proofs.Found.{meantBy, meaning-refused, meaning-failing, meaning-given, names-are, counts-met}
 
 pub judged-refused : {text : List ℕ} {n p : ℕ} {w : Wanted} {r : Judged} → sound text ≡ refused n p → (n ≡ 0 → ⊥) → (r .no ≡ n) × (r .place ≡ p) → Judges text w r
 judged-refused {text} e z k = record { refuses = λ h. meaning-refused text e ∙ rw (k .0, k .1); accepts = λ h. absurd (z (sym (k .0) ∙ h)) }

@@ -1,8 +1,8 @@
 -- `play` meets its contract: a cycle of the run that fails refuses the text, or it is accepted.
 use borrow.Author.Needs.{needs}
-use Rattle.stil.proofs.Judging.{failing-judged, played-judged}
-use Rattle.stil.proofs.play.Statement.{statement}
-use Rattle.stil.proofs.play.Tie as tie
+use Rattle.verdicts.proofs.Judging.{failing-judged, played-judged}
+use Rattle.verdicts.proofs.play.Statement.{statement}
+use Rattle.verdicts.proofs.play.Tie as tie
 
 failing-requires : tie.Need-failing-requires
 failing-requires c κs = search needs

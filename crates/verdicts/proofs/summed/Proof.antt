@@ -5,9 +5,9 @@ use lib.ListN.{length-replicate}
 use borrow.Author.Needs.{needs}
 use Rattle.declared.proofs.Numbers.{zeros}
 use Rattle.plays.proofs.Texts.{decides-sound}
-use Rattle.stil.proofs.Found.{runs}
-use Rattle.stil.proofs.summed.Statement.{statement}
-use Rattle.stil.proofs.summed.Tie as tie
+use Rattle.verdicts.proofs.Found.{runs}
+use Rattle.verdicts.proofs.summed.Statement.{statement}
+use Rattle.verdicts.proofs.summed.Tie as tie
 
 slice-aggregate-granted : tie.Need-slice-aggregate-granted
 slice-aggregate-granted c = search needs

@@ -1,9 +1,9 @@
 -- `failing` meets its contract: no cycle of a plain text fails, and any other is summed up.
 use Rattle.meaning.proofs.Gives.{no-not}
 use Rattle.plays.proofs.Texts.{decides-sound}
-use Rattle.stil.proofs.Found.{runs}
-use Rattle.stil.proofs.failing.Statement.{statement}
-use Rattle.stil.proofs.failing.Tie as tie
+use Rattle.verdicts.proofs.Found.{runs}
+use Rattle.verdicts.proofs.failing.Statement.{statement}
+use Rattle.verdicts.proofs.failing.Tie as tie
 
 plain-requires : tie.Need-plain-requires
 plain-requires c κs =

@@ -1,7 +1,7 @@
 -- `name_of` meets its contract: a table's name, or a signal's.
 use borrow.Author.Needs.{needs}
-use Rattle.stil.proofs.name_of.Statement.{statement}
-use Rattle.stil.proofs.name_of.Tie as tie
+use Rattle.verdicts.proofs.name_of.Statement.{statement}
+use Rattle.verdicts.proofs.name_of.Tie as tie
 
 name-at-requires : tie.Need-name-at-requires
 name-at-requires c κs = search needs

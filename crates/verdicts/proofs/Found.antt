@@ -19,10 +19,10 @@ use Rattle.texts.proofs.Sounds.{sound-runs}
 use Rattle.texts.proofs.Deciding.{counted}
 use Rattle.plays.specs.Run.{Runs}
 use Rattle.plays.specs.declared.Failing.{Failing}
-use Rattle.stil.specs.Answers.{whichOf}
-use Rattle.stil.specs.Found.{Plays}
-use Rattle.stil.specs.Judged.{numbered}
-use Rattle.stil.proofs.Naming.{firsts-named}
+use Rattle.verdicts.specs.Judged.{whichOf}
+use Rattle.verdicts.specs.Found.{Plays}
+use Rattle.verdicts.specs.Judged.{numbered}
+use Rattle.verdicts.proofs.Naming.{firsts-named}
 
 -- 1 to 16 are the meaning's
 pub meaning-refused : (text : List ℕ) {n p : ℕ} → sound text ≡ refused n p → meaning text ≡ refused n p

@@ -2,9 +2,9 @@
 use mathlib.Core.Path.{refl}
 use borrow.Author.Needs.{needs}
 use Rattle.declared.proofs.Numbers.{zeros}
-use Rattle.stil.proofs.Judging.{judged-refused}
-use Rattle.stil.proofs.judge.Statement.{statement}
-use Rattle.stil.proofs.judge.Tie as tie
+use Rattle.verdicts.proofs.Judging.{judged-refused}
+use Rattle.verdicts.proofs.judge.Statement.{statement}
+use Rattle.verdicts.proofs.judge.Tie as tie
 
 slice-aggregate-decide : tie.Need-slice-aggregate-decide
 slice-aggregate-decide c = search needs

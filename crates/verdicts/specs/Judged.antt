@@ -6,14 +6,18 @@ use mathlib.Core.List.{List}
 use Rattle.tokens.specs.Tokens.{Tok}
 use Rattle.meaning.specs.Refusals.{noSuch}
 use Rattle.meaning.specs.Meaning.{Answer, given, refused, tableAt, firsts, Meaning, meaning}
-use Rattle.meaning.specs.Services.{Counts, counts, nameAt, namesOf}
+use Rattle.meaning.specs.Services.{Counts, counts, Which, signal, table, nameAt, namesOf}
 use Rattle.words.specs.Table.{names}
 use Rattle.timing.specs.Watch.{Watched}
 use Rattle.texts.specs.declared.Verdict.{Verdict}
-use Rattle.stil.specs.declared.Wanted.{Wanted}
-use Rattle.stil.specs.declared.Named.{Named}
-use Rattle.stil.specs.declared.Judged.{Judged}
-use Rattle.stil.specs.Answers.{whichOf}
+use Rattle.verdicts.specs.declared.Wanted.{Wanted}
+use Rattle.verdicts.specs.declared.Named.{Named}
+use Rattle.verdicts.specs.declared.Judged.{Judged}
+
+-- the names of tables, or of signals
+abbrev pub whichOf : Bool → Which
+whichOf true = table
+whichOf false = signal
 
 -- a name's place and length, or that there is none
 abbrev pub namedOf : Named → Answer (ℕ × ℕ)

@@ -1,9 +1,9 @@
 -- `name_at` meets its contract: the name of that number is there, or there are fewer.
 use native.Mathlib.Omega.{arith}
 use borrow.Author.Needs.{needs}
-use Rattle.stil.proofs.Naming.{name-there, name-missing}
-use Rattle.stil.proofs.name_at.Statement.{statement}
-use Rattle.stil.proofs.name_at.Tie as tie
+use Rattle.verdicts.proofs.Naming.{name-there, name-missing}
+use Rattle.verdicts.proofs.name_at.Statement.{statement}
+use Rattle.verdicts.proofs.name_at.Tie as tie
 
 nameless-requires : tie.Need-nameless-requires
 nameless-requires c κs = search needs

@@ -1,0 +1,3 @@
+mod Naming
+pub mod Found
+mod Judging
