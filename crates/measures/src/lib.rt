@@ -33,9 +33,9 @@ pub const ENTRIES: usize = 81;
 
 pub const BOOK: usize = 567;
 
-pub const ROW: usize = 128;
+pub const ROW: usize = sets::MOST * 2;
 
-pub const ROWS: usize = 8_192;
+pub const ROWS: usize = BODIES * ROW;
 
 const NUMBERS: usize = 5;
 

@@ -1,6 +1,6 @@
 -- `read_all` meets its contract: arrays of zeros are blank, and what reading them full promises is told.
 use mathlib.Core.Path.{refl, _∙_}
-use Rattle.declared.proofs.Numbers.{zeros, told-refused, told-read}
+use Rattle.declared.proofs.Numbers.{blank-waves, told-refused, told-read}
 use borrow.Author.Needs.{needs}
 use Rattle.declared.proofs.read_all.Statement.{statement}
 use Rattle.declared.proofs.read_all.Tie as tie
@@ -25,7 +25,7 @@ declarations-requires c κs = record {
   sized = record { all = refl; rows = refl };
   tables = refl;
   marks = refl;
-  unset = zeros 65_536;
+  unset = blank-waves;
 }
 
 cast-refused : tie.Need-cast-refused
