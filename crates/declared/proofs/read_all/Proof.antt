@@ -28,16 +28,13 @@ declarations-requires c κs = record {
   unset = blank-waves;
 }
 
-cast-refused : tie.Need-cast-refused
-cast-refused c = search needs
-
 refused-requires : tie.Need-refused-requires
 refused-requires c κs = search needs
 
 returns : tie.Need-returns
 returns c =
-    let read = c .before .before .before .before .before .before .before .before .before in
-    c .refused .ensures ∙ told-refused (read .before .before .before .before .before .cursor-at .ensures) (read .declarations .ensures) (c .before .before .if1 .taken)
+    let read = c .before .before .before .before .before .before .before .before in
+    c .refused .ensures ∙ told-refused (read .before .before .before .before .before .cursor-at .ensures) (read .declarations .ensures) (c .before .if1 .taken)
 
 returns-2 : tie.Need-returns-2
 returns-2 c =
@@ -54,7 +51,6 @@ read-all-spec =
     slice-aggregate-declarations-3
     slice-aggregate-declarations-4
     declarations-requires
-    cast-refused
     refused-requires
     returns
     returns-2)
