@@ -46,10 +46,10 @@ enum {
     LUTEMETEOR_TEXT_MOST = 65536,  /* bytes of a text */
     LUTEMETEOR_RAW_MOST = 1048576, /* bytes of a raw text, for the intake */
     LUTEMETEOR_STATE = 6,          /* numbers of an intake's state */
-    LUTEMETEOR_SIGNALS_MOST = 64,
+    LUTEMETEOR_SIGNALS_MOST = 256,
     LUTEMETEOR_TABLES_MOST = 8,
     LUTEMETEOR_NAME_MOST = 32,   /* bytes of a name */
-    LUTEMETEOR_ROW_MOST = 66,    /* bytes of a row: a character for each signal, the table's digit, and LF */
+    LUTEMETEOR_ROW_MOST = 258,   /* bytes of a row: a character for each signal, the table's digit, and LF */
     LUTEMETEOR_EVENTS_MOST = 16, /* events of one waveform */
     LUTEMETEOR_CHART_MOST = 64,  /* waveforms of one list */
     LUTEMETEOR_INDEX_MOST = 1357 /* bytes of an index */
@@ -101,7 +101,7 @@ static inline size_t lutemeteor_place(uint64_t answer)
 /*
  * Check: is the text sound, and how much is in it?
  *
- *   numbers[0]   signals, 1 to 64
+ *   numbers[0]   signals, 1 to 256
  *   numbers[1]   tables (WaveformTable blocks), 1 to 8
  *   numbers[2]   listed patterns (entries of the PatList), 0 to 16
  *   numbers[3]   cycles of the whole run, 0 to 2 to the 40th

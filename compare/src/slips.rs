@@ -33,14 +33,17 @@ macro_rules! slips {
 
 slips! {
     CheckCycles,
+    CheckSignalsCut,
     CheckPlace,
     CheckWritesThoughRefused,
     CheckWritesBehind,
     NameCut,
+    NameCutToByte,
     NameLength,
     NameAnswersWithoutRoom,
     WaveformTableCut,
     WaveformSignalCut,
+    WaveformSignalCutToByte,
     WaveformCharacterCut,
     WaveformRest,
     WaveformShortTimes,
@@ -176,6 +179,9 @@ impl Reader for Slipping<'_> {
         if self.slips(Slip::CheckCycles, answer == 0) {
             numbers[3] += 1;
         }
+        if self.slips(Slip::CheckSignalsCut, answer == 0) {
+            numbers[0] &= 0xff;
+        }
         if self.slips(Slip::CheckWritesThoughRefused, answer % 32 == 17 && !numbers.is_empty()) {
             numbers[0] = 0;
         }
@@ -186,7 +192,11 @@ impl Reader for Slipping<'_> {
     }
 
     fn name(&self, table: u8, number: u64, numbers: &mut [u64]) -> u64 {
-        let number = if self.slips(Slip::NameCut, true) { number & 0xffff_ffff } else { number };
+        let number = match self.slip {
+            Slip::NameCut => number & 0xffff_ffff,
+            Slip::NameCutToByte => number & 0xff,
+            _ => number,
+        };
         let answer = self.second.name(table, number, numbers);
         if self.slips(Slip::NameLength, answer == 0 && numbers[1] > 31) {
             numbers[1] = 31;
@@ -201,6 +211,7 @@ impl Reader for Slipping<'_> {
         match self.slip {
             Slip::WaveformTableCut => asked.table &= 0xff,
             Slip::WaveformSignalCut => asked.signal &= 0xffff,
+            Slip::WaveformSignalCutToByte => asked.signal &= 0xff,
             Slip::WaveformCharacterCut => asked.character &= 127,
             _ => {}
         }

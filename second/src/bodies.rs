@@ -37,9 +37,9 @@ impl Uses {
             return None;
         }
         let mut turns = None;
-        for pin in (0..MAX_SIGNALS).filter(|&pin| self.anywhere.contains(pin as u8)) {
-            let left = given.lengths[pin].checked_sub(self.outside_shift[pin])?;
-            let due = if self.in_shift.contains(pin as u8) { *turns.get_or_insert(left) } else { 0 };
+        for pin in self.anywhere.pins() {
+            let left = given.lengths[pin as usize].checked_sub(self.outside_shift[pin as usize])?;
+            let due = if self.in_shift.contains(pin) { *turns.get_or_insert(left) } else { 0 };
             if left != due {
                 return None;
             }

@@ -2,8 +2,8 @@
 
 pub const MAX_TEXT: usize = 65_536;
 pub const MAX_NAME: usize = 32;
-pub const MAX_SIGNALS: usize = 64;
-pub const MAX_GROUPS: usize = 32;
+pub const MAX_SIGNALS: usize = 256;
+pub const MAX_GROUPS: usize = 128;
 pub const MAX_TABLES: usize = 8;
 pub const MAX_CHARS: usize = 16;
 pub const MAX_EVENTS: usize = 16;

@@ -1,10 +1,10 @@
 //! What a name is, and one name space.
 
-use crate::bounds::MAX_NAME;
+use crate::bounds::{MAX_GROUPS, MAX_NAME, MAX_SIGNALS};
 use crate::tokens::Token;
 
 /// Twice the names of the largest name space and more, and a power of two.
-const SLOTS: usize = 256;
+const SLOTS: usize = (2 * (MAX_SIGNALS + MAX_GROUPS)).next_power_of_two();
 
 pub fn is_name(word: &[u8]) -> bool {
     !word.is_empty()

@@ -18,6 +18,16 @@ impl PinSet {
         self.0[pin as usize / 64] >> (pin % 64) & 1 == 1
     }
 
+    /// Its signals, the lowest first.
+    pub fn pins(&self) -> impl Iterator<Item = u8> + '_ {
+        let of_word = |(at, &word): (usize, &u64)| {
+            let without_lowest = |rest: &u64| Some(rest & (rest - 1)).filter(|&rest| rest != 0);
+            let rests = std::iter::successors(Some(word).filter(|&word| word != 0), without_lowest);
+            rests.map(move |rest| (64 * at) as u8 + rest.trailing_zeros() as u8)
+        };
+        self.0.iter().enumerate().flat_map(of_word)
+    }
+
     pub fn is_empty(&self) -> bool {
         self.0.iter().all(|&word| word == 0)
     }

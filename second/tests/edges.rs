@@ -18,14 +18,14 @@ fn holds(part: &str, given: &str, due: common::Due) {
 #[test]
 fn items_on_the_bounds() {
     let signals = |count| many(count, |i| format!("s{i} In; "));
-    holds("signals", &signals(64), Ok5([64, 1, 0, 0, 0]));
-    holds("signals", &format!("{}«s64 In;", signals(64)), No(8));
-    holds("signals", &format!("{}«s63 In;", signals(64)), No(7));
-    holds("signals", &format!("{}«V In;", signals(64)), No(5));
+    holds("signals", &signals(256), Ok5([256, 1, 0, 0, 0]));
+    holds("signals", &format!("{}«s256 In;", signals(256)), No(8));
+    holds("signals", &format!("{}«s255 In;", signals(256)), No(7));
+    holds("signals", &format!("{}«V In;", signals(256)), No(5));
     let groups = |count| many(count, |i| format!("g{i} = 'A'; "));
-    holds("groups", &groups(32), Ok5([3, 1, 0, 0, 0]));
-    holds("groups", &format!("{}«g32 = ", groups(32)), No(8));
-    holds("groups", &format!("{}«A = ", groups(32)), No(7));
+    holds("groups", &groups(128), Ok5([3, 1, 0, 0, 0]));
+    holds("groups", &format!("{}«g128 = ", groups(128)), No(8));
+    holds("groups", &format!("{}«A = ", groups(128)), No(7));
     let tables = |count| many(count, |i| format!("WaveformTable t{i} {{ Period '1ns'; Waveforms {{ }} }} "));
     holds("timing", &tables(8), Ok5([3, 8, 0, 0, 0]));
     holds("timing", &format!("{}«WaveformTable t0", tables(8)), No(8));

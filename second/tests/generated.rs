@@ -15,7 +15,7 @@ fn refusals_and_bounds_are_reached() {
         match check(&text) {
             Ok(sum) => {
                 counts[0] += 1;
-                let items = [sum.signals == 64, sum.tables == 8, sum.patterns == 16];
+                let items = [sum.signals == 256, sum.tables == 8, sum.patterns == 16];
                 let sizes = [sum.size == 65_536, sum.cycles == 1 << 40, text.len() == 65_536];
                 met.iter_mut().zip(items.iter().chain(&sizes)).for_each(|(count, &on)| *count += u32::from(on));
             }
@@ -57,7 +57,7 @@ fn large_texts_are_accepted() {
 #[test]
 fn sized_texts_are_accepted() {
     for (kind, least) in SIZED_KINDS {
-        for (bytes, signals) in [(1_024, 8), (4_096, 8), (16_384, least), (16_384, 64), (65_536, 64)] {
+        for (bytes, signals) in [(1_024, 8), (4_096, 8), (16_384, least), (16_384, 64), (65_536, 256)] {
             let made = sized(kind, bytes, signals).expect("a kind");
             let sum = check(&made).unwrap_or_else(|refusal| panic!("{kind} {bytes} {signals}: {refusal:?}"));
             assert_eq!(sum.signals, signals as u64);
@@ -72,7 +72,7 @@ fn sized_texts_are_accepted() {
 fn long_runs_are_accepted() {
     let cycles = [3_000_000, 8_000, 32_768, 65_536 * 16_777_215];
     for (kind, cycles) in RUN_KINDS.iter().zip(cycles) {
-        for signals in [1, 64] {
+        for signals in [1, 64, 256] {
             let sum =
                 check(&run(kind, signals).expect("a kind")).unwrap_or_else(|refusal| panic!("{kind}: {refusal:?}"));
             assert_eq!((sum.signals, sum.cycles), (signals as u64, cycles), "{kind}");

@@ -1,5 +1,5 @@
 -- What is told of the declarations, from what reading them promises: a refusal as it is, or where the next token stands and how many there are.
-use Prim.Native.Nat.{ℕ, zero, suc, _≤_, _<_}
+use Prim.Native.Nat.{ℕ, zero, suc, _*_, _≤_, _<_}
 use native.Mathlib.Omega.{arith}
 use mathlib.Core.Path.{_≡_, refl, sym, ap, _∙_}
 use mathlib.Core.Bool.{Bool, true, false}
@@ -9,6 +9,7 @@ use lib.ListN.{length, getD, replicate, set, drop}
 use lib.Dec.{ltb}
 use borrow.Author.Tests.{eq-eqb, ne-eqb, le-leb, lt-leb}
 use Rattle.tokens.specs.Tokens.{stop, tok, toks, faultOf}
+use Rattle.meaning.specs.Bounds.{tablesMost}
 use Rattle.meaning.specs.Reader.{Res, give}
 use Rattle.meaning.specs.Signals.{Names}
 use Rattle.meaning.specs.Timing.{Tables}
@@ -17,6 +18,7 @@ use Rattle.words.specs.declared.Cursor.{Cursor}
 use Rattle.words.proofs.Flow.{from-on, from-stop}
 use Rattle.signals.specs.Names.{namesOf}
 use Rattle.signals.proofs.Tables.{names-length}
+use Rattle.timing.specs.Marks.{tableSize}
 use Rattle.timing.specs.declared.Watch.{Watch}
 use Rattle.timing.proofs.TableReading.{held-count}
 use Rattle.declared.specs.Declarations.{declarations, Declares}
@@ -29,6 +31,10 @@ zeros zero zero = refl
 zeros zero (suc i) = refl
 zeros (suc n) zero = refl
 zeros (suc n) (suc i) = zeros n i
+
+-- marks of waveforms before any is read
+pub blank-waves : (i : ℕ) → _≡_ {A = ℕ} (getD (replicate (tablesMost * tableSize) 0) i 0) 0
+blank-waves = zeros (tablesMost * tableSize)
 
 -- the token ahead stands where the cursor says
 place-ahead : (text : List ℕ) (c : Cursor) → placeOf (stream text c) ≡ c .at

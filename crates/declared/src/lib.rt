@@ -69,11 +69,11 @@ pub struct Told {
     pub tables: usize,
 }
 
-fn refused(no: usize, place: usize) -> Told
+fn refused(no: u8, place: usize) -> Told
     ensures { λ r. ⌜ r ≡ refusal no place ⌝ }
 {
     Told {
-        no,
+        no: no as usize,
         place,
         signals: 0,
         names: 0,
@@ -106,7 +106,7 @@ fn read_all(text: &[u8]) -> Told
     );
     let behind = d.cursor;
     if behind.no != 0 {
-        return refused(behind.no as usize, behind.at);
+        return refused(behind.no, behind.at);
     }
     Told {
         no: 0,
@@ -123,7 +123,7 @@ pub fn tell(text: &[u8]) -> Told
 {
     match tokens::fault_in(text) {
         tokens::Fault::Clean => read_all(text),
-        tokens::Fault::Faulty(n, p) => refused(n as usize, p),
+        tokens::Fault::Faulty(n, p) => refused(n, p),
     }
 }
 

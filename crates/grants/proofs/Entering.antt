@@ -1,5 +1,5 @@
 -- Bodies that are entered: a Loop's, and those of macros and procedures; a spoilt row tells nothing.
-use Prim.Native.Nat.{ℕ, _-_, _<_, _≤_}
+use Prim.Native.Nat.{ℕ, _*_, _-_, _<_, _≤_}
 use native.Mathlib.Omega.{arith}
 use mathlib.Core.Path.{_≡_, refl, sym, _∙_, subst}
 use mathlib.Core.Bool.{Bool, true, false}
@@ -7,7 +7,7 @@ use mathlib.Core.List.{List, []}
 use lib.ListN.{replicate, length-replicate}
 use borrow.Author.Tests.{lt-ltb, le-ltb}
 use Rattle.tokens.specs.Tokens.{Toks}
-use Rattle.meaning.specs.Bounds.{depthMost}
+use Rattle.meaning.specs.Bounds.{signalsMost, depthMost}
 use Rattle.meaning.specs.Lists.{has, repeats}
 use Rattle.meaning.specs.Timing.{Tables}
 use Rattle.meaning.specs.Body.{Args, looped, entered, Body, done, inner, supplied, argOf}
@@ -34,11 +34,11 @@ use Rattle.grants.proofs.Adding.{summed-only, once-loop}
 -- ---- a Loop
 
 -- its body has no argument
-pub no-arguments : (text : List ℕ) → Supplied text [] (replicate 64 0) (replicate 128 0)
+pub no-arguments : (text : List ℕ) → Supplied text [] (replicate signalsMost 0) (replicate (signalsMost * 2) 0)
 unfolding marksOf supplied repeats has
 no-arguments text = record {
   gave = gave-zeros;
-  long = length-replicate {A = ℕ} 128 0;
+  long = length-replicate {A = ℕ} (signalsMost * 2) 0;
   once = refl;
   below = λ s h. absurd (differ (sym h));
   each = λ s h. absurd (differ (sym h));

@@ -7,8 +7,8 @@ use lib.Dec.{leb}
 use Rattle.tokens.specs.Tokens.{Tok, left}
 use Rattle.meaning.specs.Bounds.{depthMost, entryMost, bracketsMost}
 use Rattle.meaning.specs.Reader.{Reader, ahead, isWord}
-use Rattle.meaning.specs.Signals.{Names, signal, signals}
-use Rattle.meaning.specs.Groups.{term, sign, joined, more, terms, bracket, expression, group, groups}
+use Rattle.meaning.specs.Signals.{Names, signal, signals, signalsUpTo, signalUpTo}
+use Rattle.meaning.specs.Groups.{term, sign, joined, more, terms, bracket, expression, group, groups, groupsUpTo, groupUpTo}
 use Rattle.meaning.specs.Timing.{Wave, Tables, quoted, letterDue, alternative, letters, Events, oneEvent, event, entry, waveforms, table, timing}
 use Rattle.meaning.specs.Body.{Assigns, Args, Kind, Body}
 use Rattle.meaning.specs.Data.{charsOf, times, repeated, piece, part, dataRead, assign, assigns, argument, arguments}
@@ -20,11 +20,11 @@ use Rattle.held.proofs.Rest.{Leaves, Moves, moving, moves-leaves, moves
 -- ---- signals, groups, timing
 
 pub moves-signal : (ns : Names) → Moves (signal ns)
-unfolding signal
+unfolding signalUpTo
 moves-signal ns = search moving depth 9
 
 pub moves-signals : Moves signals
-unfolding signals
+unfolding signalsUpTo
 moves-signals = search (moving, moves-signal, moves-until) depth 9
 
 module _ (inner : ℕ → Reader (List ℕ)) (h : (p : ℕ) → Moves (inner p)) (ns : Names) where
@@ -59,11 +59,11 @@ unfolding expression
 moves-expression ns = moves-terms _ (moves-bracket bracketsMost ns) ns
 
 pub moves-group : (n : ℕ) (ns : Names) → Moves (group n ns)
-unfolding group
+unfolding groupUpTo
 moves-group n ns = search (moving, moves-expression) depth 14
 
 pub moves-groups : (ns : Names) → Moves (groups ns)
-unfolding groups
+unfolding groupsUpTo
 moves-groups ns = search (moving, moves-group, moves-until) depth 9
 
 pub moves-quoted : (a : ℕ) → Moves (quoted a)

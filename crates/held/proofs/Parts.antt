@@ -8,7 +8,7 @@ use Rattle.meaning.specs.Signals.{Names, signals}
 use Rattle.meaning.specs.Groups.{groups}
 use Rattle.meaning.specs.Timing.{Tables, timing}
 use Rattle.meaning.specs.Statements.{Env}
-use Rattle.meaning.specs.Document.{bodies, burst, exec, patterns, Read, document}
+use Rattle.meaning.specs.Document.{bodies, burst, exec, patterns, Read, document, documentUpTo}
 use Rattle.meaning.proofs.Gives.{bind-go}
 use Rattle.held.proofs.Leads.{Leads, leads-bind, leads-give}
 
@@ -41,7 +41,7 @@ pub record Parts (ts : Toks) (d : Read) (us : Toks) : Type 0 where
   pub patterns-read : patterns env burst-name patterns-at ≡ ok (d .patterns) us
 
 pub parts : (ts : Toks) → Leads document ts (Parts ts)
-unfolding document
+unfolding documentUpTo
 parts ts =
     leads-bind _ _ λ a vs v. leads-bind _ _ λ b ws w. leads-bind _ _ λ c xs x.
     leads-bind _ _ λ ss s-end s-is. leads-bind _ _ λ ns n-end n-is. leads-bind _ _ λ tabs t-end t-is. leads-bind _ _ λ e e-end e-is.

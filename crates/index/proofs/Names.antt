@@ -12,7 +12,7 @@ use Rattle.tokens.specs.Tokens.{Tok}
 use Rattle.meaning.specs.Bounds.{nameMost}
 use Rattle.meaning.specs.Lists.{has}
 use Rattle.meaning.specs.Names.{reserved, among, isName, name, newName}
-use Rattle.meaning.specs.Signals.{Names, signal, signals}
+use Rattle.meaning.specs.Signals.{Names, signal, signals, signalsUpTo, signalUpTo}
 use Rattle.meaning.specs.Timing.{Tables, table, timing}
 use Rattle.meaning.specs.Meaning.{firsts}
 use Rattle.meaning.specs.Document.{listEntry, burst}
@@ -59,12 +59,12 @@ unfolding Short firsts
 no-names A = tt
 
 signal-few : (ns : Names) → AllFew ns → Gives AllFew (signal ns)
-unfolding signal
+unfolding signalUpTo
 signal-few ns h =
     gives-bind Few AllFew _ _ (new-few ns) λ t k. gives-after AllFew _ _ λ u. gives-after AllFew _ _ λ v. gives-after AllFew _ _ λ w. gives-give AllFew _ (few-more ns (t, _) h k)
 
 pub signals-few : Gives (λ (ns : Names). Short (firsts ns)) signals
-unfolding signals
+unfolding signalsUpTo
 signals-few =
     gives-after AllFew _ _ λ a. gives-after AllFew _ _ λ b. gives-bind AllFew AllFew _ _ (signal-few [] (no-names _)) λ ns h. gives-until AllFew _ _ signal-few ns h
 

@@ -15,8 +15,8 @@ use Rattle.meaning.specs.Bounds.{entryMost, bracketsMost}
 use Rattle.meaning.specs.Lists.{has, repeats}
 use Rattle.meaning.specs.Reader.{Reader, _>>=_, give, until}
 use Rattle.meaning.specs.Names.{reserved, among, isName, name, dueAmong, find, newName, oldName, value, number, numberIn}
-use Rattle.meaning.specs.Signals.{Names, directions, signal, signals}
-use Rattle.meaning.specs.Groups.{term, sign, signAhead, joined, more, terms, bracket, expression, group, groups}
+use Rattle.meaning.specs.Signals.{Names, directions, signal, signals, signalsUpTo, signalUpTo}
+use Rattle.meaning.specs.Groups.{term, sign, signAhead, joined, more, terms, bracket, expression, group, groups, groupsUpTo, groupUpTo}
 use Rattle.meaning.specs.Timing.{Wave, Tables, picoseconds, quoted, eventLetter, letterDue, alternative, letters, Events, oneEvent, event, taken, blanks, wavesFor, entry, waveforms, table, timing}
 use Rattle.meaning.proofs.Choices.{_also_}
 use Rattle.meaning.proofs.Alike.{Border, Like, like-ahead, Alike, Anyhow, Equal, SameWord, alike-bind, alike-equal, alike-at, alike-give, alike-if, alike-known, alike-within, never-bind, never-then, never-if, never-known, never-within, never-refuse, alike-never, alike-any, alike-word, alike-due, alike-choose, alike-test, alike-ahead, alike-while, alike-until}
@@ -106,13 +106,13 @@ module _ {B : Border} where
   -- ---- Signals
 
   pub alike-signal : {c : Bool} (ns ms : Names) → Paired Equal ns ms → Alike B c (Paired Equal) (signal ns) (signal ms)
-  unfolding signal bytes same among directions
+  unfolding signalUpTo bytes same among directions
   alike-signal ns ms h =
       alike-bind (alike-new ns ms) λ t u e. alike-bind (alike-if _ _ _ _ _ _) λ x y q. alike-bind (alike-among directions refl) λ i j k. alike-bind (alike-due _ refl) λ l m o.
       alike-give _ _ (paired-more Equal ns ms h t u e _ _ (ap (λ (n : ℕ). n ∷ []) (paired-length Equal ns ms h)))
 
   pub alike-signals : Alike B false (Paired Equal) signals signals
-  unfolding signals bytes same
+  unfolding signalsUpTo bytes same
   alike-signals =
       alike-bind (alike-due _ refl) λ x y q. alike-bind (alike-due _ refl) λ i j k.
       alike-bind (alike-signal [] [] tt) λ ns ms h. alike-until "}" refl (λ x y r. alike-signal x y r) ns ms h
@@ -152,7 +152,7 @@ module _ {B : Border} where
   alike-bracket (suc d) ns ms h p q = alike-terms (bracket d ns) (bracket d ms) (alike-bracket d ns ms h) ns ms h
 
   alike-group : (n m : ℕ) (ns ms : Names) → Paired Equal ns ms → Alike B false (Paired Equal) (group n ns) (group m ms)
-  unfolding group expression bytes same
+  unfolding groupUpTo expression bytes same
   alike-group n m ns ms h =
       alike-bind (alike-new ns ms) λ t u e. alike-bind (alike-if _ _ _ _ _ _) λ x y q. alike-bind (alike-due _ refl) λ x y q. alike-bind (alike-due _ refl) λ x y q.
       alike-bind (alike-terms (bracket bracketsMost ns) (bracket bracketsMost ms) (alike-bracket bracketsMost ns ms h) ns ms h) λ g d r.
@@ -160,7 +160,7 @@ module _ {B : Border} where
       alike-give _ _ (paired-more Equal ns ms h t u e g d r)
 
   pub alike-groups : (ns ms : Names) → Paired Equal ns ms → Alike B false (Paired Equal) (groups ns) (groups ms)
-  unfolding groups bytes same
+  unfolding groupsUpTo bytes same
   alike-groups ns ms h =
       alike-bind (alike-due _ refl) λ x y q. alike-bind (alike-due _ refl) λ x y q. alike-until "}" refl (alike-group (length ns) (length ms)) ns ms h
 

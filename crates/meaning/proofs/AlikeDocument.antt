@@ -10,7 +10,7 @@ use Rattle.meaning.specs.Signals.{Names, signals}
 use Rattle.meaning.specs.Groups.{groups}
 use Rattle.meaning.specs.Timing.{Tables, timing}
 use Rattle.meaning.specs.Statements.{Decls, Env}
-use Rattle.meaning.specs.Document.{oneBody, oneMacro, oneProcedure, macroDefs, procedures, bodies, listEntry, burst, exec, patterns, Read, document}
+use Rattle.meaning.specs.Document.{oneBody, oneMacro, oneProcedure, macroDefs, procedures, bodies, listEntry, burst, exec, patterns, Read, document, documentUpTo}
 use Rattle.meaning.proofs.Gives.{bind-ok, bind-go}
 use Rattle.meaning.proofs.Others.{SameWords}
 use Rattle.meaning.proofs.Alike.{Border, like-ahead, Alike, Anyhow, Equal, SameWord, alike-bind, alike-give, alike-if, alike-due, alike-test, alike-option, alike-until}
@@ -67,7 +67,7 @@ unfolding give
 splits-give x rest = record { all = λ ts d us e. (x, ts, refl, e) }
 
 pub document-opens : Splits document opening onward
-unfolding document
+unfolding documentUpTo
 document-opens =
     splits-bind _ _ _ onward λ a. splits-bind _ _ _ onward λ a. splits-bind _ _ _ onward λ a. splits-bind _ _ _ onward λ ss. splits-bind _ _ _ onward λ ns.
     splits-bind _ _ _ onward λ tabs. splits-bind _ _ _ onward λ e. splits-bind _ _ _ onward λ b. splits-bind _ _ _ onward λ q. splits-give _ onward

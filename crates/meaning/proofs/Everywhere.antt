@@ -13,7 +13,7 @@ use Rattle.meaning.specs.Reader.{ahead, option}
 use Rattle.meaning.specs.Names.{find, oldName}
 use Rattle.meaning.specs.Body.{Body, done, inner, entered, listed}
 use Rattle.meaning.specs.Statements.{Decl, Decls, Env, statements, declared}
-use Rattle.meaning.specs.Document.{oneBody, oneMacro, oneProcedure, macroDefs, procedures, bodies, pattern, patterns, Read, document}
+use Rattle.meaning.specs.Document.{oneBody, oneMacro, oneProcedure, macroDefs, procedures, bodies, pattern, patterns, Read, document, documentUpTo}
 use Rattle.meaning.specs.Meaning.{Answer, given, refused, answering, runOf}
 use Rattle.meaning.proofs.Gives.{known-ok, Gives, gives-bind, gives-after, gives-give, gives-option, gives-while, gives-until}
 use Rattle.meaning.proofs.Choices.{gives-either}
@@ -130,7 +130,7 @@ module _ (P : Body → Type 0) where
 
     -- THE LAW: every pattern has P
     pub everywhere : Gives (λ d. Every P (d .patterns)) document
-    unfolding document Every
+    unfolding documentUpTo Every
     everywhere =
         gives-after Q _ _ λ x. gives-after Q _ _ λ y. gives-after Q _ _ λ z. gives-after Q _ _ λ ss. gives-after Q _ _ λ ns. gives-after Q _ _ λ tabs.
         gives-bind (Known P) Q _ _ (known-bodies _ (tt, tt)) λ e k. gives-after Q _ _ λ b. gives-after Q _ _ λ w.

@@ -17,6 +17,7 @@ pub mod Charts
 pub mod ChartSamples
 pub mod Marks
 pub mod Accepted
+pub mod Wider
 pub mod Unplaced
 pub mod Listed
 pub mod Others

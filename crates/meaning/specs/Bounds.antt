@@ -5,10 +5,10 @@ abbrev pub nameMost : ℕ
 nameMost = 32
 
 abbrev pub signalsMost : ℕ
-signalsMost = 64
+signalsMost = 256
 
 abbrev pub groupsMost : ℕ
-groupsMost = 32
+groupsMost = 128
 
 abbrev pub tablesMost : ℕ
 tablesMost = 8

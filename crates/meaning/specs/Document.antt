@@ -6,11 +6,11 @@ use lib.ListN.{length}
 use lib.Dec.{leb}
 use Rattle.tokens.specs.Tokens.{Tok, Toks, stop, tok}
 use Rattle.meaning.specs.Refusals.{tooMany}
-use Rattle.meaning.specs.Bounds.{bodiesMost, patternsMost, listMost}
+use Rattle.meaning.specs.Bounds.{signalsMost, groupsMost, bodiesMost, patternsMost, listMost}
 use Rattle.meaning.specs.Reader.{Reader, _>>=_, _>>_, give, refuseIf, ahead, due, while, until, option}
 use Rattle.meaning.specs.Names.{name, newName, oldName}
-use Rattle.meaning.specs.Signals.{Names, signals}
-use Rattle.meaning.specs.Groups.{groups}
+use Rattle.meaning.specs.Signals.{Names, signalsUpTo}
+use Rattle.meaning.specs.Groups.{groupsUpTo}
 use Rattle.meaning.specs.Timing.{Tables, timing}
 use Rattle.meaning.specs.Body.{done}
 use Rattle.meaning.specs.Statements.{Decl, Decls, Env, declared}
@@ -121,16 +121,20 @@ pub record Read : Type 0 where
   pub listed : List Tok
   pub patterns : Decls
 
-unfoldable pub document : Reader Read
-document = do
+-- where there may be so many signals and groups
+unfoldable pub documentUpTo : (most groups : ℕ) → Reader Read
+documentUpTo most groups = do
   due "STIL"
   due "1.0"
   due ";"
-  ss ← signals
-  ns ← option "SignalGroups" groups ss
+  ss ← signalsUpTo most
+  ns ← option "SignalGroups" (groupsUpTo groups) ss
   tabs ← timing ns
   e ← bodies (record { names = ns; tables = tabs; macros = []; procs = [] })
   b ← burst
   exec (b .0)
   ps ← patterns e (b .0)
   give (record { signals = ss; tables = tabs; listed = b .1; patterns = ps })
+
+abbrev pub document : Reader Read
+document = documentUpTo signalsMost groupsMost

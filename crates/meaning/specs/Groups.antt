@@ -61,11 +61,11 @@ bracket (suc d) ns p = terms (bracket d ns) ns
 unfoldable pub expression : Names → Reader (List ℕ)
 expression ns = terms (bracket bracketsMost ns) ns
 
--- a group, where n signals are declared
-unfoldable pub group : ℕ → Names → Reader Names
-group n ns = do
+-- a group, where n signals are declared and there may be so many groups
+unfoldable pub groupUpTo : ℕ → ℕ → Names → Reader Names
+groupUpTo most n ns = do
   t ← newName ns
-  refuseIf (leb (n + groupsMost) (length ns)) tooMany (t .at)
+  refuseIf (leb (n + most) (length ns)) tooMany (t .at)
   due "="
   due "'"
   g ← expression ns
@@ -74,8 +74,14 @@ group n ns = do
   due ";"
   give (ns ++ (t, g) ∷ [])
 
-unfoldable pub groups : Names → Reader Names
-groups ns = do
+unfoldable pub groupsUpTo : ℕ → Names → Reader Names
+groupsUpTo most ns = do
   due "SignalGroups"
   due "{"
-  until "}" (group (length ns)) ns
+  until "}" (groupUpTo most (length ns)) ns
+
+abbrev pub group : ℕ → Names → Reader Names
+group = groupUpTo groupsMost
+
+abbrev pub groups : Names → Reader Names
+groups = groupsUpTo groupsMost

@@ -7,13 +7,13 @@ use lib.ListN.{length}
 use lib.Dec.{leb, eqb}
 use Rattle.tokens.specs.Tokens.{Tok, toks, faultOf}
 use Rattle.meaning.specs.Refusals.{notDefined, tooLarge, notPlayable}
-use Rattle.meaning.specs.Bounds.{sizeMost, cyclesMost}
+use Rattle.meaning.specs.Bounds.{signalsMost, groupsMost, sizeMost, cyclesMost}
 use Rattle.meaning.specs.Reader.{Res, ok, refuse}
 use Rattle.meaning.specs.Names.{find}
 use Rattle.meaning.specs.Timing.{Wave, Tables}
 use Rattle.meaning.specs.Body.{listed, entered, Body, done, inner}
 use Rattle.meaning.specs.Statements.{Decls}
-use Rattle.meaning.specs.Document.{Read, document}
+use Rattle.meaning.specs.Document.{Read, documentUpTo}
 use Rattle.meaning.specs.Run.{Cycle, unassigned, size, cycles, cyclesOf}
 
 pub data Answer (A : Type 0) : Type 0 where
@@ -90,5 +90,9 @@ unfoldable pub accept : Res Read → Answer Meaning
 accept (ok d ts) = answering (runOf (d .patterns) (d .listed)) (judged d)
 accept (refuse n p) = refused n p
 
+-- where there may be so many signals and groups
+abbrev pub meaningUpTo : (most groups : ℕ) → List ℕ → Answer Meaning
+meaningUpTo most groups text = elim (faultOf text) [ some f ↦ refused (f .0) (f .1) | none ↦ accept (documentUpTo most groups (toks text 0)) ]
+
 unfoldable pub meaning : List ℕ → Answer Meaning
-meaning text = elim (faultOf text) [ some f ↦ refused (f .0) (f .1) | none ↦ accept (document (toks text 0)) ]
+meaning text = meaningUpTo signalsMost groupsMost text

@@ -17,17 +17,24 @@ Names = List (Tok × List ℕ)
 unfoldable pub directions : List String
 directions = "In" ∷ "Out" ∷ "InOut" ∷ []
 
-unfoldable pub signal : Names → Reader Names
-signal ns = do
+-- a signal, where there may be so many
+unfoldable pub signalUpTo : ℕ → Names → Reader Names
+signalUpTo most ns = do
   t ← newName ns
-  refuseIf (leb signalsMost (length ns)) tooMany (t .at)
+  refuseIf (leb most (length ns)) tooMany (t .at)
   dueAmong directions
   due ";"
   give (ns ++ (t, length ns ∷ []) ∷ [])
 
-unfoldable pub signals : Reader Names
-signals = do
+unfoldable pub signalsUpTo : ℕ → Reader Names
+signalsUpTo most = do
   due "Signals"
   due "{"
-  ns ← signal []
-  until "}" signal ns
+  ns ← signalUpTo most []
+  until "}" (signalUpTo most) ns
+
+abbrev pub signal : Names → Reader Names
+signal = signalUpTo signalsMost
+
+abbrev pub signals : Reader Names
+signals = signalsUpTo signalsMost

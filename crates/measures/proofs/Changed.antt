@@ -44,6 +44,15 @@ module _ {f : ℕ → ℕ → ℕ} {base : ℕ} {before : List ℕ} where
     changed-same inside e =
         subst (Changed f base (s + 1) before) (set-getD list at 0) (changed-next (getD list at 0) inside (sym e))
 
+-- where f changes nothing from s on, nothing is left to write
+pub changed-rest : {f : ℕ → ℕ → ℕ} {base s : ℕ} {before list : List ℕ} → Changed f base s before list → (e : ℕ) → s ≤ e → ((k n : ℕ) → s ≤ k → f k n ≡ n)
+    → Changed f base e before list
+changed-rest {f} {base} {s} {before} {list} x e l same = record { long = x .long; changed = λ k at q h. by k at q (ltb k s) refl; ahead = x .ahead; behind = λ k h. x .behind k (omega arith) }
+  where
+    by : (k at : ℕ) → at ≡ base + k → (z : Bool) → ltb k s ≡ z → getD list at 0 ≡ f k (getD before at 0)
+    by k at q true z = x .changed k at q (ltb-true k s z)
+    by k at q false z = x .behind at (omega (arith, ltb-false k s z)) ∙ sym (same k (getD before at 0) (ltb-false k s z))
+
 -- a place that is none of those
 pub not-changed : {f : ℕ → ℕ → ℕ} {base s : ℕ} {before list : List ℕ} → Changed f base s before list → (at : ℕ)
     → ((k : ℕ) → k < s → at ≡ base + k → ⊥) → getD list at 0 ≡ getD before at 0

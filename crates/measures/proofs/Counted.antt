@@ -54,6 +54,10 @@ counted-is b n u e = by (eqb b mark) (ltb n usesCap) refl
     by true false q = omega (arith, ltb-false n usesCap q)
     by false z q = omega arith
 
+-- none of a signal without a character
+pub counted-none : (b n : ℕ) → b ≡ 0 → counted b n ≡ n
+counted-none b n e = rw e
+
 -- the mark of a signal whose character is b
 abbrev pub shown : ℕ → ℕ → ℕ
 shown b n = cond (eqb b mark) 1 n
@@ -64,6 +68,9 @@ shown-is b n u e = by (eqb b mark)
     by : (m : Bool) → cond m 1 n ≡ min 1 (u + flag m)
     by true = omega arith
     by false = omega arith
+
+pub shown-none : (b n : ℕ) → b ≡ 0 → shown b n ≡ n
+shown-none b n e = rw e
 
 more : {a : Assigns} {given : List ℕ} → Given a given → (s : ℕ) (l m : List ℕ) → s < signalsMost → m ≡ l ++ marked a
     → count s m ≡ count s l + flag (eqb (getD given s 0) mark)

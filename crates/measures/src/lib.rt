@@ -33,9 +33,9 @@ pub const ENTRIES: usize = 81;
 
 pub const BOOK: usize = 567;
 
-pub const ROW: usize = 128;
+pub const ROW: usize = sets::MOST * 2;
 
-pub const ROWS: usize = 8_192;
+pub const ROWS: usize = BODIES * ROW;
 
 const NUMBERS: usize = 5;
 
@@ -184,8 +184,9 @@ pub fn count_uses(given: &[u8], row: &mut [u16])
     requires { ⌜ (length (now given) ≡ signalsMost) × (length (now row) ≡ rowLength) ⌝ }
     ensures { λ _. ⌜ ((p : ℕ) (a : Assigns) (b : Body) → Given a (now (given .entry)) → Uses b (now (row .entry)) → Uses (joined b (vec p a done)) (now (row .exit))) ⌝ }
 {
+    let n = words::zeros_from(given);
     let mut s = 0;
-    while s < sets::MOST {
+    while s < n {
         if given[s] == MARK {
             if row[s] < USES_CAP {
                 row[s] += 1;
@@ -200,8 +201,9 @@ pub fn mark_uses(given: &[u8], row: &mut [u16])
     requires { ⌜ (length (now given) ≡ signalsMost) × (length (now row) ≡ rowLength) ⌝ }
     ensures { λ _. ⌜ ((p : ℕ) (a : Assigns) (b : Body) → Given a (now (given .entry)) → Uses b (now (row .entry)) → Uses (joined b (inner shifted (vec p a done) done)) (now (row .exit))) ⌝ }
 {
+    let n = words::zeros_from(given);
     let mut s = 0;
-    while s < sets::MOST {
+    while s < n {
         if given[s] == MARK {
             row[sets::MOST + s] = 1;
         }

@@ -8,7 +8,7 @@ use lib.Dec.{ltb, leb, eqb}
 use lib.ListN.{length, getD, take, set, length-set}
 use lib.Seq.{take-all, getD-set-same, getD-set-other}
 use borrow.Author.Count.{below-more}
-use borrow.Author.Tests.{lt-ltb, leb-true, eqb-true, eqb-false, eq-eqb, ne-eqb}
+use borrow.Author.Tests.{lt-ltb, ltb-true, ltb-false, leb-true, eqb-true, eqb-false, eq-eqb, ne-eqb}
 use Rattle.tokens.specs.Bytes.{between, digit, letter}
 use Rattle.meaning.specs.Bounds.{signalsMost}
 use Rattle.meaning.specs.Lists.{has, repeats}
@@ -120,6 +120,14 @@ module _ {given before : List ℕ} where
           grows = grows-then (x .grows) g;
           each = below-more (Told given used′) s (λ i h n o. grows-char g (x .each i h n o)) (λ n o. m);
         }
+
+-- from s on none is given anything
+pub noting-rest : {given before used : List ℕ} {s : ℕ} → Noting given s before used → ((i : ℕ) → s ≤ i → getD given i 0 ≡ 0) → (e : ℕ) → Noting given e before used
+noting-rest {given} {before} {used} {s} x none e = record { grows = x .grows; each = λ i h. by i (ltb i s) refl }
+  where
+    by : (i : ℕ) (z : Bool) → ltb i s ≡ z → Told given used i
+    by i true z = x .each i (ltb-true i s z)
+    by i false z = λ n m. absurd (n (none i (ltb-false i s z)))
 
 -- ---- each signal of a list without repeats by itself
 
@@ -237,6 +245,13 @@ module _ {text given args before : List ℕ} where
           grows = grows-then (x .grows) g;
           each = below-more (λ i. (getD given i 0 ≡ 0 → ⊥) → Fed text args used′ i) s (λ i h n cs d. grows-chars g (x .each i h n cs d)) (λ n. f);
         }
+
+    pub args-rest : ((i : ℕ) → s ≤ i → getD given i 0 ≡ 0) → (e : ℕ) → NotingArgs text given args e before used
+    args-rest none e = record { grows = x .grows; each = λ i h. by i (ltb i s) refl }
+      where
+        by : (i : ℕ) (z : Bool) → ltb i s ≡ z → (getD given i 0 ≡ 0 → ⊥) → Fed text args used i
+        by i true z = x .each i (ltb-true i s z)
+        by i false z = λ n. absurd (n (none i (ltb-false i s z)))
 
     pub args-all : signalsMost ≤ s → (xs : Args) → Supplied text xs given args → Supplies used xs
     args-all l xs u = supplies-each used xs (u .once) each

@@ -50,8 +50,9 @@ pub fn note(given: &[u8], used: &mut [u8])
     requires { ⌜ (length (now given) ≡ signalsMost) × (length (now used) ≡ tableSize) ⌝ }
     ensures { λ _. ⌜ Grows (now (used .entry)) (now (used .exit)) × ((a : Assigns) → Given a (now (given .entry)) → Gives (now (used .exit)) a) ⌝ }
 {
+    let n = words::zeros_from(given);
     let mut s = 0;
-    while s < sets::MOST {
+    while s < n {
         let c = given[s];
         if (c != 0) & (c != MARK) {
             note_char(used, s, c);
@@ -83,8 +84,9 @@ pub fn note_args(text: &[u8], given: &[u8], args: &[usize], used: &mut [u8])
     requires { ⌜ (length (now given) ≡ signalsMost) × (length (now args) ≡ signalsMost * 2) × (length (now used) ≡ tableSize) ⌝ }
     ensures { λ _. ⌜ Grows (now (used .entry)) (now (used .exit)) × ((xs : Args) → Supplied (now (text .entry)) xs (now (given .entry)) (now (args .entry)) → Supplies (now (used .exit)) xs) ⌝ }
 {
+    let n = words::zeros_from(given);
     let mut s = 0;
-    while s < sets::MOST {
+    while s < n {
         if given[s] != 0 {
             note_data(text, args[sets::MOST + s], used, s);
         }

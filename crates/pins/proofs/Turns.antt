@@ -4,10 +4,10 @@ use native.Mathlib.Omega.{arith}
 use mathlib.Core.Path.{_≡_, refl, sym, _∙_, subst}
 use mathlib.Core.Bool.{Bool, true, false}
 use mathlib.Core.List.{List}
-use lib.Dec.{eqb}
+use lib.Dec.{eqb, ltb}
 use lib.ListN.{length, getD, set, length-set}
 use lib.Seq.{getD-set-same, getD-set-other}
-use borrow.Author.Tests.{eqb-true, eqb-false}
+use borrow.Author.Tests.{eqb-true, eqb-false, ltb-true, ltb-false}
 use Rattle.meaning.specs.Bounds.{signalsMost}
 use Rattle.feeds.specs.declared.Feed.{Feed}
 use Rattle.pins.specs.Shown.{feedAt, Fills}
@@ -82,3 +82,10 @@ module _ {P : ℕ → Feed → Type 0} {level : ℕ} {before : List ℕ} where
           rest = λ k h b. x .rest k (omega arith) b;
           others = x .others;
         }
+
+  pub refilled-rest : {s : ℕ} {feeds : List ℕ} → Refilled P level s before feeds → ((k : ℕ) → s ≤ k → P k (feedAt before level k)) → Refilled P level signalsMost before feeds
+  refilled-rest {s} {feeds} x p = record { long = x .long; each = λ k h. by k h (ltb k s) refl; rest = λ k h b. absurd (omega arith); others = x .others }
+    where
+      by : (k : ℕ) → k < signalsMost → (z : Bool) → ltb k s ≡ z → P k (feedAt feeds level k)
+      by k h true z = x .each k (ltb-true k s z)
+      by k h false z = subst (P k) (sym (x .rest k (ltb-false k s z) h)) (p k (ltb-false k s z))

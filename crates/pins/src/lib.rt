@@ -64,8 +64,9 @@ pub fn supply(given: &[u8], args: &[usize], feeds: &mut [usize], level: usize)
     requires { ⌜ (length (now given) ≡ signalsMost) × (length (now args) ≡ signalsMost * 2) × (length (now feeds) ≡ feedsLength) × (level < levels) ⌝ }
     ensures { λ _. ⌜ (length (now (feeds .exit)) ≡ feedsLength) × ((l s : ℕ) → s < signalsMost → (l ≡ level → ⊥) → feedAt (now (feeds .exit)) l s ≡ feedAt (now (feeds .entry)) l s) × ((text : List ℕ) (xs : Args) → Supplied text xs (now (given .entry)) (now (args .entry)) → Feeding text (now (feeds .exit)) level xs) ⌝ }
 {
+    let n = words::zeros_from(given);
     let mut s = 0;
-    while s < sets::MOST {
+    while s < n {
         if given[s] != 0 {
             put_feed(feeds, level, s, feeds::start(args[sets::MOST + s]));
         }

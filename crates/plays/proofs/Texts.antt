@@ -1,5 +1,5 @@
 -- From the tables of a text to its run, and from the listed patterns to refusal 17.
-use Prim.Native.Nat.{ℕ, zero, suc, _+_, _-_, _<_, _≤_}
+use Prim.Native.Nat.{ℕ, zero, suc, _+_, _*_, _-_, _<_, _≤_}
 use native.Mathlib.Omega.{arith}
 use mathlib.Core.Path.{_≡_, sym, ap, _∙_, subst}
 use mathlib.Core.Bool.{true, false}
@@ -7,6 +7,7 @@ use mathlib.Core.Option.{none, some}
 use mathlib.Core.List.{List}
 use lib.ListN.{length, getD, replicate, length-replicate}
 use Rattle.tokens.specs.Tokens.{Tok, toks}
+use Rattle.meaning.specs.Bounds.{signalsMost}
 use Rattle.meaning.specs.Body.{listed, Body}
 use Rattle.meaning.specs.Run.{start, cyclesOf}
 use Rattle.meaning.specs.Meaning.{firstFailing}
@@ -20,6 +21,7 @@ use Rattle.turns.specs.Few.{playFew, openMost}
 use Rattle.turns.proofs.Decides.{few-decides}
 use Rattle.words.specs.Table.{nameOf}
 use Rattle.signals.proofs.Tables.{names-length}
+use Rattle.pins.specs.Shown.{valuesLength, feedsLength}
 use Rattle.heads.specs.declared.Known.{Known}
 use Rattle.texts.specs.declared.Parts.{Parts}
 use Rattle.texts.proofs.Runs.{listFrom, list-cut, list-end}
@@ -133,15 +135,15 @@ module _ (text places lists tplaces waves book rows list : List ℕ) (known : Kn
           run-learnt = s .learnt env (d .patterns) (upcoming .decl) listed-next m
 
   -- before the first pattern
-  pub opening-sized : SomeRun text places lists tplaces waves book rows list known signals listed patterns → Sized all 0 (arrays (replicate 640 0) (replicate 2_304 0) (replicate 128 0))
+  pub opening-sized : SomeRun text places lists tplaces waves book rows list known signals listed patterns → Sized all 0 (arrays (replicate valuesLength 0) (replicate feedsLength 0) (replicate (signalsMost * 2) 0))
   opening-sized s = record {
     roomy = record {
       few = rw (s .runs .signals-is) at (s .runs .tabled .few-signals);
-      values-long = length-replicate {A = ℕ} 640 0;
-      feeds-long = length-replicate {A = ℕ} 2_304 0;
+      values-long = length-replicate {A = ℕ} valuesLength 0;
+      feeds-long = length-replicate {A = ℕ} feedsLength 0;
       inside-levels = omega arith;
     };
-    args-long = length-replicate {A = ℕ} 128 0;
+    args-long = length-replicate {A = ℕ} (signalsMost * 2) 0;
     waves-long = s .runs .tabled .waves-long;
   }
 
@@ -153,5 +155,5 @@ module _ (text places lists tplaces waves book rows list : List ℕ) (known : Kn
         → Left (h .tabled .parts .env .tables) signals (h .tabled .parts .env) (d .patterns) run (listFrom text list listed k) × Knows all marks sums memo (h .tabled .parts .env)
 
   pub unplayed : {marks sums memo : List ℕ} → SomeRun text places lists tplaces waves book rows list known signals listed patterns → ((i : ℕ) → getD memo i 0 ≡ 0)
-      → Unplayed marks sums memo 0 (arrays (replicate 640 0) (replicate 2_304 0) (replicate 128 0))
+      → Unplayed marks sums memo 0 (arrays (replicate valuesLength 0) (replicate feedsLength 0) (replicate (signalsMost * 2) 0))
   unplayed s blank = record { sized = opening-sized s; left = λ p d run h m. (run-begins h, knows-sums m blank) }

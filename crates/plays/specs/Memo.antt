@@ -1,10 +1,11 @@
 -- What is remembered of uses of bodies: rows of numbers, each of one use that was played and in which no cycle failed.
-use Prim.Native.Nat.{ℕ, _+_, _*_, _%_, _<_, _≤_}
+use Prim.Native.Nat.{ℕ, suc, _+_, _*_, _%_, _<_, _≤_}
 use mathlib.Core.Path.{_≡_}
 use mathlib.Core.Bool.{true, false}
 use mathlib.Core.Logic.{_⊎_}
 use mathlib.Core.List.{List}
 use lib.ListN.{length, getD}
+use Rattle.meaning.specs.Bounds.{signalsMost}
 use Rattle.plays.specs.declared.Use.{Use}
 use Rattle.plays.specs.declared.Passed.{Passed}
 
@@ -13,13 +14,17 @@ abbrev pub beforeAt : ℕ
 beforeAt = 5
 
 abbrev pub pictureSize : ℕ
-pictureSize = 65
+pictureSize = suc signalsMost
 
 abbrev pub behindAt : ℕ
-behindAt = 70
+behindAt = beforeAt + pictureSize
 
 abbrev pub memoRow : ℕ
-memoRow = 135
+memoRow = behindAt + pictureSize
+
+-- so many rows are kept
+abbrev pub memoLength : ℕ
+memoLength = 337 * memoRow
 
 -- numbers that a row can hold
 pub record Short (u : Use) : Type 0 where

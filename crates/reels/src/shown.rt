@@ -1,6 +1,7 @@
 // window FILE FIRST COUNT [MARK]
 ghost use Prim.Native.Nat.{_+_, _*_, _≤_, _<_};
 ghost use lib.ListN.{length};
+ghost use Rattle.meaning.specs.Bounds.{signalsMost};
 use crate::answers;
 use crate::asked;
 use crate::files;
@@ -36,7 +37,7 @@ fn due(cycles: usize, first: usize, wanted: usize) -> usize
 
 // Of the rows that are left, as many as a page holds.
 fn fitting(left: usize, width: usize) -> usize
-    requires { ⌜ (2 ≤ width) × (width ≤ 66) ⌝ }
+    requires { ⌜ (2 ≤ width) × (width ≤ signalsMost + 2) ⌝ }
     ensures { λ r. ⌜ (r ≤ left) × (r * width ≤ 1048576) × (0 < left → 0 < r) ⌝ }
 {
     least(left, ROWS / width)
@@ -74,7 +75,7 @@ fn some_rows(text: &[u8], first: usize, n: usize, width: usize, mark: u8, page: 
 
 // Windows laid end to end, all with one mark, then the visits of the first.
 fn rows(text: &[u8], first: usize, due: usize, width: usize, mark: u8)
-    requires { ⌜ (2 ≤ width) × (width ≤ 66) × (first + due ≤ 18446744073709551615) ⌝ }
+    requires { ⌜ (2 ≤ width) × (width ≤ signalsMost + 2) × (first + due ≤ 18446744073709551615) ⌝ }
 {
     let mut space = streams::rows();
     let page: &mut [u8] = &mut space;

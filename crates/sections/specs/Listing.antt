@@ -1,5 +1,5 @@
 -- A text's listing (document 01, "One text and its listing").
-use Prim.Native.Nat.{ℕ, suc, _+_, _≤_}
+use Prim.Native.Nat.{ℕ, suc, _+_, _*_, _≤_}
 use Prim.Native.String.{String}
 use mathlib.Core.Path.{_≡_}
 use mathlib.Core.Bool.{true, false}
@@ -8,7 +8,7 @@ use lib.ListN.{length, drop}
 use lib.Dec.{leb}
 use Rattle.tokens.specs.Written.{bytes}
 use Rattle.tokens.specs.Tokens.{Tok}
-use Rattle.meaning.specs.Bounds.{nameMost}
+use Rattle.meaning.specs.Bounds.{nameMost, signalsMost}
 use Rattle.meaning.specs.Run.{cycles, cyclesOf}
 use Rattle.meaning.specs.Meaning.{given, refused, firsts, Meaning, meaning}
 use Rattle.meaning.specs.Services.{dot, rows, rowWidth}
@@ -73,10 +73,6 @@ listing text =
 
 -- ---- page by page
 
--- a page has room for the front, whatever the text
-abbrev pub frontMost : ℕ
-frontMost = 4_096
-
 -- and behind a section's word: a blank, digits and LF
 abbrev pub countMost : ℕ
 countMost = 22
@@ -95,6 +91,10 @@ lineMost = suc nameMost
 -- what stands for the rows, and LF
 abbrev pub unlistedMost : ℕ
 unlistedMost = 11
+
+-- a page has room for the front, whatever the text: a line for each signal, and for all else 1,024 bytes
+abbrev pub frontMost : ℕ
+frontMost = 1_024 + signalsMost * lineMost
 
 -- names are short
 unfoldable pub Short : List Tok → Type 0

@@ -11,8 +11,12 @@ ghost use Rattle.sections.specs.Listing.{firstOf, lastOf, positionLine, 
 
 // Above so many cycles the rows are not listed.
 const LISTED: usize = 1_000_000;
-// A page has room for all but the rows, whatever the text.
-pub const FRONT: usize = 4_096;
+
+// A name and LF.
+const NAME: usize = 33;
+
+// A page has room for all but the rows, whatever the text: a line for each signal, and what else there is.
+pub const FRONT: usize = 1_024 + sets::MOST * NAME;
 
 // The bytes that were written to the front of a page; the next row's cycle, how many rows are left, and their width. No `room`: the page is too small.
 pub struct Page {

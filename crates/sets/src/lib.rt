@@ -8,7 +8,7 @@ ghost use Rattle.meaning.specs.Lists.{has as hasOf, meets as meetsOf, inside as
 ghost use Rattle.sets.specs.Sets.{listOf, Pushed};
 
 // The most signals that a text has.
-pub const MOST: usize = 64;
+pub const MOST: usize = 256;
 
 // The first n numbers of v.
 pub struct Set {

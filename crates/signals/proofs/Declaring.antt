@@ -10,8 +10,8 @@ use Rattle.meaning.specs.Refusals.{tooMany, badGroup}
 use Rattle.meaning.specs.Lists.{empty}
 use Rattle.meaning.specs.Reader.{due}
 use Rattle.meaning.specs.Names.{newName, dueAmong}
-use Rattle.meaning.specs.Signals.{Names, directions, signal}
-use Rattle.meaning.specs.Groups.{expression, group}
+use Rattle.meaning.specs.Signals.{Names, directions, signal, signalUpTo}
+use Rattle.meaning.specs.Groups.{expression, group, groupUpTo}
 use Rattle.words.specs.Cursor.{ahead, alive, Goes, Checked}
 use Rattle.words.specs.Table.{names}
 use Rattle.words.specs.declared.Cursor.{Cursor}
@@ -34,7 +34,7 @@ module _ {text places : List ℕ} {count : ℕ} {c r : Cursor} where
 
   pub signal-goes : Signal text places count c r → (lists : List ℕ) {l : List ℕ} {ns : Names} → l ≡ count ∷ []
       → (alive r ≡ true → namesOf text places lists count ++ (ahead text c, l) ∷ [] ≡ ns) → Goes text c (signal (namesOf text places lists count)) r ns
-  unfolding signal
+  unfolding signalUpTo
   signal-goes (signal-read name room direction semicolon) lists f h =
       let e = names-length text places lists count in
       then _ (new-named (listAt lists) (names text places count) name)
@@ -60,7 +60,7 @@ module _ {text places lists : List ℕ} {count n : ℕ} {g : List ℕ} {c r : Cu
 
   pub group-goes : Group text places lists count n g c r → {ns : Names}
       → (alive r ≡ true → namesOf text places lists count ++ (ahead text c, g) ∷ [] ≡ ns) → Goes text c (group n (namesOf text places lists count)) r ns
-  unfolding group expression
+  unfolding groupUpTo expression
   group-goes (group-read name room equals opening sum closing whole some semicolon) h =
       let e = names-length text places lists count in
       then _ (new-named (listAt lists) (names text places count) name)

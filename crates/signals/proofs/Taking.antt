@@ -5,13 +5,13 @@ use mathlib.Core.Path.{_≡_}
 use mathlib.Core.Bool.{Bool, true, false}
 use mathlib.Core.List.{List}
 use Rattle.meaning.specs.Reader.{Reader}
-use Rattle.meaning.specs.Signals.{Names, signal}
-use Rattle.meaning.specs.Groups.{term, sign, joined, more, terms, bracket, expression, group}
+use Rattle.meaning.specs.Signals.{Names, signal, signalUpTo}
+use Rattle.meaning.specs.Groups.{term, sign, joined, more, terms, bracket, expression, group, groupUpTo}
 use Rattle.meaning.proofs.Takes.{Takes, Keeps}
 use Rattle.meaning.proofs.Taking.{taking, takes-keeps, takes-due, takes-old, takes-bind, keeps-bind, keeps-give, takes-choose, takes-ahead, keeps-while}
 
 pub takes-signal : (ns : Names) → Takes (signal ns)
-unfolding signal
+unfolding signalUpTo
 takes-signal ns = search taking depth 16 fits 4000
 
 pub takes-sign : Takes sign
@@ -49,5 +49,5 @@ unfolding expression
 takes-expression ns = takes-terms _ ns (keeps-bracket _ ns)
 
 pub takes-group : (n : ℕ) (ns : Names) → Takes (group n ns)
-unfolding group
+unfolding groupUpTo
 takes-group n ns = search (taking, takes-expression) depth 24 fits 8000

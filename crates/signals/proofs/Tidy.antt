@@ -15,8 +15,8 @@ use Rattle.meaning.specs.Bounds.{signalsMost, groupsMost}
 use Rattle.meaning.specs.Lists.{meets}
 use Rattle.meaning.specs.Reader.{Reader, option}
 use Rattle.meaning.specs.Names.{find, known, name, oldName}
-use Rattle.meaning.specs.Signals.{Names, signal, signals}
-use Rattle.meaning.specs.Groups.{term, joined, more, terms, bracket, expression, group, groups}
+use Rattle.meaning.specs.Signals.{Names, signal, signals, signalUpTo, signalsUpTo}
+use Rattle.meaning.specs.Groups.{term, joined, more, terms, bracket, expression, group, groups, groupUpTo, groupsUpTo}
 use Rattle.meaning.proofs.Gives.{known-ok, Gives, gives-bind, gives-after, gives-give, gives-if, gives-ahead, gives-while, gives-until}
 use Rattle.sets.proofs.Tidy.{TidyBelow, bare, next, tidy-single, tidy-append, tidy-without}
 use Rattle.words.specs.Cursor.{alive, Goes}
@@ -116,7 +116,7 @@ append-nil (x ∷ ns) = ap (λ (l : Names). x ∷ l) (append-nil ns)
 
 module _ (most n : ℕ) (ns : Names) where
   pub grown-group : (ms : Names) → Grown most n ns ms → Gives (Grown most n ns) (group n ms)
-  unfolding group
+  unfolding groupUpTo
   grown-group ms h =
       gives-after P _ _ λ t.
       gives-bind (λ u. leb (n + groupsMost) (length ms) ≡ false) P _ _ (gives-if _ _ _) λ u e.
@@ -140,7 +140,7 @@ module _ (most n : ℕ) (ns : Names) where
   ungrown h e = record { tidy = h; added = []; same = sym (append-nil ns); few = e }
 
 pub grown-groups : (most : ℕ) (ns : Names) → AllTidy most ns → Gives (Grown most (length ns) ns) (groups ns)
-unfolding groups
+unfolding groupsUpTo
 grown-groups most ns h =
     gives-after P _ _ λ p.
     gives-after P _ _ λ q.
@@ -174,7 +174,7 @@ pub numbered-tidy : {ns : Names} → Numbered ns → AllTidy (length ns) ns
 numbered-tidy h = single-tidy (h .single) (omega arith)
 
 pub numbered-signal : (ns : Names) → Numbered ns → Gives Numbered (signal ns)
-unfolding signal
+unfolding signalUpTo
 numbered-signal ns h =
     gives-after Numbered _ _ λ t.
     gives-bind (λ u. leb signalsMost (length ns) ≡ false) Numbered _ _ (gives-if _ _ _) λ u e.
@@ -189,7 +189,7 @@ pub no-signal : Numbered []
 no-signal = record { single = no-more; few = omega arith }
 
 pub numbered-signals : Gives Numbered signals
-unfolding signals
+unfolding signalsUpTo
 numbered-signals =
     gives-after Numbered _ _ λ p.
     gives-after Numbered _ _ λ q.

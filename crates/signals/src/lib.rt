@@ -16,7 +16,7 @@ use sets::Set;
 use words::Cursor;
 
 // How many groups there may be.
-const GROUPS: usize = 32;
+const GROUPS: usize = 128;
 
 // How many signals and groups there may be.
 pub const NAMES: usize = sets::MOST + GROUPS;

@@ -8,7 +8,7 @@ use mathlib.Core.List.{List, _++_}
 use lib.Dec.{leb, ltb}
 use lib.ListN.{length, drop}
 use borrow.Author.Tests.{le-leb, lt-leb, leb-true, ltb-true, ltb-false}
-use Rattle.meaning.specs.Bounds.{sizeMost, cyclesMost}
+use Rattle.meaning.specs.Bounds.{signalsMost, sizeMost, cyclesMost}
 use Rattle.meaning.specs.Refusals.{badData, noRoom}
 use Rattle.meaning.specs.Run.{size, cycles, visits}
 use Rattle.meaning.specs.Meaning.{Answer, given, refused, answering, fitting, Meaning, meaning}
@@ -74,7 +74,7 @@ spared-room false true x = refl
 spared-room false false x = refl
 
 -- so many rows of any text's width
-pub bytes-fit : {due width : ℕ} → due ≤ cyclesMost → width ≤ 66 → due * width < 2 ^ 64
+pub bytes-fit : {due width : ℕ} → due ≤ cyclesMost → width ≤ signalsMost + 2 → due * width < 2 ^ 64
 bytes-fit h k = omega (arith, mul-le-mul h k)
 
 module _ {w : Watch} {text places lists tplaces waves book marks list : List ℕ} {v : Verdict} (f : Found text w places lists tplaces waves book marks list v) where

@@ -6,11 +6,11 @@ use mathlib.Core.List.{List, [], _∷_}
 use lib.ListN.{length, length-append}
 use Rattle.tokens.specs.Tokens.{Tok, Toks}
 use Rattle.meaning.specs.Reader.{Res, Reader, ok, refuse, after, _>>=_, _>>_, give, due, option}
-use Rattle.meaning.specs.Signals.{Names, signal, signals}
+use Rattle.meaning.specs.Signals.{Names, signal, signals, signalUpTo, signalsUpTo}
 use Rattle.meaning.specs.Groups.{groups}
 use Rattle.meaning.specs.Timing.{Tables, timing}
 use Rattle.meaning.specs.Statements.{Decls, Env}
-use Rattle.meaning.specs.Document.{bodies, burst, exec, patterns, Read, document}
+use Rattle.meaning.specs.Document.{bodies, burst, exec, patterns, Read, document, documentUpTo}
 use Rattle.meaning.proofs.Gives.{Gives, gives-bind, gives-after, gives-give, gives-until}
 use Rattle.held.proofs.Leads.{Leads, leads-bind, leads-give}
 use Rattle.held.proofs.Parts.{firstEnv, Parts}
@@ -83,7 +83,7 @@ module _ {A : Type 0} where
       ∙ same-on (exec (b .0)) (λ q. same-after (patterns e (b .0)) (λ ps. give (b .0, b .1, ps)) k) us) ts
 
 pub document-blocks : Same blocks document
-unfolding blocks document
+unfolding blocks documentUpTo
 document-blocks ts =
     declarations-then (λ x. bodies (firstEnv (x .1) (x .2)) >>= λ e. ending e >>= λ y. give (readOf x y)) ts
     ∙ same-on (due "STIL") (λ a. same-on (due "1.0") λ b. same-on (due ";") λ c. same-on signals λ ss. same-on (option "SignalGroups" groups ss) λ ns.
@@ -170,13 +170,13 @@ abbrev Some : Names → Type 0
 Some ss = 1 ≤ length ss
 
 some-signal : (ns : Names) → Gives Some (signal ns)
-unfolding signal
+unfolding signalUpTo
 some-signal ns =
     gives-after Some _ _ λ t. gives-after Some _ _ λ u. gives-after Some _ _ λ p. gives-after Some _ _ λ q.
     gives-give Some _ (omega (arith, length-append ns ((t, length ns ∷ []) ∷ [])))
 
 some-signals : Gives Some signals
-unfolding signals
+unfolding signalsUpTo
 some-signals =
     gives-after Some _ _ λ p. gives-after Some _ _ λ q.
     gives-bind Some Some _ _ (some-signal []) λ ns h. gives-until Some "}" signal (λ ns h. some-signal ns) ns h

@@ -15,7 +15,7 @@ use Rattle.tokens.proofs.Laws.{stops, fault-real}
 use Rattle.meaning.specs.Reader.{Res, Reader, ok, _>>=_, ahead, whileF, while}
 use Rattle.meaning.specs.Groups.{groups}
 use Rattle.meaning.specs.Statements.{Env}
-use Rattle.meaning.specs.Document.{macroDefs, procedures, bodies, pattern, over, patterns, Read, document}
+use Rattle.meaning.specs.Document.{macroDefs, procedures, bodies, pattern, over, patterns, Read, document, documentUpTo}
 use Rattle.meaning.proofs.Gives.{bind-ok}
 use Rattle.meaning.proofs.Takes.{Takes}
 use Rattle.held.proofs.Parts.{parts}
@@ -51,7 +51,7 @@ leaves-patterns e b =
     leaves-bind _ _ (moves-leaves (moves-pattern e b [])) (leaves-while (pattern e b) (λ ps. moves-leaves (moves-pattern e b ps)) _)
 
 leaves-document : Leaves document
-unfolding document
+unfolding documentUpTo
 leaves-document =
     leaves-bind _ _ (moves-leaves (moves-due _)) λ a.
     leaves-bind _ _ (moves-leaves (moves-due _)) λ b.

@@ -10,7 +10,7 @@ use lib.ListN.{length, drop, replicate}
 use lib.Dec.{leb}
 use borrow.Author.Tests.{leb-true}
 use Rattle.tokens.specs.Tokens.{Tok, Toks, toks}
-use Rattle.meaning.specs.Bounds.{listMost, sizeMost, cyclesMost}
+use Rattle.meaning.specs.Bounds.{signalsMost, listMost, sizeMost, cyclesMost}
 use Rattle.meaning.specs.Timing.{Tables}
 use Rattle.meaning.specs.Body.{listed}
 use Rattle.meaning.specs.Run.{size, cycles, play, visits, start, cyclesOf}
@@ -28,6 +28,7 @@ use Rattle.walks.proofs.Seen.{length-seen}
 use Rattle.walks.proofs.Rows.{written-none}
 use Rattle.words.specs.Table.{nameOf}
 use Rattle.signals.proofs.Tables.{names-length}
+use Rattle.pins.specs.Shown.{valuesLength, feedsLength}
 use Rattle.heads.specs.declared.Known.{Known}
 use Rattle.texts.specs.declared.Parts.{Parts}
 use Rattle.texts.proofs.Runs.{listFrom, list-cut, list-end}
@@ -150,7 +151,7 @@ module _ (text places lists tplaces waves book rows list : List ℕ) (known : Kn
 
   -- before the first
   pub unseen : SomeText text places lists tplaces waves book rows list known signals listed patterns sized first due before → 10 * sized ≤ budget
-      → Unseen 0 (arrays (replicate 640 0) (replicate 2_304 0) (replicate 128 0)) (outset budget first due mark) before
+      → Unseen 0 (arrays (replicate valuesLength 0) (replicate feedsLength 0) (replicate (signalsMost * 2) 0)) (outset budget first due mark) before
   unseen s enough = record {
     arrays-sized = opening-sized text places lists tplaces waves book rows list known signals listed patterns
         (record { parts = s .parts; read = s .read; body = s .it .run; runs = s .accepts .runs });

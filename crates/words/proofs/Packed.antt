@@ -8,11 +8,11 @@ use native.Mathlib.Nat.{eq-or-lt-of-le}
 use lib.Dec.{eqb, ltb}
 use borrow.Author.Tests.{eqb-true, eqb-false, ltb-true, ltb-false}
 use mathlib.Core.Bool.{Bool, true, false}
-use mathlib.Core.List.{List}
+use mathlib.Core.List.{List, [], _∷_}
 use lib.ListN.{length, getD}
 use lib.Seq.{ext-getD}
 use Rattle.tokens.specs.Written.{same}
-use Rattle.words.specs.Packed.{packed}
+use Rattle.words.specs.Packed.{packed, ZerosFrom}
 use Rattle.words.proofs.Words.{same-eq, same-self}
 
 -- ---- numbers of two, four and eight bytes
@@ -54,6 +54,32 @@ module _ (w v : List ℕ) (sw : (k : ℕ) → getD w k 0 < 256) (sv : (k : ℕ) 
     where
       parts : (getD w i 0 ≡ getD v i 0) × (packed w (suc i) n ≡ packed v (suc i) n)
       parts = low _ _ _ _ (sw i) (sv i) e
+
+-- ---- zeros
+
+packed-zeros : (w : List ℕ) (n i : ℕ) → packed w i n ≡ 0 → (k : ℕ) → i ≤ k → k < i + n → getD w k 0 ≡ 0
+unfolding packed
+packed-zeros w zero i e k l m = absurd (omega arith)
+packed-zeros w (suc n) i e k l m =
+    ⊎-elim
+    (λ q. subst (λ (j : ℕ). getD w j 0 ≡ 0) q (omega arith))
+    (λ q. packed-zeros w n (suc i) (omega arith) k (omega arith) (omega arith))
+    (eq-or-lt-of-le l)
+
+past-end : (w : List ℕ) (i : ℕ) → length w ≤ i → getD w i 0 ≡ 0
+past-end [] i h = refl
+past-end (x ∷ w) zero h = absurd (omega arith)
+past-end (x ∷ w) (suc i) h = past-end w i (omega arith)
+
+pub zeros-none : (w : List ℕ) → ZerosFrom w (length w)
+zeros-none w = record { within = omega arith; none = past-end w }
+
+pub zeros-more : {w : List ℕ} {n : ℕ} → ZerosFrom w n → (m : ℕ) → n ≡ m + 8 → packed w m 8 ≡ 0 → ZerosFrom w m
+zeros-more {w} {n} x m p e = record { within = omega (arith, x .within); none = λ i h. by i h (ltb i n) refl }
+  where
+    by : (i : ℕ) → m ≤ i → (b : Bool) → ltb i n ≡ b → getD w i 0 ≡ 0
+    by i h true q = packed-zeros w 8 m e i h (omega (arith, ltb-true i n q))
+    by i h false q = x .none i (ltb-false i n q)
 
 -- ---- words compared by eight bytes at a time
 

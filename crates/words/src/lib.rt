@@ -15,7 +15,7 @@ ghost use Rattle.meaning.specs.Timing.{waveChar, allChars, unit as unitOf, pico
 ghost use Rattle.words.specs.Cursor.{span, ahead as aheadTok, stream, alive, Stands, Goes, Checked, taking};
 ghost use Rattle.words.specs.Values.{most, told, capped, valueOf, Longer};
 ghost use Rattle.words.specs.Table.{nameOf, names};
-ghost use Rattle.words.specs.Packed.{packed, capital, EndsWith};
+ghost use Rattle.words.specs.Packed.{packed, capital, EndsWith, ZerosFrom};
 
 // Where reading stands. With `no` 0 the token ahead is the text from `at` to `end`; where `end` is not behind `at` there is none: the text has
 // ended at `at`, or has the fault `fault` there. With another `no` reading was refused so at `at`, and every reader hands that on.
@@ -365,6 +365,20 @@ fn eight(w: &[u8], i: usize) -> u64
     ensures { λ r. ⌜ r ≡ packed (now (w .entry)) i 8 ⌝ }
 {
     four(w, i) + four(w, i + 4) * 4_294_967_296
+}
+
+// From here on all bytes are 0. They are looked at from the end on, eight at a time, so that a row of which only the front is used costs what its front costs.
+pub fn zeros_from(w: &[u8]) -> usize
+    ensures { λ r. ⌜ ZerosFrom (now (w .entry)) r ⌝ }
+{
+    let mut n = w.len();
+    while 8 <= n {
+        if eight(w, n - 8) != 0 {
+            return n;
+        }
+        n -= 8;
+    }
+    n
 }
 
 // Are two words equal? By eight bytes at a time; the last eight may have been compared in part already.

@@ -7,9 +7,9 @@ mod refusal;
 use refusal::answered;
 pub use refusal::{Refusal, Refused};
 
-/// Bounds of every accepted text: its bytes, and those of a row (64 signals, the table's digit and LF).
+/// Bounds of every accepted text: its bytes, and those of a row (256 signals, the table's digit and LF).
 pub const TEXT_MOST: usize = 65_536;
-pub const ROW_MOST: usize = 66;
+pub const ROW_MOST: usize = 258;
 const EVENTS_MOST: usize = 16;
 
 /// What Check counts.

@@ -129,7 +129,8 @@ impl Plan {
     fn edge(&mut self, random: &mut Random) {
         let over = random.below(2);
         match random.below(20) {
-            0 => self.signals = MAX_SIGNALS + over,
+            // So many signals with three tables would be a text that is too long.
+            0 => (self.signals, self.tables) = (MAX_SIGNALS + over, 1),
             1 => self.groups = MAX_GROUPS + over,
             2 => self.tables = MAX_TABLES + over,
             3 => self.bodies = MAX_BODIES + over,

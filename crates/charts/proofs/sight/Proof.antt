@@ -1,6 +1,6 @@
 -- `sight` meets its contract: the declarations are read into blank arrays, and the waveform is watched on the way.
 use mathlib.Core.Path.{refl}
-use Rattle.declared.proofs.Numbers.{zeros}
+use Rattle.declared.proofs.Numbers.{blank-waves}
 use Rattle.charts.proofs.Sighting.{sighted}
 use borrow.Author.Needs.{needs}
 use Rattle.charts.proofs.sight.Statement.{statement}
@@ -31,7 +31,7 @@ declarations-requires c κs =
       sized = record { all = refl; rows = refl };
       tables = refl;
       marks = refl;
-      unset = zeros 65_536;
+      unset = blank-waves;
     }
 
 returns : tie.Need-returns

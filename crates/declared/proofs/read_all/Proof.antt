@@ -1,6 +1,6 @@
 -- `read_all` meets its contract: arrays of zeros are blank, and what reading them full promises is told.
 use mathlib.Core.Path.{refl, _∙_}
-use Rattle.declared.proofs.Numbers.{zeros, told-refused, told-read}
+use Rattle.declared.proofs.Numbers.{blank-waves, told-refused, told-read}
 use borrow.Author.Needs.{needs}
 use Rattle.declared.proofs.read_all.Statement.{statement}
 use Rattle.declared.proofs.read_all.Tie as tie
@@ -25,19 +25,16 @@ declarations-requires c κs = record {
   sized = record { all = refl; rows = refl };
   tables = refl;
   marks = refl;
-  unset = zeros 65_536;
+  unset = blank-waves;
 }
-
-cast-refused : tie.Need-cast-refused
-cast-refused c = search needs
 
 refused-requires : tie.Need-refused-requires
 refused-requires c κs = search needs
 
 returns : tie.Need-returns
 returns c =
-    let read = c .before .before .before .before .before .before .before .before .before in
-    c .refused .ensures ∙ told-refused (read .before .before .before .before .before .cursor-at .ensures) (read .declarations .ensures) (c .before .before .if1 .taken)
+    let read = c .before .before .before .before .before .before .before .before in
+    c .refused .ensures ∙ told-refused (read .before .before .before .before .before .cursor-at .ensures) (read .declarations .ensures) (c .before .if1 .taken)
 
 returns-2 : tie.Need-returns-2
 returns-2 c =
@@ -54,7 +51,6 @@ read-all-spec =
     slice-aggregate-declarations-3
     slice-aggregate-declarations-4
     declarations-requires
-    cast-refused
     refused-requires
     returns
     returns-2)

@@ -18,9 +18,6 @@ read-all-requires c κs = search needs
 enum-known-n : tie.Need-enum-known-n
 enum-known-n c = search needs
 
-cast-refused : tie.Need-cast-refused
-cast-refused c = search needs
-
 refused-requires : tie.Need-refused-requires
 refused-requires c κs = search needs
 
@@ -42,7 +39,6 @@ tell-spec =
     enum-told
     read-all-requires
     enum-known-n
-    cast-refused
     refused-requires
     returns
     returns-2)

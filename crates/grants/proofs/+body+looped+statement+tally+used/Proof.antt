@@ -6,6 +6,7 @@ use lib.ListN.{length-replicate}
 use borrow.Author.Tests.{not-false}
 use borrow.Author.Needs.{needs}
 use Rattle.tokens.specs.Tokens.{left}
+use Rattle.meaning.specs.Bounds.{signalsMost}
 use Rattle.words.specs.Cursor.{stream}
 use Rattle.assigns.proofs.Table.{gave-zeros}
 use Rattle.plays.specs.Plays.{ground}
@@ -251,7 +252,7 @@ statement-slice-aggregate-head-2 t c = search needs
 statement-head-requires : (t : ℕ) → statement-lts.Need-head-requires (statement-calls t) (statement-at t) statement′.Post
 statement-head-requires t c κs =
     let s = c .before .before .before .before .before .before .before .before .before .before .before .pre .1 .1 in
-    (record { env = s .env; describes = s .standing .holding .describes }, (omega arith), gave-zeros, length-replicate {A = ℕ} 128 0)
+    (record { env = s .env; describes = s .standing .holding .describes }, (omega arith), gave-zeros, length-replicate {A = ℕ} (signalsMost * 2) 0)
 
 statement-enum-told : (t : ℕ) → statement-lts.Need-enum-told (statement-calls t) (statement-at t) statement′.Post
 statement-enum-told t c = c .match .keys1

@@ -2,8 +2,9 @@
 use native.Mathlib.Omega.{arith}
 use mathlib.Core.Path.{refl}
 use lib.ListN.{length-replicate}
-use Prim.Native.Nat.{ℕ}
+use Prim.Native.Nat.{ℕ, _*_}
 use Rattle.tokens.specs.Written.{bytes}
+use Rattle.meaning.specs.Bounds.{signalsMost}
 use Rattle.assigns.proofs.Table.{gave-zeros}
 use Rattle.grants.proofs.Keeping.{kept-only}
 use Rattle.grants.proofs.Shifting.{shift-gone}
@@ -20,7 +21,7 @@ slice-aggregate-head-2 c = search needs
 head-requires : tie.Need-head-requires
 head-requires c κs =
     let s = c .before .before .before .before .before .before .before .before .before .before .pre .1 in
-    (record { env = s .env; describes = s .holding .describes }, (omega arith), gave-zeros, length-replicate {A = ℕ} 128 0)
+    (record { env = s .env; describes = s .holding .describes }, (omega arith), gave-zeros, length-replicate {A = ℕ} (signalsMost * 2) 0)
 
 slice-aggregate-vector : tie.Need-slice-aggregate-vector
 slice-aggregate-vector c = search needs

@@ -1,7 +1,8 @@
 -- A Loop's body is entered as often as its turns ask.
-use Prim.Native.Nat.{ℕ}
+use Prim.Native.Nat.{ℕ, _*_}
 use native.Mathlib.Omega.{arith}
 use lib.ListN.{length-replicate}
+use Rattle.meaning.specs.Bounds.{signalsMost}
 use Rattle.meaning.specs.Body.{argOf}
 use Rattle.tallies.proofs.Stored.{only-then}
 use Rattle.grants.proofs.Same.{other-sum}
@@ -19,7 +20,7 @@ slice-aggregate-in-place-2 c = search needs
 in-place-requires : tie.Need-in-place-requires
 in-place-requires c κs =
     let p = c .before .before .before .before .before .before .pre in
-    (p .0, p .1, p .2, p .3, p .4, length-replicate {A = ℕ} 64 0, length-replicate {A = ℕ} 128 0)
+    (p .0, p .1, p .2, p .3, p .4, length-replicate {A = ℕ} signalsMost 0, length-replicate {A = ℕ} (signalsMost * 2) 0)
 
 same-length : tie.Need-same-length
 same-length c = search needs
@@ -41,7 +42,7 @@ in-place-requires-2 : tie.Need-in-place-requires-2
 in-place-requires-2 c κs =
     let p = c .before .before .before .before .before .before .before .before .before .before .before .before .before .pre in
     let l = c .before .before .before .before .before .before .in-place .ensures .0 .long in
-    (omega (arith, p .0), omega (arith, p .1), p .2, p .3, p .4, length-replicate {A = ℕ} 64 0, length-replicate {A = ℕ} 128 0)
+    (omega (arith, p .0), omega (arith, p .1), p .2, p .3, p .4, length-replicate {A = ℕ} signalsMost 0, length-replicate {A = ℕ} (signalsMost * 2) 0)
 
 same-length-2 : tie.Need-same-length-2
 same-length-2 c = search needs

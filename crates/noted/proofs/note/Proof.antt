@@ -3,16 +3,19 @@ use Prim.Native.Nat.{_-_, _≤_}
 use native.Mathlib.Omega.{arith}
 use mathlib.Core.Logic.{⊎-elim}
 use Rattle.meaning.specs.Bounds.{signalsMost}
-use Rattle.noted.proofs.Marking.{Noting, noting-none, noting-kept, noting-next, noting-all}
+use Rattle.noted.proofs.Marking.{Noting, noting-none, noting-kept, noting-next, noting-rest, noting-all}
 use borrow.Author.Needs.{needs}
 use Rattle.noted.proofs.note.Statement.{statement}
 use Rattle.noted.proofs.note.Tie as tie
 
 abbrev Inv-loop : tie.InvT-loop
-Inv-loop given used₀ s₀ used s = (s ≤ signalsMost) × Noting given s used₀ used
+Inv-loop given used₀ n s₀ used s = (s ≤ n) × Noting given s used₀ used
 
 abbrev μ-loop : tie.MeasureT-loop
-μ-loop given used₀ s₀ used s = signalsMost - s
+μ-loop given used₀ n s₀ used s = n - s
+
+zeros-from-requires : tie.Need-zeros-from-requires Inv-loop μ-loop
+zeros-from-requires c κs = search needs
 
 loop-holds : tie.Need-loop-holds Inv-loop μ-loop
 loop-holds c = (omega arith, noting-none)
@@ -21,7 +24,10 @@ shared-slice-read-c : tie.Need-shared-slice-read-c Inv-loop μ-loop
 shared-slice-read-c c = search needs
 
 note-char-requires : tie.Need-note-char-requires Inv-loop μ-loop
-note-char-requires c κs = (omega (arith, c .before .before .before .before .loop .inv .1 .grows .long), omega arith)
+note-char-requires c κs =
+    let turn = c .before .before .before .before in
+    let pre′ = turn .before .before .before .before .pre in
+    (omega (arith, turn .loop .inv .1 .grows .long), omega (arith, turn .before .zeros-from .ensures .within, pre′ .0))
 
 add-s : tie.Need-add-s Inv-loop μ-loop
 add-s c = search needs
@@ -40,7 +46,10 @@ same-length : tie.Need-same-length Inv-loop μ-loop
 same-length c = c .before .loop .inv .1 .grows .long
 
 returns : tie.Need-returns Inv-loop μ-loop
-returns c = let y = c .before .loop .inv .1 in (y .grows, noting-all y (omega arith))
+returns c =
+    let y = c .before .loop .inv .1 in
+    let zeros = c .before .before .zeros-from .ensures in
+    (y .grows, noting-all (noting-rest y (λ i l. zeros .none i (omega arith)) signalsMost) (omega arith))
 
 pub note-spec : {M : Type 1} → statement M
 note-spec =
@@ -48,6 +57,7 @@ note-spec =
     (tie.spec
     Inv-loop
     μ-loop
+    zeros-from-requires
     loop-holds
     shared-slice-read-c
     note-char-requires

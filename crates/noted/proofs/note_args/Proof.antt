@@ -3,16 +3,19 @@ use Prim.Native.Nat.{_-_, _≤_}
 use native.Mathlib.Omega.{arith}
 use mathlib.Core.Logic.{⊎-elim}
 use Rattle.meaning.specs.Bounds.{signalsMost}
-use Rattle.noted.proofs.Marking.{NotingArgs, args-none, args-kept, args-next, args-all}
+use Rattle.noted.proofs.Marking.{NotingArgs, args-none, args-kept, args-next, args-rest, args-all}
 use borrow.Author.Needs.{needs}
 use Rattle.noted.proofs.note_args.Statement.{statement}
 use Rattle.noted.proofs.note_args.Tie as tie
 
 abbrev Inv-loop : tie.InvT-loop
-Inv-loop text given args used₀ s₀ used s = (s ≤ signalsMost) × NotingArgs text given args s used₀ used
+Inv-loop text given args used₀ n s₀ used s = (s ≤ n) × NotingArgs text given args s used₀ used
 
 abbrev μ-loop : tie.MeasureT-loop
-μ-loop text given args used₀ s₀ used s = signalsMost - s
+μ-loop text given args used₀ n s₀ used s = n - s
+
+zeros-from-requires : tie.Need-zeros-from-requires Inv-loop μ-loop
+zeros-from-requires c κs = search needs
 
 loop-holds : tie.Need-loop-holds Inv-loop μ-loop
 loop-holds c = (omega arith, args-none)
@@ -30,7 +33,10 @@ shared-slice-read-note-data : tie.Need-shared-slice-read-note-data Inv-loop μ-l
 shared-slice-read-note-data c = search needs
 
 note-data-requires : tie.Need-note-data-requires Inv-loop μ-loop
-note-data-requires c κs = (omega (arith, c .before .before .before .before .before .loop .inv .1 .grows .long), omega arith)
+note-data-requires c κs =
+    let turn = c .before .before .before .before .before in
+    let pre′ = turn .before .before .before .before .before .before .pre in
+    (omega (arith, turn .loop .inv .1 .grows .long), omega (arith, turn .before .zeros-from .ensures .within, pre′ .0))
 
 add-s : tie.Need-add-s Inv-loop μ-loop
 add-s c = search needs
@@ -49,7 +55,10 @@ same-length : tie.Need-same-length Inv-loop μ-loop
 same-length c = c .before .loop .inv .1 .grows .long
 
 returns : tie.Need-returns Inv-loop μ-loop
-returns c = let y = c .before .loop .inv .1 in (y .grows, args-all y (omega arith))
+returns c =
+    let y = c .before .loop .inv .1 in
+    let zeros = c .before .before .zeros-from .ensures in
+    (y .grows, args-all (args-rest y (λ i l. zeros .none i (omega arith)) signalsMost) (omega arith))
 
 pub note-args-spec : {M : Type 1} → statement M
 note-args-spec =
@@ -57,6 +66,7 @@ note-args-spec =
     (tie.spec
     Inv-loop
     μ-loop
+    zeros-from-requires
     loop-holds
     shared-slice-read-if1
     add-note-data

@@ -4,16 +4,19 @@ use native.Mathlib.Omega.{arith}
 use mathlib.Core.Logic.{⊎-elim}
 use borrow.Author.Needs.{needs}
 use Rattle.meaning.specs.Bounds.{signalsMost}
-use Rattle.pins.proofs.Turns.{Refilled, refilled-none, refilled-next, refilled-same}
+use Rattle.pins.proofs.Turns.{Refilled, refilled-none, refilled-next, refilled-same, refilled-rest}
 use Rattle.pins.proofs.Supplying.{Begun, begun-all}
 use Rattle.pins.proofs.supply.Statement.{statement}
 use Rattle.pins.proofs.supply.Tie as tie
 
 abbrev Inv-loop : tie.InvT-loop
-Inv-loop given args feeds₀ level s₀ feeds s = (s ≤ signalsMost) × Refilled (Begun given args) level s feeds₀ feeds
+Inv-loop given args feeds₀ level n s₀ feeds s = (s ≤ n) × Refilled (Begun given args) level s feeds₀ feeds
 
 abbrev μ-loop : tie.MeasureT-loop
-μ-loop given args feeds₀ level s₀ feeds s = signalsMost - s
+μ-loop given args feeds₀ level n s₀ feeds s = n - s
+
+zeros-from-requires : tie.Need-zeros-from-requires Inv-loop μ-loop
+zeros-from-requires c κs = search needs
 
 loop-holds : tie.Need-loop-holds Inv-loop μ-loop
 loop-holds c = (omega arith, refilled-none)
@@ -34,7 +37,9 @@ start-requires : tie.Need-start-requires Inv-loop μ-loop
 start-requires c κs = search needs
 
 put-feed-requires : tie.Need-put-feed-requires Inv-loop μ-loop
-put-feed-requires c κs = omega (arith, c .before .before .before .before .before .before .loop .inv .1 .long)
+put-feed-requires c κs =
+    let turn = c .before .before .before .before .before .before in
+    omega (arith, turn .loop .inv .1 .long, turn .before .zeros-from .ensures .within)
 
 add-s : tie.Need-add-s Inv-loop μ-loop
 add-s c = search needs
@@ -44,11 +49,13 @@ loop-less c = search needs
 
 loop-again : tie.Need-loop-again Inv-loop μ-loop
 loop-again c =
-    let x = c .before .before .before .loop .inv .1 in (
+    let turn = c .before .before .before in
+    let x = turn .loop .inv .1 in
+    let below = turn .before .zeros-from .ensures .within in (
       omega arith,
       ⊎-elim
-          (λ w. rw (w .7) (refilled-next x (omega arith) (w .4 .ensures) (λ z. w .3 .ensures)))
-          (λ w. rw (w .1) (refilled-same x (omega arith) (λ z. absurd (z (w .0 .left)))))
+          (λ w. rw (w .7) (refilled-next x (omega (arith, below)) (w .4 .ensures) (λ z. w .3 .ensures)))
+          (λ w. rw (w .1) (refilled-same x (omega (arith, below)) (λ z. absurd (z (w .0 .left)))))
           (c .if1 .came),
     )
 
@@ -58,7 +65,8 @@ same-length c = c .before .loop .inv .1 .long
 returns : tie.Need-returns Inv-loop μ-loop
 returns c =
     let x = c .before .loop .inv .1 in
-    (omega (arith, x .long), x .others, begun-all (omega arith) x)
+    let zeros = c .before .before .zeros-from .ensures in
+    (omega (arith, x .long), x .others, begun-all (omega arith) (refilled-rest x (λ k l n. absurd (n (zeros .none k (omega arith))))))
 
 pub supply-spec : {M : Type 1} → statement M
 supply-spec =
@@ -66,6 +74,7 @@ supply-spec =
     (tie.spec
     Inv-loop
     μ-loop
+    zeros-from-requires
     loop-holds
     shared-slice-read-if1
     add-start

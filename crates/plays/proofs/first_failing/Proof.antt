@@ -5,13 +5,14 @@ use mathlib.Core.Path.{_≡_, sym, _∙_}
 use lib.ListN.{length, length-replicate}
 use borrow.Author.Needs.{needs}
 use Rattle.plays.specs.Plays.{arrays}
+use Rattle.plays.specs.Memo.{memoLength}
 use Rattle.plays.proofs.Memos.{zeros}
 use Rattle.plays.proofs.Texts.{decides-failing, decides-sound, listed-any, run-fails, run-learnt, run-left, run-sound, Unplayed, unplayed}
 use Rattle.plays.proofs.first_failing.Statement.{statement}
 use Rattle.plays.proofs.first_failing.Tie as tie
 
 abbrev Inv-loop : tie.InvT-loop
-Inv-loop text places lists tplaces book rows waves marks sums list known signals listed patterns values₀ feeds₀ args₀ memo₀ k₀ values feeds args memo k = (45_495 ≡ length memo) × Unplayed text places lists tplaces waves book rows list known signals listed patterns marks sums memo k (arrays values feeds args)
+Inv-loop text places lists tplaces book rows waves marks sums list known signals listed patterns values₀ feeds₀ args₀ memo₀ k₀ values feeds args memo k = (memoLength ≡ length memo) × Unplayed text places lists tplaces waves book rows list known signals listed patterns marks sums memo k (arrays values feeds args)
 
 abbrev μ-loop : tie.MeasureT-loop
 μ-loop text places lists tplaces book rows waves marks sums list known signals listed patterns values₀ feeds₀ args₀ memo₀ k₀ values feeds args memo k = listed - k
@@ -19,7 +20,7 @@ abbrev μ-loop : tie.MeasureT-loop
 loop-holds : tie.Need-loop-holds Inv-loop μ-loop
 loop-holds c =
     let pre′ = c .before .before .before .before .before .before .before .before .before .before .pre in
-    (sym (length-replicate {A = ℕ} 45_495 0), unplayed _ _ _ _ _ _ _ _ _ _ _ _ pre′ (zeros 45_495))
+    (sym (length-replicate {A = ℕ} memoLength 0), unplayed _ _ _ _ _ _ _ _ _ _ _ _ pre′ (zeros memoLength))
 
 slice-aggregate-pattern : tie.Need-slice-aggregate-pattern Inv-loop μ-loop
 slice-aggregate-pattern c = search needs

@@ -4,6 +4,7 @@ use native.Mathlib.Omega.{arith}
 use mathlib.Core.Path.{sym, _∙_}
 use lib.ListN.{length-replicate}
 use borrow.Author.Tests.{not-false}
+use Rattle.meaning.specs.Bounds.{signalsMost}
 use Rattle.plays.proofs.Passing.{room, stays, passes-macro, passes-procedure}
 use borrow.Author.Needs.{needs}
 use Rattle.plays.proofs.pass.Statement.{statement}
@@ -37,7 +38,7 @@ asks-requires c κs =
     let pre′ = c .before .before .before .before .before .before .before .before .before .before .before .before .before .before .pre in
     let args′ = c .before .before .before .before .before .before .before .before .before .before .before .before .before .before .args in
     let if1′ = c .before .before .before .before .before .before .if1 in
-    (room (args′ .marks .now) (args′ .sums .now) (args′ .i) (if1′ .left) .1, pre′ .0, pre′ .1, pre′ .3, pre′ .4, omega (arith, pre′ .5), length-replicate {A = ℕ} 64 0)
+    (room (args′ .marks .now) (args′ .sums .now) (args′ .i) (if1′ .left) .1, pre′ .0, pre′ .1, pre′ .3, pre′ .4, omega (arith, pre′ .5), length-replicate {A = ℕ} signalsMost 0)
 
 same-length : tie.Need-same-length
 same-length c = search needs
@@ -84,7 +85,7 @@ asks-requires-2 c κs =
     let pre′ = c .before .before .before .before .before .before .before .before .before .before .before .before .before .before .pre in
     let args′ = c .before .before .before .before .before .before .before .before .before .before .before .before .before .before .args in
     let if1′ = c .before .before .before .before .before .before .if1 in
-    (room (args′ .marks .now) (args′ .sums .now) (args′ .i) (if1′ .left) .1, pre′ .0, pre′ .1, pre′ .3, pre′ .4, omega (arith, length-replicate {A = ℕ} 64 0), length-replicate {A = ℕ} 64 0)
+    (room (args′ .marks .now) (args′ .sums .now) (args′ .i) (if1′ .left) .1, pre′ .0, pre′ .1, pre′ .3, pre′ .4, omega (arith, length-replicate {A = ℕ} signalsMost 0), length-replicate {A = ℕ} signalsMost 0)
 
 returns-5 : tie.Need-returns-5
 returns-5 c =

@@ -6,7 +6,7 @@ use native.Mathlib.Omega.{arith}
 use Rattle.tokens.specs.Written.{bytes}
 use Rattle.meaning.specs.Bounds.{signalsMost}
 use Rattle.meaning.specs.Reader.{while, aheadOf}
-use Rattle.meaning.specs.Groups.{group as groupDue, groups as groupsDue}
+use Rattle.meaning.specs.Groups.{group as groupDue, groups as groupsDue, groupsUpTo}
 use Rattle.words.specs.Cursor.{alive}
 use Rattle.words.proofs.Flow.{then, alive-before}
 use Rattle.words.proofs.Loops.{Leads, begins, turned, over, less, on, room, ends}
@@ -116,7 +116,7 @@ same-length-2 c =
     loop′ .inv .1 .rows ∙ sym (pre′ .0 .rows)
 
 returns : tie.Need-returns Inv-loop μ-loop
-unfolding groupsDue bytes
+unfolding groupsUpTo bytes
 returns c =
     let args′ = c .before .before .before .before .before .before .before .before .before .before .before .before .before .args in
     let due′ = c .before .before .before .before .before .before .before .before .due in

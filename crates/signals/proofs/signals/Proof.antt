@@ -5,7 +5,7 @@ use mathlib.Core.List.{[]}
 use native.Mathlib.Omega.{arith}
 use Rattle.tokens.specs.Written.{bytes}
 use Rattle.meaning.specs.Reader.{while, aheadOf}
-use Rattle.meaning.specs.Signals.{signal as signalDue, signals as signalsDue}
+use Rattle.meaning.specs.Signals.{signal as signalDue, signals as signalsDue, signalsUpTo}
 use Rattle.words.specs.Cursor.{alive}
 use Rattle.words.specs.Table.{named, namesFrom}
 use Rattle.words.proofs.Flow.{then}
@@ -107,7 +107,7 @@ same-length-2 c =
     loop′ .inv .1 .rows ∙ sym (pre′ .rows)
 
 returns : tie.Need-returns Inv-loop μ-loop
-unfolding signalsDue named namesFrom bytes
+unfolding signalsUpTo named namesFrom bytes
 returns c =
     let due′ = c .before .before .before .before .before .before .before .before .before .before .before .before .before .before .before .due in
     let due2′ = c .before .before .before .before .before .before .before .before .before .before .before .before .before .due2 in

@@ -1,9 +1,12 @@
 -- `summed` meets its contract: what 1 to 16 leave has a run, whatever waveform was watched for; the sums show that no cycle of it fails, or tell which bodies
 -- are passed where it is played.
-use Prim.Native.Nat.{ℕ}
+use Prim.Native.Nat.{ℕ, _*_}
 use lib.ListN.{length-replicate}
 use borrow.Author.Needs.{needs}
 use Rattle.declared.proofs.Numbers.{zeros}
+use Rattle.measures.specs.Book.{bodies}
+use Rattle.tallies.specs.Rows.{rowSize}
+use Rattle.grants.specs.Grants.{rows}
 use Rattle.plays.proofs.Texts.{decides-sound}
 use Rattle.verdicts.proofs.Found.{runs}
 use Rattle.verdicts.proofs.summed.Statement.{statement}
@@ -18,7 +21,7 @@ slice-aggregate-granted-2 c = search needs
 granted-requires : tie.Need-granted-requires
 granted-requires c κs = (
   record { parts = _; read = _; body = _; runs = runs (c .before .before .before .before .before .before .before .before .before .before .before .before .pre .1) },
-  record { marks-long = length-replicate {A = ℕ} 64 0; sums-long = length-replicate {A = ℕ} 89_571 0; unmarked = zeros 64 },
+  record { marks-long = length-replicate {A = ℕ} bodies 0; sums-long = length-replicate {A = ℕ} (rows * rowSize) 0; unmarked = zeros bodies },
 )
 
 returns : tie.Need-returns

@@ -1,15 +1,16 @@
 -- `fitting` meets its contract: a page divided by a row's width holds so many rows, and one at least.
-use Prim.Native.Nat.{ℕ, _*_, _/_, _≤_, _<_}
+use Prim.Native.Nat.{ℕ, _+_, _*_, _/_, _≤_, _<_}
 use native.Mathlib.Nat.{le-trans, le-refl, mul-le-mul, div-mul-le-self, le-div-iff-mul-le}
 use native.Mathlib.Omega.{arith}
 use borrow.Author.Needs.{needs}
+use Rattle.meaning.specs.Bounds.{signalsMost}
 use Rattle.reels.proofs.shown.fitting.Statement.{statement}
 use Rattle.reels.proofs.shown.fitting.Tie as tie
 
 rows-fit : (width n : ℕ) → n ≤ 1048576 / width → n * width ≤ 1048576
 rows-fit width n h = le-trans (mul-le-mul h (le-refl width)) (div-mul-le-self 1048576 width)
 
-row-fits : (width : ℕ) → 2 ≤ width → width ≤ 66 → 0 < 1048576 / width
+row-fits : (width : ℕ) → 2 ≤ width → width ≤ signalsMost + 2 → 0 < 1048576 / width
 row-fits width h k = le-div-iff-mul-le {k = width} {x = 1} {y = 1048576} (omega arith) .1 (omega arith)
 
 div-least : tie.Need-div-least
