@@ -1,0 +1,3 @@
+pub mod Spaces
+pub mod Marks
+pub mod Repeating
