@@ -1,3 +1,4 @@
 pub mod Spaces
 pub mod Marks
 pub mod Repeating
+mod Samples
