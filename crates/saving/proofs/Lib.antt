@@ -1,4 +1,5 @@
 pub mod Spaces
 pub mod Marks
 pub mod Repeating
+mod Scanning
 mod Samples

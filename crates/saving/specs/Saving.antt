@@ -100,7 +100,7 @@ entry (tok t ts) = upTo (t .at) (semicolon ts)
 
 -- 4 to 14, 17 and 25 are those of a block
 unfoldable pub ofBlock : ℕ → Bool
-ofBlock n = between notHere tooDeep n || eqb n notPlayable || eqb n acrossEdge
+ofBlock n = (between notHere tooDeep n || eqb n notPlayable) || eqb n acrossEdge
 
 unfoldable pub hurt : List ℕ → ℕ → ℕ → Option Span
 hurt text n p =
