@@ -32,6 +32,14 @@ hurt-refuses text s e = by (meaning text) refl e
     by (given m) q e = let z : _≡_ {A = ℕ} 0 1 = cc in absurd (omega arith)
     by (refused n p) q e = on n p q (hurt text n p) refl e
 
+pub accepts-verdict : (text : List ℕ) (m : Meaning) → meaning text ≡ given m → verdict text ≡ accepted
+unfolding verdict judgedAs
+accepts-verdict text m e = ap (judgedAs text) e
+
+pub refused-verdict : (text : List ℕ) {n p : ℕ} {o : Option Span} → meaning text ≡ refused n p → hurt text n p ≡ o → verdict text ≡ helped n p o
+unfolding verdict judgedAs
+refused-verdict text {n} {p} e h = ap (judgedAs text) e ∙ ap (helped n p) h
+
 pub accepted-means : (text : List ℕ) → verdict text ≡ accepted → (m : Meaning) × (meaning text ≡ given m)
 unfolding verdict judgedAs helped
 accepted-means text e = by (meaning text) refl e
