@@ -2,5 +2,7 @@ pub mod Spaces
 pub mod Marks
 pub mod Repeating
 pub mod Saved
+pub mod Noting
+pub mod Mending
 mod Scanning
 mod Samples

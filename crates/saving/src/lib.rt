@@ -4,10 +4,12 @@ ghost use mathlib.Core.Bool.{false};
 ghost use Prim.Native.Nat.{_+_, _≤_, _<_};
 ghost use lib.ListN.{length};
 ghost use Rattle.tokens.specs.Written.{bytes, same};
+ghost use Rattle.tokens.specs.Refusals.{textMost};
 ghost use Rattle.tokens.specs.Tokens.{toks};
 ghost use Rattle.words.specs.Cursor.{stream, ahead};
 ghost use Rattle.saving.specs.Saving.{closing, beginning, turn, blocks, blockAt, semicolon, entry, hurt, spaced};
 ghost use Rattle.saving.specs.Found.{hurtOf, begunIn, Scans};
+ghost use Rattle.saving.specs.Spans.{Notes};
 use words::Cursor;
 
 const SPACE: u8 = 32;
@@ -17,6 +19,20 @@ pub struct Hurt {
     pub found: bool,
     pub first: usize,
     pub behind: usize,
+}
+
+// What the check makes of a text: what it overwrites (`hurt`), or the refusal's number, 0 for none, and its place.
+pub struct Turn {
+    pub hurt: Hurt,
+    pub no: u8,
+    pub place: usize,
+}
+
+// Turn after turn to the last refusal, its number 0 for none, and its place; and how many spans were overwritten.
+pub struct Mended {
+    pub no: u8,
+    pub place: usize,
+    pub count: usize,
 }
 
 // How many braces are open, and where a Pattern block has begun, if one has (`begun`); or (`ended`) one that began there has just ended.
@@ -195,4 +211,22 @@ pub fn overwrite(text: &mut [u8], first: usize, behind: usize)
         text[i] = SPACE;
         i += 1;
     }
+}
+
+// ---- the list of spans
+
+// A span, if there is one, behind `count` of them, where the numbers have room for it; how many there are then.
+pub fn note(numbers: &mut [u64], count: usize, h: Hurt) -> usize
+    requires { ⌜ count ≤ textMost ⌝ }
+    ensures { λ r. ⌜ Notes count (hurtOf h) (now (numbers .entry)) r (now (numbers .exit)) ⌝ }
+{
+    if !h.found {
+        return count;
+    }
+    if numbers.len() / 2 <= count {
+        return count + 1;
+    }
+    numbers[count * 2] = h.first as u64;
+    numbers[count * 2 + 1] = h.behind as u64;
+    count + 1
 }
