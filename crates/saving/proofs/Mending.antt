@@ -6,8 +6,9 @@ use mathlib.Core.Bool.{Bool, true, false}
 use mathlib.Core.Option.{Option, none, some}
 use mathlib.Core.List.{List, [], _∷_, _++_}
 use lib.Dec.{leb, eqb}
-use lib.ListN.{length, drop, length-append}
-use borrow.Author.Tests.{eq-eqb, ne-eqb, le-leb, lt-leb}
+use lib.ListN.{length, take, drop, length-append}
+use lib.Seq.{take-at}
+use borrow.Author.Tests.{eq-eqb, ne-eqb, eqb-true, eqb-false, le-leb, lt-leb}
 use Rattle.tokens.specs.Refusals.{textMost, tooLong}
 use Rattle.tokens.specs.Tokens.{faultOf}
 use Rattle.tokens.specs.Bytes.{between}
@@ -53,6 +54,14 @@ module _ (text : List ℕ) where
     turn-hurt f b =
         let o : hurtOf h ≡ some (record { first = h .first; behind = h .behind }) = rw f in
         turns-by o (refused-verdict text e (sym k ∙ o)) b
+
+-- an accepted text has nothing to overwrite
+pub hurt-never : (text : List ℕ) (p : ℕ) (h : Hurt) → hurt text 0 p ≡ hurtOf h → h .found ≡ true → ⊥
+unfolding hurt ofBlock between
+hurt-never text p h e f =
+    let o : hurtOf h ≡ some (record { first = h .first; behind = h .behind }) = rw f in
+    let z : _≡_ {A = ℕ} 0 1 = cc in
+    omega arith
 
 -- ---- turn after turn
 
@@ -136,6 +145,24 @@ module _ {text behind numbers numbers′ : List ℕ} {r : Mended} (m : Mends tex
 
   pub mends-none : r .count ≡ 0 → behind ≡ text
   mends-none z = unchanged (m .steps) (sym (m .counted) ∙ z)
+
+-- whoever mends a text that can be saved saves it
+pub mends-given : {text behind numbers numbers′ : List ℕ} {r : Mended} → Mends text behind numbers numbers′ r → (x : Saved) → saving text ≡ given x
+    → (behind ≡ x .text) × (numbers′ ≡ notedAll (x .spans) numbers)
+mends-given {text} {behind} {numbers} {numbers′} {r} m x e = by (eqb (r .no) 0) refl
+  where
+    by : (b : Bool) → eqb (r .no) 0 ≡ b → (behind ≡ x .text) × (numbers′ ≡ notedAll (x .spans) numbers)
+    by true z =
+        let y : record { text = behind; spans = m .spans } ≡ x = (let k = sym (mends-saved m (eqb-true (r .no) 0 z)) ∙ e in cc) in
+        (ap (λ (s : Saved). s .text) y, m .noted ∙ ap (λ (s : Saved). notedAll (s .spans) numbers) y)
+    by false z = let k = sym (mends-refused m (eqb-false (r .no) 0 z)) ∙ e in let z : _≡_ {A = ℕ} 0 1 = cc in absurd (omega arith)
+
+-- the numbers of spans that a log had room for are theirs in any list with room
+pub log-front : (spans : List Span) (log numbers : List ℕ) {n : ℕ} → n ≡ length spans * 2 → n ≤ length log → n ≤ length numbers → take n (notedAll spans log) ++ drop n numbers ≡ notedAll spans numbers
+log-front spans log numbers {n} q h k =
+    let l = numbers-length spans in
+    let f : take n (notedAll spans log) ≡ numbersOf spans = ap (take n) (all-front spans log (omega arith)) ∙ take-at (numbersOf spans) (drop (length (numbersOf spans)) log) n (omega arith) in
+    ap (λ (x : List ℕ). x ++ drop n numbers) f ∙ ap (λ (i : ℕ). numbersOf spans ++ drop i numbers) (q ∙ sym l) ∙ sym (all-front spans numbers (omega arith))
 
 -- ---- the service
 

@@ -1,12 +1,12 @@
 -- Spans noted one by one are all of them noted; and where there is room for all, their numbers stand at the front.
 use Prim.Native.Nat.{ℕ, zero, suc, _+_, _*_, _≤_, _<_}
-use native.Mathlib.Nat.{suc-mul}
+use native.Mathlib.Numerals.{add-one}
 use native.Mathlib.Omega.{arith}
 use mathlib.Core.Path.{_≡_, refl, sym, ap, _∙_}
 use mathlib.Core.Bool.{Bool, true, false}
 use mathlib.Core.Option.{Option, none, some}
 use mathlib.Core.List.{List, [], _∷_, _++_}
-use lib.ListN.{length, drop, set}
+use lib.ListN.{length, getD, take, drop, set, length-append, length-take, length-drop}
 use Rattle.saving.specs.Saving.{Span, numbersOf}
 use Rattle.saving.specs.Spans.{noted, notedAll, Notes}
 use Rattle.saving.specs.Found.{spanIf, hurtOf}
@@ -80,3 +80,17 @@ module _ (k : ℕ) (h : Hurt) (l : List ℕ) where
 
   pub notes-full : h .found ≡ true → length l ≤ k * 2 + 1 → Notes k (hurtOf h) l (k + 1) l
   notes-full e r = rw e (record { counted = omega arith; numbers = sym (noted-full k (record { first = h .first; behind = h .behind }) l r) })
+
+-- ---- numbers handed out one by one
+
+pub handed-on : (i : ℕ) (log l : List ℕ) → i < length log → i < length l → set (take i log ++ drop i l) i (getD log i 0) ≡ take (i + 1) log ++ drop (i + 1) l
+handed-on i log l h k = rw add-one (by i log l h k)
+  where
+    by : (i : ℕ) (log l : List ℕ) → i < length log → i < length l → set (take i log ++ drop i l) i (getD log i 0) ≡ take (suc i) log ++ drop (suc i) l
+    by i [] l h k = absurd (omega arith)
+    by i (a ∷ log) [] h k = absurd (omega arith)
+    by zero (a ∷ log) (b ∷ l) h k = refl
+    by (suc i) (a ∷ log) (b ∷ l) h k = ap (λ (x : List ℕ). a ∷ x) (by i log l (omega arith) (omega arith))
+
+pub handed-length : (i : ℕ) (log l : List ℕ) → i ≤ length log → i ≤ length l → length (take i log ++ drop i l) ≡ length l
+handed-length i log l h k = length-append (take i log) (drop i l) ∙ omega (arith, length-take i log, length-drop i l)

@@ -1,8 +1,9 @@
 // Hurt reels: the span that a refusal overwrites, and the overwriting.
 ghost use mathlib.Core.Path.{_≡_};
+ghost use mathlib.Core.List.{_++_};
 ghost use mathlib.Core.Bool.{false};
 ghost use Prim.Native.Nat.{_+_, _≤_, _<_};
-ghost use lib.ListN.{length};
+ghost use lib.ListN.{length, take, drop};
 ghost use Rattle.tokens.specs.Written.{bytes, same};
 ghost use Rattle.tokens.specs.Refusals.{textMost};
 ghost use Rattle.tokens.specs.Tokens.{toks};
@@ -229,4 +230,16 @@ pub fn note(numbers: &mut [u64], count: usize, h: Hurt) -> usize
     numbers[count * 2] = h.first as u64;
     numbers[count * 2 + 1] = h.behind as u64;
     count + 1
+}
+
+// The first n numbers of a log to the front of others.
+pub fn hand_out(log: &[u64], n: usize, numbers: &mut [u64])
+    requires { ⌜ (n ≤ length (now log)) × (n ≤ length (now numbers)) ⌝ }
+    ensures { λ _. ⌜ now (numbers .exit) ≡ take n (now (log .entry)) ++ drop n (now (numbers .entry)) ⌝ }
+{
+    let mut i = 0;
+    while i < n {
+        numbers[i] = log[i];
+        i += 1;
+    }
 }

@@ -8,3 +8,4 @@ pub mod Interface
 pub mod Charts
 pub mod Intakes
 pub mod Indexes
+pub mod Saves
