@@ -26,7 +26,11 @@ impl Token {
     }
 
     pub fn bytes(self, text: &[u8]) -> &[u8] {
-        &text[self.place as usize..(self.place + self.length) as usize]
+        &text[self.place as usize..self.end()]
+    }
+
+    pub fn end(self) -> usize {
+        (self.place + self.length) as usize
     }
 
     pub fn refuse(self, number: u8) -> Refusal {
@@ -130,6 +134,12 @@ pub fn token_from(text: &[u8], at: usize) -> Token {
         place = skip_separators(text, place).unwrap_or(text.len());
     }
     token_at(text, place)
+}
+
+/// All tokens from a place on, of a text whose bytes were checked.
+pub fn tokens(text: &[u8], from: usize) -> impl Iterator<Item = Token> + '_ {
+    let next = move |at: usize| Some(token_from(text, at)).filter(|token| token.length > 0);
+    std::iter::successors(next(from), move |last| next(last.end()))
 }
 
 fn first_not_allowed(text: &[u8]) -> Option<usize> {
