@@ -225,7 +225,7 @@ fn holds_of(text: &[u8]) -> Option<usize> {
 
 #[test]
 fn generated_texts() {
-    let mut counts = [0; 40];
+    let mut counts = [0; 150];
     let mut beyond = 0;
     for seed in 0..6_000 {
         match holds_of(&hurt(seed)) {
@@ -235,6 +235,7 @@ fn generated_texts() {
     }
     println!("saved with so many spans {counts:?}, beyond help {beyond}");
     assert!(counts[..8].iter().all(|&count| count > 20) && counts[8..].iter().sum::<usize>() > 20);
+    assert!(counts[30..].iter().sum::<usize>() > 10);
     assert!(beyond > 1_000 && beyond < 4_000);
     let helped = (0..3_000).filter(|&seed| holds_of(&text(seed)).map_or(false, |spans| spans > 0)).count();
     assert!(helped > 100, "{helped}");

@@ -67,9 +67,11 @@ const BETWEEN: [&str; 8] = [" ", "\n", "", " // } Pattern x {\n", "/* { */", "\r
 /// The text of one seed; sound ones are among them.
 pub fn hurt(seed: u64) -> Vec<u8> {
     let mut random = Random::new(seed);
-    let patterns = match random.below(20) {
-        0 => random.between(15, 20),
-        1 => 0,
+    // Each one too many is a span of its own, so that there are far more spans than patterns in any accepted text.
+    let patterns = match random.below(60) {
+        0 => random.between(40, 120),
+        1..=3 => random.between(15, 20),
+        4..=6 => 0,
         _ => random.between(1, 5),
     };
     let (hurts, misnames) = ([0, 15, 30, 60][random.below(4)], [0, 20, 50][random.below(3)]);
