@@ -22,8 +22,6 @@ holds FILE INDEXFILE N
 tokens FILE
 intake FILE
 list FILE
-index FILE
-holds FILE INDEXFILE N
 save FILE
 help
 ";

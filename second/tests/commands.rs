@@ -43,8 +43,6 @@ fn help_names_the_commands() {
         "tokens FILE",
         "intake FILE",
         "list FILE",
-        "index FILE",
-        "holds FILE INDEXFILE N",
         "save FILE",
         "help",
     ];
