@@ -19,16 +19,17 @@
  * the text; then 15, 16, 17, 18, 21, 19. A text that lutemeteor_check accepts is refused by lutemeteor_name and
  * lutemeteor_waveform for 18 or 19 only, by lutemeteor_waveforms for 8 too, and by lutemeteor_window for 19,
  * or for 12 at 0 before that: its mark is none; by lutemeteor_index for 19 only, by lutemeteor_belongs for 21 only, and by
- * lutemeteor_holds for 21 or 19.
+ * lutemeteor_holds for 21 or 19. lutemeteor_save never refuses it but for 19, and many others neither.
  *
  * Pointers   Behind each pointer stands how many bytes or numbers are there; for a buffer, how many it has room
  *            for. All of them must be there during the call, numbers must be aligned as uint64_t is, and no buffer
- *            may overlap the text or another buffer. No pointer may be null, not even with a length of 0: hand over
+ *            may overlap the text or another buffer. The text of lutemeteor_save is a buffer. No pointer may be null, not even with a length of 0: hand over
  *            the address of anything instead.
  * Threads    The library has no state: no variable outlives a call, nothing is allocated, no file is touched. Any
  *            number of threads may call it at once, also with one text, each with buffers of its own.
  * Stack      A call keeps its tables on the stack, 330,000 bytes and more. The deepest text that was measured (8 bodies in
  *            each other) took 366,000. That is a measurement and no bound: have 768 KiB.
+ *            lutemeteor_save keeps a copy of the text besides, 65,536 bytes.
  *            lutemeteor_token and lutemeteor_line take less than 1,000 bytes.
  */
 #ifndef LUTEMETEOR_STIL_H
@@ -211,6 +212,25 @@ uint64_t lutemeteor_belongs(const uint8_t *text, size_t length, const uint8_t *i
  */
 uint64_t lutemeteor_holds(const uint8_t *text, size_t length, const uint8_t *index, size_t index_length, uint64_t cycle,
                           uint64_t *numbers, size_t room);
+
+/*
+ * Save: where blocks of a text got damaged, the rest. What lutemeteor_check refuses with 4 to 14 or 17 at a place in a
+ * Pattern block is overwritten with spaces, the whole block, from its word Pattern outside all braces to the brace that
+ * matches its first one, or to the text's end where none does; what it refuses with 15, from that name in the PatList
+ * to its `;`. So it goes on until the text is accepted, or beyond help. Pattern blocks are found by tokens: what stands
+ * in comments counts nothing.
+ *
+ *   text         where the answer is 0, the saved text, which lutemeteor_check accepts. It differs from what was lent only
+ *                in the spans, which are spaces there; its length and all other bytes are the same
+ *   spans        two numbers for each overwritten span, in order of overwriting: its first byte, and the one behind its
+ *                last. Twice `length` numbers are always enough, and none are used of a text that is sound
+ *   numbers[0]   how many spans there are
+ *
+ * Refused by the last refusal of the check where the text is beyond help; its place is the same in the text as it was lent.
+ * Else 19, at place 0, where `spans_room` is less than two numbers for each span, or `room` is 0.
+ */
+uint64_t lutemeteor_save(uint8_t *text, size_t length, uint64_t *spans, size_t spans_room, uint64_t *numbers,
+                         size_t room);
 
 /*
  * Token: the first token at or behind the place `at`, as if the text began there; blanks and comments are passed over.

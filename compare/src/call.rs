@@ -10,6 +10,11 @@ pub trait Call: Debug {
     fn rooms(&self) -> Rooms;
     fn make(&self, reader: &dyn Reader, lent: Slices) -> u64;
 
+    /// What is lent, as it is before the call.
+    fn lend(&self) -> Lent {
+        Lent::new(self.rooms())
+    }
+
     /// Whether all that was lent must be as it was, by this answer.
     fn keeps(&self, answer: u64) -> bool {
         answer != 0
@@ -18,7 +23,7 @@ pub trait Call: Debug {
 
 /// What a call leaves: its answer, and all that was lent.
 pub fn outcome(call: &dyn Call, reader: &dyn Reader) -> (u64, Lent) {
-    let mut lent = Lent::new(call.rooms());
+    let mut lent = call.lend();
     let answer = call.make(reader, lent.slices());
     (answer, lent)
 }

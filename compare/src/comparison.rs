@@ -7,6 +7,7 @@ use crate::line::Line;
 use crate::name::Name;
 use crate::proved::{self, Proved};
 use crate::reader::{Reader, Second};
+use crate::save::Save;
 use crate::tally::Tally;
 use crate::token::{Places, Token};
 use crate::waveform::Waveform;
@@ -33,6 +34,8 @@ pub struct Often {
     pub lines: usize,
     /// Indexes so often, each with a right or a wrong one asked of.
     pub indexes: usize,
+    /// Saved so often.
+    pub saves: usize,
     /// Up to this many bytes, tokens and lines are asked for at each of them.
     pub bytes: usize,
 }
@@ -43,7 +46,8 @@ impl Often {
         let lists = if proved::WAVEFORMS { self.lists } else { 0 };
         let lines = if proved::LINES { self.lines } else { 0 };
         let indexes = if proved::INDEX { self.indexes } else { 0 };
-        Often { lists, lines, indexes, marks: self.marks && proved::MARKS, ..self }
+        let saves = if proved::SAVE { self.saves } else { 0 };
+        Often { lists, lines, indexes, saves, marks: self.marks && proved::MARKS, ..self }
     }
 }
 
@@ -58,6 +62,7 @@ pub struct Comparison {
     index: Tally,
     belongs: Tally,
     holds: Tally,
+    save: Tally,
     pub intake: Tally,
 }
 
@@ -74,6 +79,7 @@ impl Comparison {
             index: Tally::new("Index"),
             belongs: Tally::new("Belongs"),
             holds: Tally::new("Holds"),
+            save: Tally::new("Save"),
             intake: Tally::new("Intake"),
         }
     }
@@ -112,6 +118,9 @@ impl Comparison {
         }
         if let Some(document) = document.filter(|_| often.indexes > 0) {
             Holds::edges(document).iter().for_each(|call| self.holds.compare(named, call, proved, second));
+        }
+        for _ in 0..often.saves {
+            self.save.compare(named, &Save::draw(second.text, random), proved, second);
         }
         self.places(named, proved, second, often, random);
         self.lines_of(named, proved, second, often, random);
@@ -200,6 +209,7 @@ impl Comparison {
             &self.index,
             &self.belongs,
             &self.holds,
+            &self.save,
             &self.intake,
         ]
     }

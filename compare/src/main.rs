@@ -17,6 +17,7 @@ mod proved;
 #[path = "../../examples/rust/src/raw.rs"]
 mod raw;
 mod reader;
+mod save;
 #[cfg(test)]
 mod slips;
 mod special;
@@ -38,7 +39,8 @@ compare one window READER FILE FIRST WANTED
 compare one token READER FILE AT
 compare one line READER FILE PLACE
 compare one index READER FILE
-compare one holds READER FILE INDEXFILE N";
+compare one holds READER FILE INDEXFILE N
+compare one save READER FILE";
 
 fn main() -> ExitCode {
     let words: Vec<String> = std::env::args().skip(1).collect();

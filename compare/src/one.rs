@@ -3,12 +3,13 @@
 use crate::call::Call;
 use crate::check::Check;
 use crate::index::{Given, Holds, Index};
-use crate::lent::{Lent, Slices};
+use crate::lent::Slices;
 use crate::line::Line;
 use crate::name::Name;
 use crate::number;
 use crate::proved::Proved;
-use crate::reader::{line_of, token_at, Reader, Second};
+use crate::reader::{line_of, save_in, token_at, Reader, Second};
+use crate::save::Save;
 use crate::tally::say;
 use crate::token::Token;
 use crate::waveform::Waveform;
@@ -62,6 +63,10 @@ impl Reader for Anew<'_> {
     fn holds(&self, index: &[u8], cycle: u64, numbers: &mut [u64]) -> u64 {
         Second::new(self.0).holds(index, cycle, numbers)
     }
+
+    fn save(&self, text: &mut [u8], spans: &mut [u64], numbers: &mut [u64]) -> u64 {
+        save_in(text, spans, numbers)
+    }
 }
 
 /// What is counted.
@@ -83,14 +88,14 @@ pub fn one(service: &str, reader: &str, file: &str, numbers: &[&str]) -> Result<
     };
     let text = std::fs::read(file).map_err(|error| format!("{file}: {error}"))?;
     let call = call_of(service, &text, numbers)?;
-    let mut lent = Lent::new(call.rooms());
+    let mut lent = call.lend();
     let answer = measured_call(of_second, &text, &*call, lent.slices());
     let digest = lent.digest();
     println!("{}; numbers {:?}; all lent {digest:016x}", say(answer), lent.slices().numbers);
     Ok(ExitCode::SUCCESS)
 }
 
-fn call_of(service: &str, text: &[u8], numbers: &[&str]) -> Result<Box<dyn Call>, String> {
+fn call_of<'t>(service: &str, text: &'t [u8], numbers: &[&str]) -> Result<Box<dyn Call + 't>, String> {
     match (service, numbers) {
         ("check", []) => Ok(Box::new(Check { room: Check::DUE })),
         ("name", [declared, which]) => {
@@ -107,6 +112,7 @@ fn call_of(service: &str, text: &[u8], numbers: &[&str]) -> Result<Box<dyn Call>
         ("token", [at]) => Ok(Box::new(Token::with_room(number(at)?))),
         ("line", [place]) => Ok(Box::new(Line::with_room(number(place)?))),
         ("index", []) => Ok(Box::new(Index { bytes: MAX_INDEX, room: Index::DUE })),
+        ("save", []) => Ok(Box::new(Save::with_room(text))),
         ("holds", [index, cycle]) => holds(index, number(cycle)?),
         _ => Err(format!("no such service, or not its numbers: {service} {}", numbers.join(" "))),
     }

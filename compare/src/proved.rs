@@ -49,6 +49,18 @@ extern "C" {
     ) -> u64;
 }
 
+#[cfg(feature = "save")]
+extern "C" {
+    fn lutemeteor_save(
+        text: *mut u8,
+        length: usize,
+        spans: *mut u64,
+        spans_room: usize,
+        numbers: *mut u64,
+        room: usize,
+    ) -> u64;
+}
+
 #[cfg(feature = "waveforms")]
 extern "C" {
     fn lutemeteor_waveforms(
@@ -79,8 +91,11 @@ pub const LINES: bool = cfg!(feature = "lines");
 /// Whether it has the index.
 pub const INDEX: bool = cfg!(feature = "index");
 
-pub const FEATURES: [(&str, bool); 4] =
-    [("waveforms", WAVEFORMS), ("marks", MARKS), ("lines", LINES), ("index", INDEX)];
+/// Whether it saves hurt texts.
+pub const SAVE: bool = cfg!(feature = "save");
+
+pub const FEATURES: [(&str, bool); 5] =
+    [("waveforms", WAVEFORMS), ("marks", MARKS), ("lines", LINES), ("index", INDEX), ("save", SAVE)];
 
 /// The proved reader with one text, which it reads at each call.
 pub struct Proved<'t>(pub &'t [u8]);
@@ -189,6 +204,18 @@ impl Reader for Proved<'_> {
         let (text, length) = (self.0.as_ptr(), self.0.len());
         let (numbers, room) = (numbers.as_mut_ptr(), numbers.len());
         unsafe { lutemeteor_holds(text, length, index.as_ptr(), index.len(), cycle, numbers, room) }
+    }
+
+    #[cfg(feature = "save")]
+    fn save(&self, text: &mut [u8], spans: &mut [u64], numbers: &mut [u64]) -> u64 {
+        let (bytes, length) = (text.as_mut_ptr(), text.len());
+        let (list, list_room) = (spans.as_mut_ptr(), spans.len());
+        unsafe { lutemeteor_save(bytes, length, list, list_room, numbers.as_mut_ptr(), numbers.len()) }
+    }
+
+    #[cfg(not(feature = "save"))]
+    fn save(&self, _: &mut [u8], _: &mut [u64], _: &mut [u64]) -> u64 {
+        panic!("Cargo.toml says that the linked library saves no hurt texts")
     }
 
     #[cfg(not(feature = "index"))]

@@ -2,11 +2,12 @@
 
 use crate::lent::Slices;
 use second::refusal::{Answer, BUFFER_TOO_SHORT, NO_SUCH_ITEM};
+use second::save::saved;
 use second::services::Summary;
 use second::timing::Asked;
 use second::tokens::next_token;
 use second::waveforms::accept_list;
-use second::{accept_mark, position, Declared, Document, Position, Refusal, Waveforms};
+use second::{accept_mark, position, save, Declared, Document, Position, Refusal, Waveforms};
 
 /// Each service gives 0 for an answer, else 32 times the place plus the number of the refusal; then every lent slice is as it was,
 /// but for what a list of waveforms had served before.
@@ -30,6 +31,8 @@ pub trait Reader {
     fn belongs(&self, index: &[u8]) -> u64;
     /// Two numbers: 1 and the listed pattern's number; or two times 0 where none holds the cycle.
     fn holds(&self, index: &[u8], cycle: u64, numbers: &mut [u64]) -> u64;
+    /// Of the text that is lent, which is saved where it stands. One number: how many spans are overwritten, of which the list has two each.
+    fn save(&self, text: &mut [u8], spans: &mut [u64], numbers: &mut [u64]) -> u64;
 }
 
 /// The second reader, which reads its text once.
@@ -71,6 +74,16 @@ pub fn write_next(room: &mut [u64], next: Option<(u64, u64)>) -> Answer<()> {
 pub fn line_of(text: &[u8], place: u64, numbers: &mut [u64]) -> u64 {
     let Position { line, column } = position(text, place);
     told(write_front(numbers, [line, column]))
+}
+
+/// The saving, which takes another text than the reader's own.
+pub fn save_in(text: &mut [u8], spans: &mut [u64], numbers: &mut [u64]) -> u64 {
+    // Without room for the count the answer is a refusal as well: the text's own, which comes first, or 19.
+    let count = match numbers.first_mut() {
+        Some(count) => save(text, spans).map(|spans| *count = spans),
+        None => saved(text).and(Err(too_short())),
+    };
+    told(count)
 }
 
 /// Writes the numbers to the front; the rest stays.
@@ -152,5 +165,9 @@ impl Reader for Second<'_> {
             let pattern = document.holds(index, cycle)?;
             write_front(numbers, pattern.map_or([0; 2], |number| [1, number]))
         }))
+    }
+
+    fn save(&self, text: &mut [u8], spans: &mut [u64], numbers: &mut [u64]) -> u64 {
+        save_in(text, spans, numbers)
     }
 }

@@ -5,6 +5,7 @@ mod intake;
 mod lines;
 mod lists;
 mod marks;
+mod save;
 
 use crate::comparison::{Comparison, Often};
 use crate::lent::Slices;
@@ -12,7 +13,7 @@ use crate::reader::{told, write_next, Reader, Second};
 use crate::special::SAMPLE;
 use crate::texts::short;
 use second::generate::random::Random;
-use second::generate::{nested, text};
+use second::generate::{hurt, nested, text};
 use second::refusal::Answer;
 use second::timing::Asked;
 use second::tokens::check_bytes;
@@ -159,6 +160,32 @@ slips! {
     HoldsRoomFirst,
     HoldsNoneWithoutRoom,
     HoldsRest,
+    SaveOnce,
+    SaveBlockToBrace,
+    SaveFromName,
+    SaveUndefinedKept,
+    SaveEntryToSemicolon,
+    SaveCycleKept,
+    SaveOpenKept,
+    SaveEndKept,
+    SaveNextBlock,
+    SaveLastFor16,
+    SaveInnerPattern,
+    SaveBracesInComments,
+    SaveSorted,
+    SaveFirstRefusal,
+    SaveKeepsLines,
+    SaveWritesThoughBeyond,
+    SaveWritesThoughShort,
+    SaveListsThoughShort,
+    SaveListsWhatFits,
+    SaveRoomFirst,
+    SaveRoomOneMore,
+    SaveLength,
+    SaveCount,
+    SaveRest,
+    SaveNumbersRest,
+    SaveWithoutNumber,
 }
 
 struct Slipping<'t> {
@@ -302,6 +329,10 @@ impl Reader for Slipping<'_> {
     fn holds(&self, index: &[u8], cycle: u64, numbers: &mut [u64]) -> u64 {
         self.slipped_holds(index, cycle, numbers)
     }
+
+    fn save(&self, text: &mut [u8], spans: &mut [u64], numbers: &mut [u64]) -> u64 {
+        self.slipped_save(text, spans, numbers)
+    }
 }
 
 impl Slipping<'_> {
@@ -364,13 +395,14 @@ const OFTEN: Often = Often {
     places: 20,
     lines: 20,
     indexes: 5,
+    saves: 3,
     bytes: 100,
 };
 
 fn found(slip: Slip) -> bool {
     let mut comparison = Comparison::new();
     let mut random = Random::new(7);
-    let seeded = (0..600).flat_map(|seed| [text(seed), nested(seed)]);
+    let seeded = (0..600).flat_map(|seed| [text(seed), nested(seed), hurt(seed)]);
     seeded.chain([SAMPLE.into()]).chain(short()).any(|text| {
         let slipping = Slipping { second: Second::new(&text), slip };
         comparison.readers(&format!("{slip:?}"), &slipping, &Second::new(&text), OFTEN, &mut random);
@@ -381,5 +413,6 @@ fn found(slip: Slip) -> bool {
 #[test]
 fn each_slip_is_found() {
     assert!(!found(Slip::None));
-    ALL.iter().for_each(|&slip| assert!(found(slip), "{slip:?}"));
+    let missed: Vec<&Slip> = ALL.iter().filter(|&&slip| !found(slip)).collect();
+    assert!(missed.is_empty(), "{missed:?}");
 }

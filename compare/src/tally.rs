@@ -56,7 +56,7 @@ fn difference(call: &dyn Call, ours: &(u64, Lent), theirs: &(u64, Lent)) -> Opti
     if let Some(what) = ours.1.difference(&theirs.1) {
         return Some(format!("both {}; proved against second, {what}", say(ours.0)));
     }
-    let kept = !call.keeps(ours.0) || ours.1 == Lent::new(call.rooms());
+    let kept = !call.keeps(ours.0) || ours.1 == call.lend();
     (!kept).then(|| format!("both {}, and both wrote", say(ours.0)))
 }
 

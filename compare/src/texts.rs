@@ -5,7 +5,7 @@ use crate::intake;
 use crate::special;
 use second::bounds::MAX_TEXT;
 use second::generate::random::Random;
-use second::generate::{large, nested, text, LARGE_KINDS};
+use second::generate::{hurt, large, nested, text, LARGE_KINDS};
 
 const SEEDED: Often = Often {
     names: 2,
@@ -18,8 +18,10 @@ const SEEDED: Often = Often {
     places: 16,
     lines: 8,
     indexes: 2,
+    saves: 1,
     bytes: 64,
 };
+const HURT_SEEDED: Often = Often { tokens: 20, places: 2, lines: 2, saves: 3, ..SEEDED };
 const EACH: Often = Often { every: 200, bytes: 4_096, ..SEEDED };
 const SPECIAL: Often = Often {
     names: 100,
@@ -32,6 +34,7 @@ const SPECIAL: Often = Often {
     places: 200,
     lines: 100,
     indexes: 60,
+    saves: 10,
     bytes: 10_000,
 };
 const LARGE: Often = Often {
@@ -45,11 +48,13 @@ const LARGE: Often = Often {
     places: 100,
     lines: 20,
     indexes: 1,
+    saves: 1,
     bytes: 0,
 };
 
-/// One seed in so many has a text made for 17 as well, and one in so many a window at each cycle and a token at each byte.
+/// One seed in so many has a text made for 17 as well, one in so many a text made for saving, and one in so many a window at each cycle and a token at each byte.
 const NESTED: u64 = 2;
+const HURT: u64 = 2;
 const EVERY: u64 = 64;
 
 /// A byte of each kind that the token rules tell apart, and the length up to which texts of these bytes are all taken.
@@ -63,6 +68,9 @@ pub fn seeded(seed: u64, comparison: &mut Comparison) {
     if seed % NESTED == 0 {
         comparison.text(&format!("nested {seed}"), &nested(seed), often, &mut random);
     }
+    if seed % HURT == 0 {
+        comparison.text(&format!("hurt {seed}"), &hurt(seed), HURT_SEEDED, &mut random);
+    }
     intake::seeded(seed).iter().for_each(|plan| comparison.raw(&format!("raw {seed}"), plan));
 }
 
@@ -70,7 +78,7 @@ pub fn seeded(seed: u64, comparison: &mut Comparison) {
 pub fn fixed(comparison: &mut Comparison) {
     let mut random = Random::new(0);
     special::compare(comparison, SPECIAL, &mut random);
-    hurt(comparison, &mut random);
+    hurt_sample(comparison, &mut random);
     short().iter().for_each(|text| comparison.tokens(&text.escape_ascii().to_string(), text));
     for kind in LARGE_KINDS {
         if let Some(text) = large(kind) {
@@ -81,7 +89,7 @@ pub fn fixed(comparison: &mut Comparison) {
 }
 
 /// Document 01's text, cut at each byte, without it, and with another in its place; and texts of one byte or a single kind.
-fn hurt(comparison: &mut Comparison, random: &mut Random) {
+fn hurt_sample(comparison: &mut Comparison, random: &mut Random) {
     let whole = special::SAMPLE.as_bytes();
     for at in 0..whole.len() {
         let (before, after) = (&whole[..at], &whole[at + 1..]);

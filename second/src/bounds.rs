@@ -28,3 +28,6 @@ pub const MAX_INDEX: usize = "PATTERNS 16\n".len()
     + MAX_LISTED * (MAX_NAME + " 1099511627776 1099511627776 65535\n".len())
     + "TABLES 8\n".len()
     + MAX_TABLES * (MAX_NAME + 1);
+
+/// No text has more spans to overwrite: blocks don't overlap, and each but the last has a word and two braces.
+pub const MAX_SPANS: usize = MAX_LISTED + MAX_TEXT / "Pattern{}".len() + 1;

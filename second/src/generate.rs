@@ -2,6 +2,7 @@
 
 mod blocks;
 mod damage;
+mod hurt;
 mod large;
 mod nested;
 mod plan;
@@ -10,6 +11,7 @@ mod runs;
 mod statements;
 mod tokens;
 
+pub use hurt::hurt;
 pub use large::{large, sized, LARGE_KINDS, SIZED_KINDS};
 pub use nested::nested;
 use plan::{Plan, Slip};

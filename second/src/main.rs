@@ -22,6 +22,7 @@ holds FILE INDEXFILE N
 tokens FILE
 intake FILE
 list FILE
+save FILE
 help
 ";
 
@@ -63,6 +64,7 @@ fn answer(words: &[OsString], out: &mut dyn Write) -> Done {
         b"list" => list(exactly(rest, ["FILE"])?, out),
         b"index" => index(exactly(rest, ["FILE"])?, out),
         b"holds" => holds(exactly(rest, ["FILE", "INDEXFILE", "N"])?, out),
+        b"save" => save(exactly(rest, ["FILE"])?, out),
         b"help" => {
             exactly(rest, [])?;
             Ok(out.write_all(HELP.as_bytes())?)
@@ -246,5 +248,15 @@ fn holds([file, index, cycle]: &[OsString; 3], out: &mut dyn Write) -> Done {
     write_answer(out, &text, second::holds(&text, &index, cycle), |out, pattern| match pattern {
         Some(number) => writeln!(out, "PATTERN {number}"),
         None => writeln!(out, "NO PATTERN"),
+    })
+}
+
+/// A refusal shows line and column in the file as it is: overwriting takes line ends away.
+fn save([file]: &[OsString; 1], out: &mut dyn Write) -> Done {
+    let text = text_of(file)?;
+    write_answer(out, &text, second::save::saved(&text), |out, (saved, spans)| {
+        spans.iter().try_for_each(|span| writeln!(out, "SPAN {} {}", span.start, span.end))?;
+        writeln!(out, "SPANS {}", spans.len())?;
+        out.write_all(&saved)
     })
 }

@@ -22,7 +22,7 @@ impl<'t> Reader<'t> {
 
     pub fn take(&mut self) -> Token {
         let token = self.here;
-        self.here = token_from(self.text, (token.place + token.length) as usize);
+        self.here = token_from(self.text, token.end());
         token
     }
 

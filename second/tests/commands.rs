@@ -43,6 +43,7 @@ fn help_names_the_commands() {
         "tokens FILE",
         "intake FILE",
         "list FILE",
+        "save FILE",
         "help",
     ];
     answers(&["help"], &(commands.join("\n") + "\n"));
@@ -108,6 +109,21 @@ fn the_index_and_what_is_asked_of_it() {
     let hurt = &file("not-indexed.stil", b"STIL 1.0;\nSignals { }");
     answers(&["index", hurt], "REFUSED 4 AT 20 LINE 2 COLUMN 11\n");
     answers(&["holds", hurt, right, "0"], "REFUSED 4 AT 20 LINE 2 COLUMN 11\n");
+}
+
+#[test]
+fn what_is_saved_of_a_hurt_text() {
+    answers(&["save", &file("sound.stil", SAMPLE.as_bytes())], &format!("SPANS 0\n{SAMPLE}"));
+    let hurt = SAMPLE.replace("{ p; }", "{ p; q ; }") + "Pattern q {\n V }\n";
+    let (entry, end) = (hurt.find("q ;").expect("listed"), hurt.len());
+    let due = SAMPLE.replace("{ p; }", "{ p;     }") + &" ".repeat(16) + "\n";
+    let spans = format!("SPAN {} {}\nSPAN {entry} {}\nSPANS 2\n", end - 17, end - 1, entry + 3);
+    answers(&["save", &file("saved.stil", hurt.as_bytes())], &(spans + &due));
+    // Line and column are those of the file as it is: the first of two line ends is overwritten before the second is refused.
+    let beyond = SAMPLE.to_string() + "Pattern q {\n V }\n}";
+    let due = format!("REFUSED 4 AT {} LINE 13 COLUMN 1\n", beyond.len() - 1);
+    answers(&["save", &file("beyond.stil", beyond.as_bytes())], &due);
+    answers(&["save", &file("save-long.stil", &[b' '; 65_537])], "REFUSED 1 AT 0 LINE 1 COLUMN 1\n");
 }
 
 #[test]
@@ -217,6 +233,9 @@ fn faults_of_the_command_line() {
     turned_down(&["index"], "FILE");
     turned_down(&["index", good, "more"], "more");
     turned_down(&["index", "/nowhere.stil"], "/nowhere.stil");
+    turned_down(&["save"], "FILE");
+    turned_down(&["save", good, "more"], "more");
+    turned_down(&["save", "/nowhere.stil"], "/nowhere.stil");
     turned_down(&["holds", good], "INDEXFILE");
     turned_down(&["holds", good, good], "N");
     turned_down(&["holds", "/nowhere.stil", "/nowhere.index", "x"], "not a number: x");

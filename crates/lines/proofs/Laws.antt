@@ -6,7 +6,7 @@ use lib.ListN.{length}
 use Rattle.tokens.specs.Written.{bytes, lines}
 use Rattle.pages.specs.Pages.{decimal}
 use Rattle.sections.specs.Listing.{refusal}
-use Rattle.lines.specs.Lines.{counted, nameLine, eventLine, tokenLine, goodLine, hurtLine, unreadLine, sumLine, progress, helpLines, faultLine}
+use Rattle.lines.specs.Lines.{counted, nameLine, eventLine, tokenLine, spanLine, goodLine, hurtLine, unreadLine, sumLine, progress, helpLines, faultLine}
 
 -- ---- the pieces of each line
 
@@ -25,6 +25,10 @@ event-is time letter = simp append-assoc
 pub token-is : (p : ℕ) (token : List ℕ) → decimal p ++ ((bytes " " ++ decimal (length token)) ++ (bytes " " ++ (token ++ (10 ∷ [])))) ≡ tokenLine p token
 unfolding bytes tokenLine
 token-is p token = simp append-assoc
+
+pub span-is : (first behind : ℕ) → (bytes "SPAN " ++ decimal first) ++ counted (bytes " ") behind ≡ spanLine first behind
+unfolding bytes counted spanLine
+span-is first behind = simp append-assoc
 
 pub good-is : (file : List ℕ) (s t p c z : ℕ)
     → file ++ ((bytes " OK " ++ decimal s) ++ ((bytes " " ++ decimal t) ++ ((bytes " " ++ decimal p) ++ ((bytes " " ++ decimal c) ++ counted (bytes " ") z)))) ≡ goodLine file s t p c z

@@ -8,7 +8,7 @@ use Rattle.sections.specs.Listing.{ended, refusal}
 
 -- ---- answers
 
--- VISITS v, EVENTS k, TOKENS k, PATTERN k
+-- VISITS v, EVENTS k, TOKENS k, PATTERN k, SPANS k
 unfoldable pub counted : List ℕ → ℕ → List ℕ
 counted word n = ended (word ++ decimal n)
 
@@ -26,6 +26,10 @@ eventLine time letter = ended (decimal time ++ 32 ∷ letter ∷ [])
 -- place length bytes
 unfoldable pub tokenLine : ℕ → List ℕ → List ℕ
 tokenLine p token = ended (decimal p ++ bytes " " ++ decimal (length token) ++ bytes " " ++ token)
+
+-- SPAN first behind
+unfoldable pub spanLine : (first behind : ℕ) → List ℕ
+spanLine first behind = ended (bytes "SPAN " ++ decimal first ++ bytes " " ++ decimal behind)
 
 -- ---- check
 
@@ -62,6 +66,7 @@ helpLines = lines (
     ∷ "tokens FILE"
     ∷ "intake FILE"
     ∷ "list FILE"
+    ∷ "save FILE"
     ∷ "help"
     ∷ [])
 

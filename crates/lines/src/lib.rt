@@ -6,7 +6,7 @@ ghost use Prim.Native.Nat.{_+_, _*_, _≤_};
 ghost use lib.Dec.{leb, ltb};
 ghost use lib.ListN.{length};
 ghost use Rattle.tokens.specs.Written.{bytes};
-ghost use Rattle.lines.specs.Lines.{counted as countedOf, noPattern, nameLine, eventLine, tokenLine, goodLine, hurtLine, unreadLine, sumLine, progress as progressOf, helpLines, faultLine, countMost, lineMost};
+ghost use Rattle.lines.specs.Lines.{counted as countedOf, noPattern, nameLine, eventLine, tokenLine, spanLine, goodLine, hurtLine, unreadLine, sumLine, progress as progressOf, helpLines, faultLine, countMost, lineMost};
 ghost use Rattle.sections.specs.Listing.{Adds};
 ghost use Rattle.lines.specs.Numbers.{numberMost, numberOf, told};
 use sections::with_number;
@@ -98,6 +98,23 @@ pub fn token(page: &mut [u8], at: usize, place: usize, token: &[u8]) -> usize
     pages::put(page, end, b"\n")
 }
 
+// SPAN first behind
+pub fn span(page: &mut [u8], at: usize, first: u64, behind: u64) -> usize
+    requires { ⌜ at + lineMost ≤ length (now page) ⌝ }
+    ensures { λ r. ⌜ Adds (now (page .entry)) at (spanLine first behind) lineMost r (now (page .exit)) ⌝ }
+{
+    let end = with_number(page, at, b"SPAN ", first);
+    counted(page, end, b" ", behind)
+}
+
+// SPANS k
+pub fn spans(page: &mut [u8], at: usize, k: usize) -> usize
+    requires { ⌜ at + lineMost ≤ length (now page) ⌝ }
+    ensures { λ r. ⌜ Adds (now (page .entry)) at (countedOf (bytes "SPANS ") k) lineMost r (now (page .exit)) ⌝ }
+{
+    counted(page, at, b"SPANS ", k as u64)
+}
+
 // ---- check
 
 // FILE OK signals tables patterns cycles size
@@ -175,7 +192,7 @@ pub fn help(page: &mut [u8], at: usize) -> usize
     pages::put(
         page,
         end,
-        b"waveform FILE TABLE SIGNAL CHARACTER\nindex FILE\nholds FILE INDEXFILE N\ntokens FILE\nintake FILE\nlist FILE\nhelp\n",
+        b"waveform FILE TABLE SIGNAL CHARACTER\nindex FILE\nholds FILE INDEXFILE N\ntokens FILE\nintake FILE\nlist FILE\nsave FILE\nhelp\n",
     )
 }
 

@@ -7,6 +7,7 @@ mod holding;
 mod listed;
 mod named;
 mod rebuilt;
+mod saved;
 mod shaped;
 mod shown;
 mod split;
@@ -18,8 +19,8 @@ fn help() {
     }
 }
 
-// The commands that ask for tokens, for what is stored of a raw text, for an index or the pattern that holds a cycle, for a listing, or for what the
-// commands are.
+// The commands that ask for tokens, for what is stored of a raw text, for an index or the pattern that holds a cycle, for a listing, for a hurt text's saving,
+// or for what the commands are.
 fn other(command: &[u8]) -> bool {
     if words::equal(command, b"tokens") {
         split::tokens();
@@ -39,6 +40,10 @@ fn other(command: &[u8]) -> bool {
     }
     if words::equal(command, b"list") {
         listed::list();
+        return true;
+    }
+    if words::equal(command, b"save") {
+        saved::save();
         return true;
     }
     if words::equal(command, b"help") {

@@ -9,13 +9,13 @@ use tokens::Step;
 const HALF: usize = 131_072;
 
 // How far the page is filled, and whether there is more to do.
-struct Filled {
-    going: bool,
-    end: usize,
+pub struct Filled {
+    pub going: bool,
+    pub end: usize,
 }
 
 // A page that is half full is written.
-fn emptied(page: &[u8], end: usize) -> Filled
+pub fn emptied(page: &[u8], end: usize) -> Filled
     ensures { λ r. ⌜ r .end ≤ 131072 ⌝ }
 {
     if end < HALF {

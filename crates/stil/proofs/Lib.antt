@@ -7,5 +7,6 @@ mod Opening
 mod Charting
 mod Carrying
 pub mod Indexing
+mod Mending
 pub mod Chained
 pub mod Theorems

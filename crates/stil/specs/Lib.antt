@@ -6,3 +6,4 @@ pub mod Interface
 pub mod Charts
 pub mod Intakes
 pub mod Indexes
+pub mod Saves

@@ -1,11 +1,12 @@
-// The services: Check, Name, Window, Waveform, waveforms by the list and the index, for any text, any numbers and any buffers; and these, the next token, the
-// line of a place and the intake for callers in C.
+// The services: Check, Name, Window, Waveform, waveforms by the list, the index and the saving of hurt texts, for any text, any numbers and any buffers; and
+// these, the next token, the line of a place and the intake for callers in C.
 ghost use mathlib.Core.Path.{_≡_};
 ghost use mathlib.Core.List.{_∷_, []};
-ghost use mathlib.Core.Bool.{false, not};
+ghost use mathlib.Core.Bool.{true, false, not};
 ghost use Prim.Native.Nat.{_-_, _≤_, min};
-ghost use lib.ListN.{length};
+ghost use lib.ListN.{length, take};
 ghost use lib.Dec.{eqb};
+ghost use Rattle.tokens.specs.Refusals.{textMost};
 ghost use Rattle.tokens.specs.Tokens.{nextToken};
 ghost use Rattle.columns.specs.Columns.{position};
 ghost use Rattle.intake.specs.Intake.{chunked, closed as closedOf};
@@ -18,6 +19,9 @@ ghost use Rattle.texts.specs.Tables.{Found};
 ghost use Rattle.texts.specs.Told.{packedRefusal};
 ghost use Rattle.index.specs.Index.{index as indexOf, belongs as belongsTo, holds as holdsIn};
 ghost use Rattle.index.specs.Lines.{indexMost};
+ghost use Rattle.saving.specs.Saving.{Saved as SavedText, saving, save as saveOf};
+ghost use Rattle.saving.specs.Spans.{notedAll};
+ghost use Rattle.saving.specs.Mends.{Turns, Mends};
 ghost use Rattle.stil.specs.Answers.{checkedOf, locatedOf};
 ghost use Rattle.verdicts.specs.Judged.{whichOf};
 ghost use Rattle.verdicts.specs.Found.{SomeFound};
@@ -27,17 +31,26 @@ ghost use Rattle.stil.specs.Charts.{Plots, Sketches};
 ghost use Rattle.stil.specs.Interface.{Hands, packed, fronted, fiveOf, twoOf, threeOf, tokenOf, positionOf, Opens, Draws};
 ghost use Rattle.stil.specs.Intakes.{stateLeast, byteOf, progressIs, Tells, Carries, rawRefusal};
 ghost use Rattle.stil.specs.Indexes.{Rebuilds, belongingOf, holdingOf, Indexes, Writes, holderTwo};
+ghost use Rattle.stil.specs.Saves.{SomeCopy, Saves, Restores};
 use index::Held;
 use intake::Intake;
 use intake::Progress;
 use plays::Failing;
+use saving::Hurt;
+use saving::Mended;
+use saving::Turn;
 use texts::Verdict;
 use timing::Watch;
 use verdicts::Wanted;
 
 const TEXT_MOST: usize = 65_536;
 
+// The numbers of 64 spans: more are rare.
+const LOG: usize = 128;
+
 // Refusals.
+const TOO_LONG: u8 = 1;
+
 const TOO_MANY: u8 = 8;
 
 const BAD_MARK: u8 = 12;
@@ -114,6 +127,12 @@ pub enum Holding {
     // the pattern's number in the list
     Pattern(usize),
     NoPattern,
+    Refused(u8, usize),
+}
+
+pub enum Saved {
+    // how many spans were overwritten
+    Spans(usize),
     Refused(u8, usize),
 }
 
@@ -607,6 +626,130 @@ pub fn belongs(text: &[u8], bytes: &[u8]) -> Belonging
     }
 }
 
+// ---- hurt texts
+
+// The check, and the overwriting of what it refuses, if that helps.
+fn mend_once(text: &mut [u8]) -> Turn
+    ensures { λ r. ⌜ Turns (now (text .entry)) (now (text .exit)) r ⌝ }
+{
+    let watch = nowhere();
+    let j = judge(
+        text,
+        Wanted {
+            table: false,
+            number: 0,
+            watch,
+        },
+    );
+    let hurt = saving::hurt_span(text, j.no, j.place);
+    if !hurt.found {
+        return Turn {
+            hurt,
+            no: j.no,
+            place: j.place,
+        };
+    }
+    saving::overwrite(text, hurt.first, hurt.behind);
+    Turn {
+        hurt,
+        no: j.no,
+        place: j.place,
+    }
+}
+
+// Before the first turn.
+fn unseen() -> Turn
+    ensures { λ r. ⌜ r .hurt .found ≡ true ⌝ }
+{
+    Turn {
+        hurt: Hurt {
+            found: true,
+            first: 0,
+            behind: 0,
+        },
+        no: 0,
+        place: 0,
+    }
+}
+
+// Turn after turn; the spans to the front of the numbers, as far as there is room.
+fn mend(text: &mut [u8], spans: &mut [u64]) -> Mended
+    requires { ⌜ length (now text) ≤ textMost ⌝ }
+    ensures { λ r. ⌜ Mends (now (text .entry)) (now (text .exit)) (now (spans .entry)) (now (spans .exit)) r ⌝ }
+{
+    let mut t = unseen();
+    let mut count = 0;
+    while t.hurt.found {
+        t = mend_once(text);
+        let hurt = t.hurt;
+        count = saving::note(spans, count, hurt);
+    }
+    Mended {
+        no: t.no,
+        place: t.place,
+        count,
+    }
+}
+
+// Room for a text; made here alone, so that a caller's proof sees its length and no zeros.
+fn room() -> [u8; TEXT_MOST]
+    ensures { λ r. ⌜ textMost ≡ length r ⌝ }
+{
+    [0; TEXT_MOST]
+}
+
+// A copy of a text, mended; its spans to a log, as far as that has room.
+fn mend_copy(text: &[u8], copy: &mut [u8], log: &mut [u64]) -> Mended
+    requires { ⌜ (length (now text) ≤ textMost) × (textMost ≤ length (now copy)) ⌝ }
+    ensures { λ r. ⌜ Mends (now (text .entry)) (take (length (now (text .entry))) (now (copy .exit))) (now (log .entry)) (now (log .exit)) r ⌝ }
+{
+    let n = text.len();
+    pages::put(copy, 0, text);
+    mend(&mut copy[0..n], log)
+}
+
+// A text that can be saved, and its spans, where both stand: from the mended copy and the log, or where the log had no room for all spans by mending once more.
+fn hand_back(text: &mut [u8], spans: &mut [u64], copy: &[u8], log: &[u64], count: usize)
+    requires { ⌜ SomeCopy (now text) (now spans) (now copy) (now log) count ⌝ }
+    ensures { λ _. ⌜ ((x : SavedText) → saving (now (text .entry)) ≡ given x → (now (text .exit) ≡ x .text) × (now (spans .exit) ≡ notedAll (x .spans) (now (spans .entry)))) ⌝ }
+{
+    if log.len() / 2 < count {
+        mend(text, spans);
+        return;
+    }
+    let n = text.len();
+    pages::put(text, 0, words::bytes_of(copy, 0, n));
+    saving::hand_out(log, count * 2, spans);
+}
+
+// There is room for what else is handed out (`spare`), or that is 19 too.
+fn save_text(text: &mut [u8], spare: bool, spans: &mut [u64]) -> Saved
+    ensures { λ r. ⌜ Saves (spared spare (saveOf (now (text .entry)) (now (spans .entry)))) (now (text .entry)) (now (text .exit)) (now (spans .entry)) (now (spans .exit)) r ⌝ }
+{
+    if TEXT_MOST < text.len() {
+        return Saved::Refused(TOO_LONG, 0);
+    }
+    let mut copy = room();
+    let mut log = [0u64; LOG];
+    let m = mend_copy(text, &mut copy, &mut log);
+    if m.no != 0 {
+        return Saved::Refused(m.no, m.place);
+    }
+    let count = m.count;
+    if !spare | (spans.len() / 2 < count) {
+        return Saved::Refused(NO_ROOM, 0);
+    }
+    hand_back(text, spans, &copy, &log, count);
+    Saved::Spans(count)
+}
+
+// A hurt text saved where it stands; two numbers for each overwritten span, its first byte and the one behind its last, to the front of `spans`.
+pub fn save(text: &mut [u8], spans: &mut [u64]) -> Saved
+    ensures { λ r. ⌜ Saves (saveOf (now (text .entry)) (now (spans .entry))) (now (text .entry)) (now (text .exit)) (now (spans .entry)) (now (spans .exit)) r ⌝ }
+{
+    save_text(text, true, spans)
+}
+
 // ---- for callers in C or Rust: the answer is 0, with what it holds at the front of buffers, or a refusal, and all buffers are as they were
 
 // A refusal as one number: 32 times its place and its number.
@@ -788,6 +931,20 @@ pub extern "C" fn lutemeteor_holds(
         Holding::Refused(n, p) => pack(n, p),
         Holding::NoPattern => hand_two(0, 0, numbers),
         Holding::Pattern(k) => hand_two(1, k, numbers),
+    }
+}
+
+// A hurt text saved where it stands: its overwritten spans, two numbers for each, and how many there are. A buffer without room for its part is 19.
+#[no_mangle]
+pub extern "C" fn lutemeteor_save(text: &mut [u8], spans: &mut [u64], numbers: &mut [u64]) -> u64
+    ensures { λ r. ⌜ Restores (saveOf (now (text .entry)) (now (spans .entry))) (now (text .entry)) (now (text .exit)) (now (spans .entry)) (now (spans .exit)) (now (numbers .entry)) r (now (numbers .exit)) ⌝ }
+{
+    match save_text(text, 1 <= numbers.len(), spans) {
+        Saved::Refused(n, p) => pack(n, p),
+        Saved::Spans(count) => {
+            numbers[0] = count as u64;
+            0
+        }
     }
 }
 

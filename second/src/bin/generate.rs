@@ -1,7 +1,7 @@
-//! Writes generated texts: `generate SEED`, `generate nested SEED`, `generate DIR FIRST COUNT`, `generate big KIND`, `generate big KIND BYTES SIGNALS`,
+//! Writes generated texts: `generate SEED`, `generate nested SEED`, `generate hurt SEED`, `generate DIR FIRST COUNT`, `generate big KIND`, `generate big KIND BYTES SIGNALS`,
 //! `generate run KIND SIGNALS`.
 
-use second::generate::{large, nested, run, sized, text, LARGE_KINDS, RUN_KINDS, SIZED_KINDS};
+use second::generate::{hurt, large, nested, run, sized, text, LARGE_KINDS, RUN_KINDS, SIZED_KINDS};
 use std::io::{self, Write};
 use std::path::Path;
 use std::process::ExitCode;
@@ -18,7 +18,8 @@ fn main() -> ExitCode {
     }
 }
 
-const USAGE: &str = "generate SEED | generate nested SEED | generate DIR FIRST COUNT | generate big KIND
+const USAGE: &str =
+    "generate SEED | generate nested SEED | generate hurt SEED | generate DIR FIRST COUNT | generate big KIND
 generate big KIND BYTES SIGNALS | generate run KIND SIGNALS";
 
 fn answer(words: &[&str]) -> Result<(), String> {
@@ -38,6 +39,7 @@ fn answer(words: &[&str]) -> Result<(), String> {
             let made = run(kind, number(signals)? as usize);
             write_out(&made.ok_or_else(|| format!("no such kind: {kind}; there are {}", RUN_KINDS.join(" ")))?)
         }
+        ["hurt", seed] => write_out(&hurt(number(seed)?)),
         ["nested", seed] => write_out(&nested(number(seed)?)),
         [seed] => write_out(&text(number(seed)?)),
         [dir, first, count] => write_files(Path::new(dir), number(first)?, number(count)?),

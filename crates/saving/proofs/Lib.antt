@@ -1,0 +1,8 @@
+pub mod Spaces
+pub mod Marks
+pub mod Repeating
+pub mod Saved
+pub mod Noting
+pub mod Mending
+mod Scanning
+mod Samples
