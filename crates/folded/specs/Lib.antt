@@ -1,0 +1,4 @@
+pub mod Pieces
+pub mod Flat
+pub mod Layout
+pub mod Fold
