@@ -1,2 +1,4 @@
 pub mod Words
 pub mod Samples
+pub mod Reading
+pub mod Leaves
