@@ -2,3 +2,4 @@ pub mod Words
 pub mod Samples
 pub mod Reading
 pub mod Leaves
+pub mod SignalsBack

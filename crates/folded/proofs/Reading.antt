@@ -7,6 +7,7 @@ use mathlib.Core.Bool.{Bool, true, false, not, _&&_}
 use mathlib.Core.Option.{Option, none, some}
 use mathlib.Core.List.{List, [], _∷_, _++_, append-assoc, append-nil}
 use lib.Dec.{leb, eqb}
+use lib.ListN.{length}
 use borrow.Author.Tests.{eq-eqb}
 use Rattle.tokens.specs.Written.{bytes, same}
 use Rattle.tokens.specs.Tokens.{Tok, Toks, stop, tok}
@@ -145,3 +146,47 @@ module _ {X S : Type 0} (put : X → List Piece → List Piece) (test : Toks →
         while-on test step takes s ts (begins before x (each put xs k) ts us (f .0) h) ∙ ap (λ (r : Res S). after r (while test step)) (a .2) in
         (b .0, b .1, on ∙ b .2, b .3, subst (λ l. I l (b .0)) (append-assoc before (x ∷ []) xs) (b .4)));
   }
+
+-- up to a closing word
+module _ {X S : Type 0} (put : X → List Piece → List Piece) (close : String) (step : S → Reader S) (takes : (s : S) → Takes (step s))
+    (I : List X → S → Type 0) (F : List X → X → Type 0)
+    (begins : (before : List X) (x : X) (k : List Piece) → F before x → Unlike (bytes close) (words (put x k)))
+    (turn : (before : List X) (x : X) (s : S) (k : List Piece) → F before x → I before s → Reads (step s) (words (put x k)) (words k) (I (before ++ x ∷ []))) where
+  pub reads-closed : (xs before : List X) (s : S) (k : List Piece) (ws : List (List ℕ)) → AllFit F before xs → I before s → words k ≡ bytes close ∷ ws
+      → Reads (closed close step s) (words (each put xs k)) ws (λ x. I (before ++ xs) (x .0))
+  unfolding closed
+  reads-closed xs before s k ws f i e =
+      reads-bind (reads-while put _ step takes I F
+      (λ b x j ts us g h. ap not (not-ahead (bytes close) (words (put x j)) ts us h (begins b x j g))) turn xs before s k f i
+      (λ ts us h. ap not (is-ahead (bytes close) ws ts us (subst (λ l. Before l ts us) e h)))) λ x j.
+      rw e (reads-bind (reads-due (bytes close) ws) λ p u. reads-give ws (x, p) j)
+
+  pub reads-until : (xs before : List X) (s : S) (k : List Piece) (ws : List (List ℕ)) → AllFit F before xs → I before s → words k ≡ bytes close ∷ ws
+      → Reads (until close step s) (words (each put xs k)) ws (I (before ++ xs))
+  unfolding until
+  reads-until xs before s k ws f i e = reads-bind (reads-closed xs before s k ws f i e) λ x j. reads-give ws (x .0) j
+
+-- ---- names without their places
+
+unfoldable pub worded : {A : Type 0} → List (Tok × A) → List (List ℕ × A)
+worded [] = []
+worded (x ∷ xs) = (x .0 .word, x .1) ∷ worded xs
+
+unfoldable pub findIn : {A : Type 0} → List (List ℕ × A) → List ℕ → Option A
+findIn [] w = none
+findIn (x ∷ xs) w = elim (same (x .0) w) [ true ↦ some (x .1) | false ↦ findIn xs w ]
+
+pub find-worded : {A : Type 0} (xs : List (Tok × A)) (w : List ℕ) → find xs w ≡ findIn (worded xs) w
+unfolding find findIn worded
+find-worded [] w = refl
+find-worded {A} (x ∷ xs) w = ap (λ (o : Option A). elim (same (x .0 .word) w) as (λ c. Option A) [ true ↦ some (x .1) | false ↦ o ]) (find-worded xs w)
+
+pub worded-++ : {A : Type 0} (xs ys : List (Tok × A)) → worded (xs ++ ys) ≡ worded xs ++ worded ys
+unfolding worded
+worded-++ [] ys = refl
+worded-++ {A} (x ∷ xs) ys = ap (λ (l : List (List ℕ × A)). (x .0 .word, x .1) ∷ l) (worded-++ xs ys)
+
+pub worded-length : {A : Type 0} (xs : List (Tok × A)) → length (worded xs) ≡ length xs
+unfolding worded
+worded-length [] = refl
+worded-length (x ∷ xs) = ap suc (worded-length xs)
