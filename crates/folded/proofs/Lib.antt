@@ -3,3 +3,4 @@ pub mod Samples
 pub mod Reading
 pub mod Leaves
 pub mod SignalsBack
+pub mod TimingBack

@@ -45,6 +45,14 @@ pub reads-known : {A B : Type 0} {P : B → Type 0} (o : Option A) (a : A) (n p 
 unfolding known _>>=_ after
 reads-known o a n p k e f = rw e (record { all = λ ts us h. f .all ts us h })
 
+pub reads-found : {A : Type 0} (o : Option A) (a : A) (n p : ℕ) (ws : List (List ℕ)) → o ≡ some a → Reads (known o n p) ws ws (λ x. x ≡ a)
+unfolding known
+reads-found o a n p ws e = rw e (record { all = λ ts us h. (a, ts, refl, h, refl) })
+
+-- two readers that do the same
+pub reads-by : {A : Type 0} {P : A → Type 0} {m k : Reader A} {ws vs : List (List ℕ)} → ((ts : Toks) → m ts ≡ k ts) → Reads k ws vs P → Reads m ws vs P
+reads-by e f = record { all = λ ts us h. (let i = f .all ts us h in (i .0, i .1, e ts ∙ i .2, i .3, i .4)) }
+
 pub reads-as : {A : Type 0} {P Q : A → Type 0} {m : Reader A} {ws vs : List (List ℕ)} → ((a : A) → Q a → P a) → Reads m ws vs Q → Reads m ws vs P
 reads-as g f = record { all = λ ts us h. (let i = f .all ts us h in (i .0, i .1, i .2, i .3, g (i .0) (i .4))) }
 
