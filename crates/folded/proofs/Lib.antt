@@ -4,3 +4,4 @@ pub mod Reading
 pub mod Leaves
 pub mod SignalsBack
 pub mod TimingBack
+pub mod BurstBack

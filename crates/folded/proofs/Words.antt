@@ -11,6 +11,7 @@ use Rattle.tokens.specs.Tokens.{Tok, Toks, stop, tok, plain, inword, Act, run, 
 use Rattle.tokens.proofs.Allowed.{wordy-allowed}
 use Rattle.tokens.proofs.Reading.{word-does, blank-does, sign-does}
 use Rattle.tokens.proofs.Stream.{in-word, behind-word}
+use Rattle.meaning.specs.Document.{over}
 use Rattle.folded.specs.Pieces.{Piece, word, only, laid}
 
 -- a byte that is no blank is a token
@@ -44,10 +45,10 @@ Good [] = Unit {0}
 Good (word w b ∷ ps) = Proper w × Apart b × Good ps
 Good (only b ∷ ps) = Apart b × Good ps
 
--- ---- tokens that are some words, and then others
+-- ---- tokens that are some words, and then the text's end
 
 abbrev pub Before : List (List ℕ) → Toks → Toks → Type 0
-Before [] ts us = ts ≡ us
+Before [] ts us = (ts ≡ us) × (over us ≡ true)
 Before (w ∷ ws) ts us = (t : Tok) × (vs : Toks) × (ts ≡ tok t vs) × (t .word ≡ w) × Before ws vs us
 
 -- all tokens to the text's end
@@ -87,13 +88,13 @@ module _ (b : ℕ) (s : List ℕ) (ws : List (List ℕ)) (a : Apart b) (k : (q :
 
 -- THE LAW
 pub spells : (ps : List Piece) → Good ps → (p : ℕ) → Spells (words ps) (lex plain p (laid ps))
-unfolding words laid lex ended
-spells [] h p = (p, refl)
+unfolding words laid lex ended over
+spells [] h p = (p, (refl, refl))
 spells (word w b ∷ ps) h p = word-spells b (laid ps) (words ps) (h .1) (spells ps (h .2)) w (h .0) p
 spells (only b ∷ ps) h p = sign-spells b (laid ps) (words ps) (h .0) (spells ps (h .1)) p
 
 -- so they have no fault
 pub no-fault : (ws : List (List ℕ)) (ts : Toks) → Spells ws ts → faultIn ts ≡ none
 unfolding faultIn
-no-fault [] ts h = ap faultIn (h .1)
+no-fault [] ts h = ap faultIn (h .1 .0)
 no-fault (w ∷ ws) ts h = ap faultIn (h .1 .2) ∙ no-fault ws (h .1 .1) (h .0, h .1 .4)
