@@ -5,3 +5,4 @@ pub mod Leaves
 pub mod SignalsBack
 pub mod TimingBack
 pub mod BurstBack
+pub mod StatementsBack

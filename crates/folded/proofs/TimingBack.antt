@@ -128,7 +128,7 @@ unfolding taken hasWave has
 taken-one s c [] = refl
 taken-one s c (w ∷ ws) = rw (taken-one s c ws, eqb-sym s (w .signal), eqb-sym c (w .char), or-false (eqb (w .signal) s), or-false (eqb (w .char) c))
 
-char-wordy : (c : ℕ) → waveChar c ≡ true → wordy c ≡ true
+pub char-wordy : (c : ℕ) → waveChar c ≡ true → wordy c ≡ true
 unfolding waveChar wordy
 char-wordy c h = by (letter c) (digit c) h
   where

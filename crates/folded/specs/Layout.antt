@@ -81,22 +81,22 @@ execPut behind = say "PatternExec" opening ∷ say "PatternBurst" space ∷ word
 abbrev pub nameAt : List (List ℕ) → ℕ → List ℕ
 nameAt ns i = getD ns i []
 
+-- NAME=CHARACTER;
+unfoldable pub valuePut : List (List ℕ) → ℕ × ℕ → List Piece → List Piece
+valuePut signals x behind = word (nameAt signals (x .0)) equals ∷ word (x .1 ∷ []) semicolon ∷ behind
+
+-- V{NAME=CHARACTER;..}
+unfoldable pub vectorPut : List (List ℕ) → Assigns → List Piece → List Piece
+vectorPut signals xs behind = say "V" opening ∷ each (valuePut signals) xs (only closing ∷ behind)
+
 module _ (signals tables : List (List ℕ)) where
-  -- NAME=CHARACTER;
-  unfoldable pub valuePut : ℕ × ℕ → List Piece → List Piece
-  valuePut x behind = word (nameAt signals (x .0)) equals ∷ word (x .1 ∷ []) semicolon ∷ behind
-
-  -- V{NAME=CHARACTER;..}
-  unfoldable pub vectorPut : Assigns → List Piece → List Piece
-  vectorPut xs behind = say "V" opening ∷ each valuePut xs (only closing ∷ behind)
-
   -- W NAME; or V{..} or Loop K{V{..}}
   unfoldable pub linePut : Line → List Piece → List Piece
   linePut (chooses k) behind = say "W" space ∷ word (nameAt tables k) semicolon ∷ only lf ∷ behind
   linePut (repeats k xs) behind =
       elim (leb 2 k) [
-        | true ↦ say "Loop" space ∷ word (decimal k) opening ∷ vectorPut xs (only closing ∷ only lf ∷ behind)
-        | false ↦ vectorPut xs (only lf ∷ behind)
+        | true ↦ say "Loop" space ∷ word (decimal k) opening ∷ vectorPut signals xs (only closing ∷ only lf ∷ behind)
+        | false ↦ vectorPut signals xs (only lf ∷ behind)
       ]
 
   unfoldable pub patternPut : List ℕ × List Line → List Piece → List Piece
