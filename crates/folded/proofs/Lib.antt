@@ -6,3 +6,5 @@ pub mod SignalsBack
 pub mod TimingBack
 pub mod BurstBack
 pub mod StatementsBack
+pub mod PatternsBack
+pub mod DocumentBack

@@ -118,7 +118,7 @@ pub is-ahead : (c : List ℕ) (ws : List (List ℕ)) (ts us : Toks) → Before (
 unfolding aheadOf
 is-ahead c ws ts us h = rw (h .2, aheadOf, h .3) (same-self c)
 
-skipped : {S : Type 0} (s : String) (part : S → Reader S) (x : S) (ts : Toks) → ahead s ts ≡ false → option s part x ts ≡ ok x ts
+pub skipped : {S : Type 0} (s : String) (part : S → Reader S) (x : S) (ts : Toks) → ahead s ts ≡ false → option s part x ts ≡ ok x ts
 unfolding option ifAhead give
 skipped {S} s part x ts e = ap (λ (b : Bool). elim b as (λ c. Res S) [ true ↦ part x ts | false ↦ ok x ts ]) e
 
@@ -137,6 +137,11 @@ reads-without s part x k {ws} n f = record {
 abbrev pub AllFit : {X : Type 0} → (List X → X → Type 0) → List X → List X → Type 0
 AllFit F before [] = Unit {0}
 AllFit F before (x ∷ xs) = F before x × AllFit F (before ++ x ∷ []) xs
+
+-- at least one of them
+abbrev pub SomeFit : {X : Type 0} → (List X → X → Type 0) → List X → Type 0
+SomeFit F [] = ⊥
+SomeFit F (x ∷ xs) = AllFit F [] (x ∷ xs)
 
 module _ {X S : Type 0} (put : X → List Piece → List Piece) (test : Toks → Bool) (step : S → Reader S) (takes : (s : S) → Takes (step s))
     (I : List X → S → Type 0) (F : List X → X → Type 0)
