@@ -8,3 +8,4 @@ pub mod BurstBack
 pub mod StatementsBack
 pub mod PatternsBack
 pub mod DocumentBack
+pub mod Sources
