@@ -9,3 +9,4 @@ pub mod StatementsBack
 pub mod PatternsBack
 pub mod DocumentBack
 pub mod Sources
+pub mod SourceTiming
