@@ -10,3 +10,5 @@ pub mod PatternsBack
 pub mod DocumentBack
 pub mod Sources
 pub mod SourceTiming
+pub mod Charts
+pub mod Sheets

@@ -121,10 +121,13 @@ unfolding oneEvent
 oneEvent-reads n s ts g h =
     leads-bind _ _ λ t vs v. leads-bind _ _ λ es ws w. leads-bind _ _ λ q xs x. leads-if _ _ _ _ λ c. leads-bind _ _ λ cs ys y.
     let r = quoted-reads 0 ts .all t vs v in
-    leads-give _ (record {
-      each = each-added (s .1) t (spread n es) (s .0) cs (real-spread n es (letters-read vs .all es ws w)) (r .1) h (g .each) (known-ok _ _ _ xs y);
-      few = omega arith;
-    }, omega arith)
+    leads-give _ (
+      record {
+        each = each-added (s .1) t (spread n es) (s .0) cs (real-spread n es (letters-read vs .all es ws w)) (r .1) h (g .each) (known-ok _ _ _ xs y);
+        few = omega arith;
+      },
+      omega arith,
+    )
 
 -- an event begins with a quote
 oneEvent-ahead : (n : ℕ) (s : Events) (ts : Toks) → Leads (oneEvent n s) ts (λ r us. ahead "'" ts ≡ true)
@@ -191,6 +194,16 @@ unfolding blanks
 each-blank [] = tt
 each-blank (c ∷ cs) = ((tt, refl), each-blank cs)
 
+-- a table among those before it
+pub record TableFits (n : ℕ) (before : Tables) (x : Tok × Table) : Type 0 where
+  pub proper : Proper (x .0 .word)
+  pub is-name : isName (x .0 .word) ≡ true
+  pub new : find before (x .0 .word) ≡ none
+  pub few : length before < tablesMost
+  pub some-time : 1 ≤ x .1 .period
+  pub within : x .1 .period ≤ timeMost
+  pub sound : AllSound n (x .1 .waves)
+
 module _ (n : ℕ) where
   entry-reads : (ss : List ℕ) (ws : List Wave) (ts : Toks) → Below n ss → AllSound n ws → Leads (entry ss ws) ts (λ ws us. AllSound n ws)
   unfolding entry
@@ -227,21 +240,11 @@ module _ (n : ℕ) where
         leads-until (λ ws ts. AllSound n ws) (entry (x .1)) (λ ws ts i. entry-reads (x .1) ws ts b i) (λ ws us ts r i. i) "}" ws vs g
 
     module _ (text : List ℕ) where
-      -- a table among those before it
-      pub record TableFits (before : Tables) (x : Tok × Table) : Type 0 where
-        pub proper : Proper (x .0 .word)
-        pub is-name : isName (x .0 .word) ≡ true
-        pub new : find before (x .0 .word) ≡ none
-        pub few : length before < tablesMost
-        pub some-time : 1 ≤ x .1 .period
-        pub within : x .1 .period ≤ timeMost
-        pub sound : AllSound n (x .1 .waves)
-
       record TablesRead (tabs : Tables) (ts : Toks) : Type 0 where
         pub stream : Stream text ts
-        pub fit : AllFit TableFits [] tabs
+        pub fit : AllFit (TableFits n) [] tabs
 
-      table-more : (tabs : Tables) (ts : Toks) → TablesRead tabs ts → Leads (table ns tabs) ts (λ tabs us. AllFit TableFits [] tabs × (0 < length tabs))
+      table-more : (tabs : Tables) (ts : Toks) → TablesRead tabs ts → Leads (table ns tabs) ts (λ tabs us. AllFit (TableFits n) [] tabs × (0 < length tabs))
       unfolding table
       table-more tabs ts i =
           leads-bind _ _ λ p vs v. leads-if _ _ _ _ λ c. leads-bind _ _ λ t ws w. leads-bind _ _ λ q a a-is. leads-bind _ _ λ q b b-is. leads-bind _ _ λ m d d-is.
@@ -249,7 +252,7 @@ module _ (n : ℕ) where
           let r = new-reads text tabs vs (rest-stream text (moves-leaves (moves-due _) .rest _ _ _ v) (i .stream)) .all t ws w in
           let time = quoted-reads 1 b .all m d d-is in
           let x : Table = record { period = m; waves = ws′ } in
-          let fits : TableFits tabs (t, x) = record {
+          let fits : TableFits n tabs (t, x) = record {
             proper = r .0 .proper;
             is-name = r .0 .is-name;
             new = r .1;
@@ -258,7 +261,7 @@ module _ (n : ℕ) where
             within = time .1;
             sound = leads-until (λ ws ts. AllSound n ws) (waveforms ns) waveforms-read (λ ws us ts r i. i) "}" [] g tt .all ws′ h h-is;
           } in
-          leads-give _ (fit-more TableFits [] tabs (t, x) (i .fit) fits, omega (arith, length-append tabs ((t, x) ∷ [])))
+          leads-give _ (fit-more (TableFits n) [] tabs (t, x) (i .fit) fits, omega (arith, length-append tabs ((t, x) ∷ [])))
 
       table-fits : (tabs : Tables) (ts : Toks) → TablesRead tabs ts → Leads (table ns tabs) ts (λ tabs us. TablesRead tabs us × (0 < length tabs))
       table-fits tabs ts i = record {
@@ -267,12 +270,12 @@ module _ (n : ℕ) where
             (record { stream = rest-stream text (moves-leaves (moves-table ns tabs) .rest ts more us q) (i .stream); fit = m .0 }, m .1));
       }
 
-      some-fit : (tabs : Tables) → AllFit TableFits [] tabs → 0 < length tabs → SomeFit TableFits tabs
+      some-fit : (tabs : Tables) → AllFit (TableFits n) [] tabs → 0 < length tabs → SomeFit (TableFits n) tabs
       some-fit [] f h = absurd (omega arith)
       some-fit (x ∷ tabs) f h = f
 
       -- THE LAW of Timing
-      pub timing-fit : (ts : Toks) → Stream text ts → Leads (timing ns) ts (λ tabs us. SomeFit TableFits tabs)
+      pub timing-fit : (ts : Toks) → Stream text ts → Leads (timing ns) ts (λ tabs us. SomeFit (TableFits n) tabs)
       unfolding timing
       timing-fit ts s =
           leads-bind _ _ λ p vs v. leads-bind _ _ λ q ws w.

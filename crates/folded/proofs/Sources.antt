@@ -172,14 +172,15 @@ signals-new : (text : List ℕ) (before ns : Names) → AllFit (SignalFits text)
 unfolding directed firsts
 signals-new text before [] f = tt
 signals-new text before (x ∷ ns) f = (
-    record {
-      proper = f .0 .proper;
-      is-name = f .0 .is-name;
-      new = none-directed text 0 before (x .0 .word) (f .0 .new);
-      few = omega (arith, f .0 .few, directed-length text before);
-      directed = f .0 .directed;
-    },
-    subst (λ l. AllFit NewSignal l (directed text (firsts ns))) (directed-more text before x) (signals-new text (before ++ x ∷ []) ns (f .1)))
+  record {
+    proper = f .0 .proper;
+    is-name = f .0 .is-name;
+    new = none-directed text 0 before (x .0 .word) (f .0 .new);
+    few = omega (arith, f .0 .few, directed-length text before);
+    directed = f .0 .directed;
+  },
+  subst (λ l. AllFit NewSignal l (directed text (firsts ns))) (directed-more text before x) (signals-new text (before ++ x ∷ []) ns (f .1)),
+)
 
 pub signals-good : (text : List ℕ) (ns : Names) → SomeFit (SignalFits text) ns → SomeFit NewSignal (directed text (firsts ns))
 unfolding directed firsts
