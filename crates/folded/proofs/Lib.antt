@@ -12,3 +12,5 @@ pub mod Sources
 pub mod SourceTiming
 pub mod Charts
 pub mod Sheets
+pub mod Stretches
+pub mod PlayBack
