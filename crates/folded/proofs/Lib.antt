@@ -14,3 +14,5 @@ pub mod Charts
 pub mod Sheets
 pub mod Stretches
 pub mod PlayBack
+pub mod GoodPieces
+pub mod RunBack
