@@ -16,3 +16,4 @@ pub mod Stretches
 pub mod PlayBack
 pub mod GoodPieces
 pub mod RunBack
+pub mod SourceRows
