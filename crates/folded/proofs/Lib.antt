@@ -17,3 +17,4 @@ pub mod PlayBack
 pub mod GoodPieces
 pub mod RunBack
 pub mod SourceRows
+pub mod GoodRows
