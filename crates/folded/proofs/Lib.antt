@@ -18,3 +18,4 @@ pub mod GoodPieces
 pub mod RunBack
 pub mod SourceRows
 pub mod GoodRows
+pub mod FlatGood

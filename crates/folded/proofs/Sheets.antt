@@ -44,7 +44,7 @@ single-first : (x : Directed) (xs : List Directed) (i : ℕ) → findIn (singles
 unfolding findIn singles
 single-first x xs i = rw (same-self (x .0), findIn)
 
-one-more : {A : Type 0} (l : List A) (x : A) → length (l ++ x ∷ []) ≡ suc (length l)
+pub one-more : {A : Type 0} (l : List A) (x : A) → length (l ++ x ∷ []) ≡ suc (length l)
 one-more l x = length-append l (x ∷ []) ∙ omega arith
 
 pub signals-known : (before xs : List Directed) → AllFit NewSignal before xs → Knowns (singles 0 (before ++ xs)) (length before) (namesOf xs)
