@@ -19,3 +19,4 @@ pub mod RunBack
 pub mod SourceRows
 pub mod GoodRows
 pub mod FlatGood
+pub mod Sizes
