@@ -20,13 +20,10 @@ use Rattle.held.proofs.Rest.{moves-takes}
 use Rattle.held.proofs.Grammar.{moves-listed}
 use Rattle.folded.specs.Pieces.{Piece, each, only, closing, lf}
 use Rattle.folded.specs.Layout.{burstName, listedPut, burstPut, execPut}
+use Rattle.folded.specs.Same.{wordsOf}
 use Rattle.folded.proofs.Words.{Proper, sign, words}
 use Rattle.folded.proofs.Reading.{Reads, AllFit, Unlike, same-self, reads-bind, reads-as, reads-if, reads-give, reads-due, reads-name, reads-old, reads-until}
 use Rattle.folded.proofs.SignalsBack.{proper-word, no-sign}
-
-unfoldable pub wordsOf : List Tok → List (List ℕ)
-wordsOf [] = []
-wordsOf (t ∷ ts) = t .word ∷ wordsOf ts
 
 words-more : (l : List Tok) (t : Tok) → wordsOf (l ++ t ∷ []) ≡ wordsOf l ++ t .word ∷ []
 unfolding wordsOf

@@ -22,7 +22,7 @@ use Rattle.folded.proofs.Words.{Proper}
 use Rattle.folded.proofs.Reading.{AllFit, findIn, same-self}
 use Rattle.folded.proofs.SignalsBack.{Directed, singles, singles-more, NewSignal}
 use Rattle.folded.proofs.TimingBack.{FirstFits, wavesIn, wavesIn-more, NewEntry, wavesAll, wavesAll-more, NewChart, or-false}
-use Rattle.folded.proofs.BurstBack.{wordsOf}
+use Rattle.folded.specs.Same.{wordsOf}
 use Rattle.folded.proofs.SourceTiming.{SoundWave, AllSound}
 
 -- ---- numbers one behind the other

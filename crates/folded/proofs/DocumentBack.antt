@@ -18,11 +18,12 @@ use Rattle.held.proofs.Parts.{firstEnv}
 use Rattle.folded.specs.Pieces.{Piece, each, only, word}
 use Rattle.folded.specs.Flat.{Line, Sheet, Flat}
 use Rattle.folded.specs.Layout.{burstName, namesFrom, namedFrom, orOne, namesOf, sheetNames, patternPut, signalsPut, timingPut, burstPut, execPut, pieces}
+use Rattle.folded.specs.Same.{wordsOf}
 use Rattle.folded.proofs.Words.{Before, sign, words}
 use Rattle.folded.proofs.Reading.{Reads, AllFit, SomeFit, Unlike, not-ahead, skipped, reads-bind, reads-by, reads-as, reads-give, reads-due, reads-without, worded}
 use Rattle.folded.proofs.SignalsBack.{Directed, singles, NewSignal, reads-signals}
 use Rattle.folded.proofs.TimingBack.{tablesIn, NewSheet, reads-timing}
-use Rattle.folded.proofs.BurstBack.{wordsOf, NewListed, reads-burst, reads-exec}
+use Rattle.folded.proofs.BurstBack.{NewListed, reads-burst, reads-exec}
 use Rattle.folded.proofs.PatternsBack.{Named, bodied, bodiesOf, NewPattern, reads-patterns}
 
 -- a flat text that a reader takes

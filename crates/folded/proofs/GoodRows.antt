@@ -33,7 +33,7 @@ use Rattle.folded.proofs.StatementsBack.{numberedIn, NewValue, GoodLine
 use Rattle.folded.proofs.Sheets.{itself}
 use Rattle.folded.proofs.Stretches.{All, Stepping}
 use Rattle.folded.proofs.PlayBack.{Clean, Fair, cycleOf, cyclesFor}
-use Rattle.folded.proofs.RunBack.{placeless}
+use Rattle.folded.specs.Same.{placeless}
 
 pub record GoodRow (n : ℕ) (tabs : Tables) (x : Row) : Type 0 where
   pub wide : length (x .pins) ≡ n

@@ -31,7 +31,6 @@ use Rattle.folded.proofs.Words.{Before, Proper, sign, words}
 use Rattle.folded.proofs.Reading.{Reads, AllFit, reads-bind, reads-by, reads-as, reads-if, reads-give, reads-due, reads-new, reads-without, reads-while, worded, findIn}
 use Rattle.folded.proofs.SignalsBack.{proper-word, Directed, singles, NewSignal, reads-signals}
 use Rattle.folded.proofs.TimingBack.{tablesIn, NewSheet, reads-timing}
-use Rattle.folded.proofs.BurstBack.{wordsOf, NewListed, reads-burst, reads-exec}
 use Rattle.folded.proofs.StatementsBack.{bodyOf, GoodLines, reads-statements}
 
 -- ---- declared bodies without places

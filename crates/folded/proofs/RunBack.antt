@@ -17,10 +17,10 @@ use Rattle.meaning.specs.Meaning.{Answer, given, refused, answering, runOf}
 use Rattle.meaning.proofs.Others.{same-is}
 use Rattle.meaning.proofs.Unplaced.{unplaced}
 use Rattle.folded.specs.Flat.{Row, Line}
-use Rattle.folded.specs.Layout.{patternName, namesFrom, namedFrom}
+use Rattle.folded.specs.Layout.{patternName, namesFrom, namedFrom, orOne}
+use Rattle.folded.specs.Same.{wordsOf, placeless}
 use Rattle.folded.proofs.Reading.{findIn, same-self}
 use Rattle.folded.proofs.Leaves.{pattern-apart}
-use Rattle.folded.proofs.BurstBack.{wordsOf}
 use Rattle.folded.proofs.StatementsBack.{bodyOf}
 use Rattle.folded.proofs.PatternsBack.{bodied, bodiesOf}
 use Rattle.folded.proofs.PlayBack.{cycleOf, cyclesFor, runBack}
@@ -93,14 +93,12 @@ run-finds ps i (p ∷ ls) (t ∷ l) e f =
       twins = ap₂ (inner (entered listed 0 [])) (d .2) (r .twins);
     }
 
-pub run-back : (ps : Decls) (ls : List (List Line)) (l : List Tok) → bodied ps ≡ bodiesOf (namedFrom 0 ls) → wordsOf l ≡ namesFrom 0 (length ls) → length ls < 2 ^ 64 → RunIs ps l ls
-run-back ps ls l e f k = run-finds ps 0 ls l f (subst (λ xs. Finds xs 0 ls) (sym e) (finds-all 0 ls (omega arith)))
+pub run-back : (ps : Decls) (ls : List (List Line)) (l : List Tok) → bodied ps ≡ bodiesOf (namedFrom 0 (orOne ls)) → wordsOf l ≡ namesFrom 0 (length ls) → length ls < 2 ^ 64 → RunIs ps l ls
+unfolding orOne Finds
+run-back ps [] l e f k = run-finds ps 0 [] l f tt
+run-back ps (p ∷ ls) l e f k = run-finds ps 0 (p ∷ ls) l f (subst (λ xs. Finds xs 0 (p ∷ ls)) (sym e) (finds-all 0 (p ∷ ls) (omega arith)))
 
 -- ---- cycles without the places of their V's
-
-unfoldable pub placeless : List Cycle → List Cycle
-placeless [] = []
-placeless (c ∷ cs) = record { at = 0; table = c .table; pins = c .pins } ∷ placeless cs
 
 placeless-++ : (cs ds : List Cycle) → placeless (cs ++ ds) ≡ placeless cs ++ placeless ds
 unfolding placeless

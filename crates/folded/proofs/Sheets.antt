@@ -19,7 +19,7 @@ use Rattle.folded.proofs.Reading.{AllFit, SomeFit, findIn, same-self, w
 use Rattle.folded.proofs.SignalsBack.{Directed, singles, NewSignal}
 use Rattle.folded.proofs.TimingBack.{wavesAll, tablesIn, tablesIn-length, NewSheet}
 use Rattle.folded.proofs.StatementsBack.{numberedIn}
-use Rattle.folded.proofs.BurstBack.{wordsOf}
+use Rattle.folded.specs.Same.{wordsOf}
 use Rattle.folded.proofs.SourceTiming.{AllSound, TableFits}
 use Rattle.folded.proofs.Charts.{Along, Known, Knowns, charts-new, charts-same}
 

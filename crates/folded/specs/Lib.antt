@@ -2,3 +2,4 @@ pub mod Pieces
 pub mod Flat
 pub mod Layout
 pub mod Fold
+pub mod Same
