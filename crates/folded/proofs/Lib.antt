@@ -20,3 +20,4 @@ pub mod SourceRows
 pub mod GoodRows
 pub mod FlatGood
 pub mod Sizes
+pub mod Source
