@@ -218,7 +218,7 @@ module _ (signals tables : List (List ℕ)) (names : List (List ℕ × List ℕ)
 
 -- ---- the whole text
 
-each-fits : {X : Type 0} (F : List X → X → Type 0) (xs : List X) → SomeFit F xs → AllFit F [] xs
+pub each-fits : {X : Type 0} (F : List X → X → Type 0) (xs : List X) → SomeFit F xs → AllFit F [] xs
 each-fits F [] f = absurd f
 each-fits F (x ∷ xs) f = f
 

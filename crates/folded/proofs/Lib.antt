@@ -21,3 +21,4 @@ pub mod GoodRows
 pub mod FlatGood
 pub mod Sizes
 pub mod Source
+pub mod Folding
