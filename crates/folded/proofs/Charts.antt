@@ -97,7 +97,7 @@ wave-++ s c (w ∷ ws) vs = by (eqb (w .signal) s && eqb (w .char) c) (wave-++ s
     by true ih = refl
     by false ih = ih
 
-abbrev isIt : {A : Type 0} → Option A → Bool
+abbrev pub isIt : {A : Type 0} → Option A → Bool
 isIt none = false
 isIt (some x) = true
 
