@@ -61,7 +61,7 @@ unfolding sheetNames sheets
 sheet-names signals [] = refl
 sheet-names signals (x ∷ tabs) = ap suc (sheet-names signals tabs)
 
-rows-length : (cs : List Cycle) → length (rowsOf cs) ≡ length cs
+pub rows-length : (cs : List Cycle) → length (rowsOf cs) ≡ length cs
 unfolding rowsOf
 rows-length [] = refl
 rows-length (c ∷ cs) = ap suc (rows-length cs)
@@ -103,7 +103,7 @@ tables-same n signals (x ∷ tabs) (y ∷ back) l g e (suc k) s c =
     tables-same n signals tabs back l (g .1) (parts e .1) k s c
 
 -- and their names and periods
-names-same : (signals : List Tok) (tabs back : Tables) → worded back ≡ tablesIn (sheets signals tabs) → (wordsOf (firsts back) ≡ wordsOf (firsts tabs)) × (periodsOf back ≡ periodsOf tabs)
+pub names-same : (signals : List Tok) (tabs back : Tables) → worded back ≡ tablesIn (sheets signals tabs) → (wordsOf (firsts back) ≡ wordsOf (firsts tabs)) × (periodsOf back ≡ periodsOf tabs)
 unfolding worded tablesIn sheets wordsOf firsts periodsOf
 names-same signals [] [] e = (refl, refl)
 names-same signals [] (y ∷ back) e = absurd (let z : _≡_ {A = ℕ} 0 1 = cc in omega arith)
@@ -113,7 +113,7 @@ names-same signals (x ∷ tabs) (y ∷ back) e =
     let r = names-same signals tabs back (p .1) in
     (ap₂ (λ (h : List ℕ × Table) (t : List (List ℕ)). h .0 ∷ t) (p .0) (r .0), ap₂ (λ (h : List ℕ × Table) (t : List ℕ). h .1 .period ∷ t) (p .0) (r .1))
 
-signals-same : (text : List ℕ) (i : ℕ) (ts : List Tok) (ns : Names) → worded ns ≡ singles i (directed text ts) → wordsOf (firsts ns) ≡ wordsOf ts
+pub signals-same : (text : List ℕ) (i : ℕ) (ts : List Tok) (ns : Names) → worded ns ≡ singles i (directed text ts) → wordsOf (firsts ns) ≡ wordsOf ts
 unfolding worded singles directed wordsOf firsts
 signals-same text i [] [] e = refl
 signals-same text i [] (x ∷ ns) e = absurd (let z : _≡_ {A = ℕ} 0 1 = cc in omega arith)
@@ -139,23 +139,48 @@ playing-rows tabs (c ∷ cs) (x ∷ xs) e h =
     let p : playable tabs c ≡ true = placed tabs c ∙ ap (playable tabs) a ∙ h .0 in
     rw (p, firstFailing) (playing-rows tabs cs xs b (h .1))
 
+-- ---- what makes a text accepted
+
+clean-text : (text : List ℕ) → length text ≤ textMost → faultIn (toks text 0) ≡ none → faultOf text ≡ none
+unfolding faultOf
+clean-text text h e = rw (le-leb (length text) textMost h, faultOf) e
+
+abbrev pub meaningOf : Read → Body → Meaning
+meaningOf d r = record { signals = firsts (d .signals); tables = d .tables; listed = length (d .listed); run = r }
+
+judged-so : (d : Read) (r : Body) → fitting r ≡ true → firstFailing (d .tables) (cyclesOf (length (d .signals)) r) ≡ none → judged d r ≡ given (meaningOf d r)
+unfolding judged
+judged-so d r e h =
+    ap (λ (b : Bool). elim b as (λ c. Answer Meaning) [
+      | false ↦ refused tooLarge 0
+      | true ↦ elim (firstFailing (d .tables) (cyclesOf (length (d .signals)) r)) [ some p ↦ refused notPlayable p | none ↦ given (meaningOf d r) ]
+    ]) e
+    ∙ ap (λ (o : Option ℕ). elim o as (λ c. Answer Meaning) [ some p ↦ refused notPlayable p | none ↦ given (meaningOf d r) ]) h
+
+accepts : (text : List ℕ) (d : Read) (ts : Toks) (r : Body) → faultOf text ≡ none → document (toks text 0) ≡ ok d ts → runOf (d .patterns) (d .listed) ≡ given r → fitting r ≡ true
+    → firstFailing (d .tables) (cyclesOf (length (d .signals)) r) ≡ none → meaning text ≡ given (meaningOf d r)
+unfolding meaning accept answering
+accepts text d ts r f e g h k =
+    ap (λ (o : Option (ℕ × ℕ)). elim o as (λ c. Answer Meaning) [ some f ↦ refused (f .0) (f .1) | none ↦ accept (document (toks text 0)) ]) f
+    ∙ ap accept e ∙ ap (λ (a : Answer Body). answering a (judged d)) g ∙ judged-so d r h k
+
 -- ---- what is written may be read
 
 module _ (text : List ℕ) (m : Meaning) (s : Source text m) (few : length (patternsOf m) ≤ patternsMost) (short : cycles 0 (m .run) ≤ foldedMost) where
-  abbrev n : ℕ
+  abbrev pub n : ℕ
   n = length (m .signals)
 
-  abbrev names : List (List ℕ × List ℕ)
+  abbrev pub names : List (List ℕ × List ℕ)
   names = singles 0 (directed text (m .signals))
 
-  abbrev rows : List Row
+  abbrev pub rows : List Row
   rows = rowsOf (cyclesOf n (m .run))
 
   rows-are : concat (patternsOf m) ≡ rows
   unfolding patternsOf
   rows-are = parted-all (listedRows n (m .run)) ∙ s .listed
 
-  rows-short : length rows ≤ foldedMost
+  pub rows-short : length rows ≤ foldedMost
   rows-short = omega (arith, rows-length (cyclesOf n (m .run)), rows-are-cycles n (m .run))
 
   known : Knowns names 0 (namesOf (directed text (m .signals)))
@@ -190,40 +215,67 @@ module _ (text : List ℕ) (m : Meaning) (s : Source text m) (few : length (patt
 
   -- ---- and it is read
 
-  abbrev bytes : List ℕ
+  abbrev pub bytes : List ℕ
   bytes = written (flat text m)
 
   spelled : Spells (words (pieces (flat text m))) (toks bytes 0)
   unfolding toks written
   spelled = spells (pieces (flat text m)) (good-pieces (flat text m) flat-good) 0
 
-  record Back : Type 0 where
+  pub record Back : Type 0 where
     pub doc : Read
     pub rest : Toks
     pub read : document (toks bytes 0) ≡ ok doc rest
     pub is : ReadBack (flat text m) doc
 
-  back : Back
+  pub back : Back
   back = let r = reads-document (flat text m) flat-good .all (toks bytes 0) (stop notHere (spelled .0)) (spelled .1) in record { doc = r .0; rest = r .1; read = r .2; is = r .4 }
 
-  run-is : RunIs (back .doc .patterns) (back .doc .listed) (linesOf (patternsOf m))
+  pub run-is : RunIs (back .doc .patterns) (back .doc .listed) (linesOf (patternsOf m))
   unfolding flat
   run-is = run-back (back .doc .patterns) (linesOf (patternsOf m)) (back .doc .listed) (back .is .patterns) (back .is .listed) (omega (arith, lines-length (patternsOf m)))
 
   -- the same cycles
-  cycles-same : placeless (cyclesOf n (run-is .run)) ≡ cyclesFor rows
+  pub cycles-same : placeless (cyclesOf n (run-is .run)) ≡ cyclesFor rows
   cycles-same =
       sym (placeless-cycles n (run-is .run)) ∙ ap (λ (b : Body). placeless (cyclesOf n b)) (run-is .twins)
       ∙ ap placeless (run-played n (patternsOf m) steady (rows-fair n (m .tables) sound (concat (patternsOf m)) (subst (All (GoodRow n (m .tables))) (sym rows-are) (s .rows))))
       ∙ placeless-rows (concat (patternsOf m)) ∙ ap cyclesFor rows-are
 
-  as-many : length (back .doc .signals) ≡ n
+  pub as-many : length (back .doc .signals) ≡ n
   unfolding flat
   as-many = sym (worded-length (back .doc .signals)) ∙ ap length (back .is .signals) ∙ singles-length 0 (directed text (m .signals)) ∙ directed-length text (m .signals)
 
-  cycles-count : cycles 0 (run-is .run) ≡ length rows
+  pub cycles-count : cycles 0 (run-is .run) ≡ length rows
   cycles-count = sym (rows-are-cycles n (run-is .run)) ∙ sym (placeless-length (cyclesOf n (run-is .run))) ∙ ap length cycles-same ∙ cycles-length rows
 
-  same-tables : (k s c : ℕ) → waveOf s c (tableAt (back .doc .tables) k) ≡ waveOf s c (tableAt (m .tables) k)
+  pub same-tables : (k s c : ℕ) → waveOf s c (tableAt (back .doc .tables) k) ≡ waveOf s c (tableAt (m .tables) k)
   unfolding flat
   same-tables = tables-same n (m .signals) (m .tables) (back .doc .tables) refl sound (back .is .tables)
+
+  -- ---- so it is accepted
+
+  module _ (fits : length bytes ≤ textMost) where
+    clean : faultOf bytes ≡ none
+    clean = clean-text bytes fits (no-fault (words (pieces (flat text m))) (toks bytes 0) spelled)
+
+    run-fitting : fitting (run-is .run) ≡ true
+    unfolding fitting flat
+    run-fitting =
+        let a : size (run-is .run) ≡ size (runBack (linesOf (patternsOf m))) = sym (unplaced-size (run-is .run)) ∙ ap size (run-is .twins) in
+        rw (le-leb (size (run-is .run)) sizeMost (omega (arith, run-fits (flat text m))), le-leb (cycles 0 (run-is .run)) cyclesMost (omega (arith, cycles-count, rows-short)))
+
+    row-plays : (x : Row) → GoodRow n (m .tables) x → playable (back .doc .tables) (cycleOf x) ≡ true
+    unfolding playable cycleOf
+    row-plays x g = waves-same 0 (x .pins) _ _ (same-tables (x .table)) ∙ g .waves
+
+    rows-play : (xs : List Row) → All (GoodRow n (m .tables)) xs → All (λ x. playable (back .doc .tables) (cycleOf x) ≡ true) xs
+    rows-play [] g = tt
+    rows-play (x ∷ xs) g = (row-plays x (g .0), rows-play xs (g .1))
+
+    plays : firstFailing (back .doc .tables) (cyclesOf (length (back .doc .signals)) (run-is .run)) ≡ none
+    plays = rw as-many (playing-rows (back .doc .tables) (cyclesOf n (run-is .run)) rows cycles-same (rows-play rows (s .rows)))
+
+    -- THE LAW
+    pub folded-accepted : meaning bytes ≡ given (meaningOf (back .doc) (run-is .run))
+    folded-accepted = accepts bytes (back .doc) (back .rest) (run-is .run) clean (back .read) (run-is .is) run-fitting plays

@@ -22,3 +22,4 @@ pub mod FlatGood
 pub mod Sizes
 pub mod Source
 pub mod Folding
+pub mod Theorem
