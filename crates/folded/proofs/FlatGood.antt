@@ -35,8 +35,9 @@ pub listed-new : (i n : ℕ) (before : List (List ℕ)) → length before ≡ i 
 unfolding namesFrom
 listed-new i zero before l h = tt
 listed-new i (suc n) before l h = (
-    record { proper = pattern-proper i; is-name = pattern-name i; few = omega arith },
-    listed-new (suc i) n (before ++ patternName i ∷ []) (one-more before (patternName i) ∙ ap suc l) (omega arith))
+  record { proper = pattern-proper i; is-name = pattern-name i; few = omega arith },
+  listed-new (suc i) n (before ++ patternName i ∷ []) (one-more before (patternName i) ∙ ap suc l) (omega arith),
+)
 
 -- ---- Patterns
 
@@ -65,8 +66,9 @@ module _ (signals tables : List (List ℕ)) (names : List (List ℕ × List ℕ)
   unfolding namedFrom
   patterns-new i [] before g l h f = tt
   patterns-new i (p ∷ ls) before g l h f = (
-      record { proper = pattern-proper i; is-name = pattern-name i; no-burst = no-burst i; new = f i (omega arith) (omega arith); few = omega arith; lines = g .0 },
-      patterns-new (suc i) ls (before ++ (patternName i, p) ∷ []) (g .1) (one-more before (patternName i, p) ∙ ap suc l) (omega arith) (free-more i before p f))
+    record { proper = pattern-proper i; is-name = pattern-name i; no-burst = no-burst i; new = f i (omega arith) (omega arith); few = omega arith; lines = g .0 },
+    patterns-new (suc i) ls (before ++ (patternName i, p) ∷ []) (g .1) (one-more before (patternName i, p) ∙ ap suc l) (omega arith) (free-more i before p f),
+  )
 
   -- also where none is listed
   pub patterns-good : (ls : List (List Line)) → All (GoodLines signals tables names sheets) ls → length ls ≤ patternsMost → SomeFit (NewPattern signals tables names sheets) (namedFrom 0 (orOne ls))

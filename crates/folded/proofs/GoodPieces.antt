@@ -150,16 +150,43 @@ module _ (base : List Wave) (s : ℕ) where
 module _ (names : List (List ℕ × List ℕ)) where
   good-chart : (before : List Chart) (x : Chart) (k : List Piece) → NewChart names before x → Good k → Good (chartPut x k)
   unfolding chartPut
-  good-chart before x k f g =
-      (f .proper, opening-apart, good-each (NewEntry (wavesAll before) (x .signal)) entryPut (good-entry (wavesAll before) (x .signal)) (x .first ∷ x .others) [] (only closing ∷ only lf ∷ k) (f .entries)
-      (closing-apart, (lf-apart, g)))
+  good-chart before x k f g = (
+    f .proper,
+    opening-apart,
+    good-each (NewEntry (wavesAll before) (x .signal)) entryPut (good-entry (wavesAll before) (x .signal)) (x .first ∷ x .others) [] (only closing ∷ only lf ∷ k) (f .entries)
+        (closing-apart, (lf-apart, g)),
+  )
 
   good-sheet : (before : List Sheet) (x : Sheet) (k : List Piece) → NewSheet names before x → Good k → Good (sheetPut x k)
   unfolding sheetPut bytes isProper allWordy wordy letter digit between
-  good-sheet before x k f g =
-      (said (bytes "WaveformTable") refl, space-apart, (f .proper, opening-apart, (said (bytes "Period") refl, quote-apart, (time-read (x .period) (f .within) .proper, quote-apart, (semicolon-apart,
-      (said (bytes "Waveforms") refl, opening-apart, (lf-apart, good-each (NewChart names) chartPut good-chart (x .charts) [] (only closing ∷ only closing ∷ only lf ∷ k) (f .charts)
-      (closing-apart, (closing-apart, (lf-apart, g))))))))))
+  good-sheet before x k f g = (
+    said (bytes "WaveformTable") refl,
+    space-apart,
+    (
+      f .proper,
+      opening-apart,
+      (
+        said (bytes "Period") refl,
+        quote-apart,
+        (
+          time-read (x .period) (f .within) .proper,
+          quote-apart,
+          (
+            semicolon-apart,
+            (
+              said (bytes "Waveforms") refl,
+              opening-apart,
+              (
+                lf-apart,
+                good-each (NewChart names) chartPut good-chart (x .charts) [] (only closing ∷ only closing ∷ only lf ∷ k) (f .charts)
+                    (closing-apart, (closing-apart, (lf-apart, g))),
+              ),
+            ),
+          ),
+        ),
+      ),
+    ),
+  )
 
   good-timing : (xs : List Sheet) (k : List Piece) → AllFit (NewSheet names) [] xs → Good k → Good (timingPut xs k)
   unfolding timingPut bytes isProper allWordy wordy letter digit between
@@ -178,9 +205,19 @@ good-listed before n k f g = (f .proper, semicolon-apart, g)
 
 good-burst : (ns : List (List ℕ)) (k : List Piece) → AllFit NewListed [] ns → Good k → Good (burstPut ns k)
 unfolding burstPut bytes isProper allWordy wordy letter digit between
-good-burst ns k f g =
-    (said (bytes "PatternBurst") refl, space-apart, (burst-proper, opening-apart, (said (bytes "PatList") refl, opening-apart,
-    good-each NewListed listedPut good-listed ns [] (only closing ∷ only closing ∷ only lf ∷ k) f (closing-apart, (closing-apart, (lf-apart, g))))))
+good-burst ns k f g = (
+  said (bytes "PatternBurst") refl,
+  space-apart,
+  (
+    burst-proper,
+    opening-apart,
+    (
+      said (bytes "PatList") refl,
+      opening-apart,
+      good-each NewListed listedPut good-listed ns [] (only closing ∷ only closing ∷ only lf ∷ k) f (closing-apart, (closing-apart, (lf-apart, g))),
+    ),
+  ),
+)
 
 good-exec : (k : List Piece) → Good k → Good (execPut k)
 unfolding execPut bytes isProper allWordy wordy letter digit between
@@ -228,8 +265,17 @@ unfolding pieces bytes isProper allWordy wordy letter digit between
 good-pieces f g =
     let names = singles 0 (f .signals) in
     let patterns : AllFit (NewPattern (namesOf (f .signals)) (sheetNames (f .tables)) names (tablesIn (f .tables))) [] (namedFrom 0 (orOne (f .patterns))) =
-    each-fits (NewPattern (namesOf (f .signals)) (sheetNames (f .tables)) names (tablesIn (f .tables))) (namedFrom 0 (orOne (f .patterns))) (g .patterns) in
-    (said (bytes "STIL") refl, space-apart, (said (bytes "1.0") refl, semicolon-apart, (lf-apart,
-    good-signals (f .signals) _ (each-fits NewSignal (f .signals) (g .signals)) (good-timing names (f .tables) _ (each-fits (NewSheet names) (f .tables) (g .tables))
-    (good-burst _ _ (g .listed) (good-exec _ (good-each _ _ (good-pattern (namesOf (f .signals)) (sheetNames (f .tables)) names (tablesIn (f .tables))) (namedFrom 0 (orOne (f .patterns))) [] []
-    patterns tt)))))))
+    each-fits (NewPattern (namesOf (f .signals)) (sheetNames (f .tables)) names (tablesIn (f .tables))) (namedFrom 0 (orOne (f .patterns))) (g .patterns) in (
+      said (bytes "STIL") refl,
+      space-apart,
+      (
+        said (bytes "1.0") refl,
+        semicolon-apart,
+        (
+          lf-apart,
+          good-signals (f .signals) _ (each-fits NewSignal (f .signals) (g .signals)) (good-timing names (f .tables) _ (each-fits (NewSheet names) (f .tables) (g .tables))
+              (good-burst _ _ (g .listed) (good-exec _ (good-each _ _ (good-pattern (namesOf (f .signals)) (sheetNames (f .tables)) names (tablesIn (f .tables))) (namedFrom 0 (orOne (f .patterns))) [] []
+              patterns tt)))),
+        ),
+      ),
+    )

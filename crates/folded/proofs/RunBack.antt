@@ -117,8 +117,9 @@ Alike x y = (x .0 ≡ y .0) × (placeless (x .1) ≡ placeless (y .1))
 alike-follow : (x y : Played) (f g : State → Played) → Alike x y → ((s : State) → Alike (f s) (g s)) → Alike (follow x f) (follow y g)
 unfolding follow
 alike-follow x y f g h k = (
-    ap (λ (s : State). f s .0) (h .0) ∙ k (y .0) .0,
-    placeless-++ (x .1) (f (x .0) .1) ∙ ap₂ (λ (a b : List Cycle). a ++ b) (h .1) (ap (λ (s : State). placeless (f s .1)) (h .0) ∙ k (y .0) .1) ∙ sym (placeless-++ (y .1) (g (y .0) .1)))
+  ap (λ (s : State). f s .0) (h .0) ∙ k (y .0) .0,
+  placeless-++ (x .1) (f (x .0) .1) ∙ ap₂ (λ (a b : List Cycle). a ++ b) (h .1) (ap (λ (s : State). placeless (f s .1)) (h .0) ∙ k (y .0) .1) ∙ sym (placeless-++ (y .1) (g (y .0) .1)),
+)
 
 module _ (f g : State → Played) (h : (s : State) → Alike (f s) (g s)) where
   alike-again : (n : ℕ) (s : State) → Alike (again n f s) (again n g s)

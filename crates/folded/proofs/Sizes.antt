@@ -78,8 +78,15 @@ module _ (signals tables : List (List ℕ)) where
   unfolding patternPut
   pattern-long x k =
       let ls = each (linePut signals tables) (x .1) (only closing ∷ only lf ∷ k) in
-      omega (arith, lines-long (x .1) (only closing ∷ only lf ∷ k), only-long closing (only lf ∷ k), only-long lf k, only-long lf ls, word-long (x .0) opening (only lf ∷ ls),
-      word-long (bytes "Pattern") space (word (x .0) opening ∷ only lf ∷ ls))
+      omega (
+        arith,
+        lines-long (x .1) (only closing ∷ only lf ∷ k),
+        only-long closing (only lf ∷ k),
+        only-long lf k,
+        only-long lf ls,
+        word-long (x .0) opening (only lf ∷ ls),
+        word-long (bytes "Pattern") space (word (x .0) opening ∷ only lf ∷ ls),
+      )
 
   patterns-long : (i : ℕ) (ls : List (List Line)) (k : List Piece) → size (runBack ls) + long k ≤ long (each (patternPut signals tables) (namedFrom i ls) k)
   unfolding each namedFrom runBack size
