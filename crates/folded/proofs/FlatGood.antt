@@ -26,7 +26,8 @@ use Rattle.folded.proofs.PatternsBack.{Named, bodiesOf, NewPattern}
 use Rattle.folded.proofs.RunBack.{other-name}
 use Rattle.folded.proofs.Charts.{Along, Known, Knowns}
 use Rattle.folded.proofs.Sheets.{itself, one-more, find-behind}
-use Rattle.folded.proofs.Stretches.{concat, All, all-front, all-back, Begins, begins-steady, expand, stretched-rows, stretches-step, stretches-all, stretch-short}
+use Rattle.folded.specs.Shapes.{concat, Begins, expand}
+use Rattle.folded.proofs.Stretches.{All, all-front, all-back, begins-steady, stretched-rows, stretches-step, stretches-all, stretch-short}
 use Rattle.folded.proofs.GoodRows.{GoodRow, SoundTables, lines-good}
 
 -- ---- the listed names

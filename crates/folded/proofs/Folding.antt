@@ -36,7 +36,8 @@ use Rattle.folded.proofs.GoodPieces.{each-fits, good-pieces}
 use Rattle.folded.proofs.SourceTiming.{AllSound, TableFits}
 use Rattle.folded.proofs.Charts.{Knowns, isIt, has-wave, charts-same}
 use Rattle.folded.proofs.Sheets.{signals-known, sheets-good, tables-known}
-use Rattle.folded.proofs.Stretches.{concat, All, Begins, parted-all, parted-steady}
+use Rattle.folded.specs.Shapes.{concat, Begins}
+use Rattle.folded.proofs.Stretches.{All, parted-all, parted-steady}
 use Rattle.folded.proofs.PlayBack.{cycleOf, cyclesFor, runBack, run-played}
 use Rattle.folded.proofs.RunBack.{RunIs, run-back, placeless-rows, placeless-cycles, unplaced-size}
 use Rattle.folded.proofs.GoodRows.{GoodRow, SoundTables, tables-sound, table-sound, rows-fair}

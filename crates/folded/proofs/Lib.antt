@@ -13,6 +13,7 @@ pub mod SourceTiming
 pub mod Charts
 pub mod Sheets
 pub mod Stretches
+pub mod Shapes
 pub mod PlayBack
 pub mod GoodPieces
 pub mod RunBack

@@ -12,7 +12,8 @@ use Rattle.meaning.specs.Body.{Assigns, Args, mark, listed, looped, entered, Bo
 use Rattle.meaning.specs.Run.{State, Cycle, Played, unassigned, put, puts, changed, cycleAt, follow, again, bare, entering, playing, play, shiftOf, start, cyclesOf}
 use Rattle.folded.specs.Flat.{Row, loses, Stretch, stretches, Line, chooses, repeats, valued, choosing, linesFrom, linesOf}
 use Rattle.folded.proofs.StatementsBack.{bodyOf}
-use Rattle.folded.proofs.Stretches.{concat, All, all-front, all-back, Steady, Begins, begins-steady, self-loses, expand, stretched-rows, Stepping, stretches-step, stretches-all}
+use Rattle.folded.specs.Shapes.{concat, Steady, Begins, expand}
+use Rattle.folded.proofs.Stretches.{All, all-front, all-back, begins-steady, self-loses, stretched-rows, Stepping, stretches-step, stretches-all}
 
 -- ---- one row's values, put
 

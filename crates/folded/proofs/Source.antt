@@ -32,7 +32,8 @@ use Rattle.folded.proofs.SignalsBack.{NewSignal}
 use Rattle.folded.proofs.Sources.{SignalFits, signals-fit, signals-good}
 use Rattle.folded.proofs.SourceTiming.{TableFits, timing-fit}
 use Rattle.folded.proofs.SourceRows.{Chosen, bodies-chosen, patterns-chosen, low-cycles}
-use Rattle.folded.proofs.Stretches.{concat, All}
+use Rattle.folded.specs.Shapes.{concat}
+use Rattle.folded.proofs.Stretches.{All}
 use Rattle.folded.proofs.PlayBack.{cyclesFor}
 use Rattle.folded.proofs.GoodRows.{GoodRow, cycles-good}
 

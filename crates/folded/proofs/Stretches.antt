@@ -11,12 +11,9 @@ use Rattle.tokens.specs.Written.{same}
 use Rattle.meaning.specs.Run.{unassigned}
 use Rattle.meaning.proofs.Others.{same-is}
 use Rattle.folded.specs.Flat.{Row, sameRow, loses, breaks, onto, parted, partedAll, Stretch, longer, stretches}
+use Rattle.folded.specs.Shapes.{concat, Steady, Begins, expand}
 
 -- ---- lists of lists
-
-unfoldable pub concat : {A : Type 0} → List (List A) → List A
-concat [] = []
-concat (l ∷ ls) = l ++ concat ls
 
 pub concat-++ : {A : Type 0} (ls ms : List (List A)) → concat (ls ++ ms) ≡ concat ls ++ concat ms
 unfolding concat
@@ -51,7 +48,7 @@ onto-rows x (p ∷ ps) = by (breaks x p)
     by true = refl
     by false = refl
 
-parted-rows : (l : List Row) → concat (parted l) ≡ l
+pub parted-rows : (l : List Row) → concat (parted l) ≡ l
 unfolding parted concat
 parted-rows [] = refl
 parted-rows (x ∷ l) = onto-rows x (parted l) ∙ ap (λ (k : List Row). x ∷ k) (parted-rows l)
@@ -61,17 +58,7 @@ unfolding partedAll concat
 parted-all [] = refl
 parted-all (l ∷ ls) = concat-++ (parted l) (partedAll ls) ∙ ap₂ (λ (a b : List Row). a ++ b) (parted-rows l) (parted-all ls)
 
--- no pin loses the value that it has before
-unfoldable pub Steady : List ℕ → List Row → Type 0
-Steady old [] = Unit {0}
-Steady old (x ∷ xs) = (loses old (x .pins) ≡ false) × Steady (x .pins) xs
-
--- whatever stands before them, if it is unassigned
-abbrev pub Begins : List Row → Type 0
-Begins [] = Unit {0}
-Begins (x ∷ xs) = Steady (x .pins) xs
-
-steady-joined : (x : Row) (p : List Row) → breaks x p ≡ false → Begins p → Steady (x .pins) p
+pub steady-joined : (x : Row) (p : List Row) → breaks x p ≡ false → Begins p → Steady (x .pins) p
 unfolding breaks Steady
 steady-joined x [] e b = tt
 steady-joined x (y ∷ p) e b = (e, b)
@@ -120,11 +107,7 @@ self-loses (c ∷ pins) = by (eqb c unassigned) (self-loses pins)
 
 -- ---- stretches
 
-unfoldable pub expand : List Stretch → List Row
-expand [] = []
-expand (y ∷ ys) = replicate (y .1) (y .0) ++ expand ys
-
-row-is : (x y : Row) → sameRow x y ≡ true → x ≡ y
+pub row-is : (x y : Row) → sameRow x y ≡ true → x ≡ y
 unfolding sameRow
 row-is x y e = by (eqb (x .table) (y .table)) refl e
   where
