@@ -24,3 +24,6 @@ pub mod Sizes
 pub mod Source
 pub mod Folding
 pub mod Theorem
+
+pub mod Directions
+pub mod Again

@@ -148,7 +148,7 @@ module _ (text : List ℕ) where
 
 -- ---- as they are written
 
-directed-more : (text : List ℕ) (ns : Names) (x : Tok × List ℕ) → directed text (firsts (ns ++ x ∷ [])) ≡ directed text (firsts ns) ++ (x .0 .word, direction text (x .0)) ∷ []
+pub directed-more : (text : List ℕ) (ns : Names) (x : Tok × List ℕ) → directed text (firsts (ns ++ x ∷ [])) ≡ directed text (firsts ns) ++ (x .0 .word, direction text (x .0)) ∷ []
 unfolding directed firsts
 directed-more text [] x = refl
 directed-more text (y ∷ ns) x = ap (λ (l : List Directed). (y .0 .word, direction text (y .0)) ∷ l) (directed-more text ns x)
