@@ -27,12 +27,12 @@ use Rattle.saving.proofs.Saved.{saved-from}
 use Rattle.saving.proofs.Noting.{all-length}
 use Rattle.saving.proofs.Mending.{turn-accepted, turn-beyond, turn-hurt, hurt-never, mends-refused, mends-saved, log-front, too-long-saving, save-refused, save-full, save-given}
 use Rattle.stil.specs.Answers.{afterwards}
-use Rattle.stil.specs.Judged.{Judges}
+use Rattle.verdicts.specs.Judged.{Judges}
 use Rattle.stil.specs.Views.{spared}
 use Rattle.stil.specs.Interface.{withRoom, fronted}
 use Rattle.stil.specs.Saves.{SomeCopy, savedOf, Saves, Restores}
-use Rattle.stil.specs.declared.Wanted.{Wanted}
-use Rattle.stil.specs.declared.Judged.{Judged}
+use Rattle.verdicts.specs.declared.Wanted.{Wanted}
+use Rattle.verdicts.specs.declared.Judged.{Judged}
 use Rattle.stil.specs.declared.Saved.{Saved}
 use Rattle.stil.specs.declared.Saved.the-variants.{Spans, Refused}
 use Rattle.stil.proofs.Viewing.{spared-all}

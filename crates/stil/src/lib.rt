@@ -632,8 +632,8 @@ pub fn belongs(text: &[u8], bytes: &[u8]) -> Belonging
 fn mend_once(text: &mut [u8]) -> Turn
     ensures { λ r. ⌜ Turns (now (text .entry)) (now (text .exit)) r ⌝ }
 {
-    let watch = nowhere();
-    let j = judge(
+    let watch = verdicts::nowhere();
+    let j = verdicts::judge(
         text,
         Wanted {
             table: false,

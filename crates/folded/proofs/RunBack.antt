@@ -1,0 +1,161 @@
+-- The run of a folded text that was read: the Patterns that were written, one after the other, but for places; and the cycles without places.
+use Prim.Native.Nat.{ℕ, zero, suc, _+_, _≤_, _<_, _^_}
+use native.Mathlib.Omega.{arith}
+use mathlib.Core.Path.{_≡_, refl, sym, ap, ap₂, _∙_, subst}
+use mathlib.Core.Bool.{Bool, true, false}
+use mathlib.Core.Option.{Option, none, some}
+use mathlib.Core.List.{List, [], _∷_, _++_}
+use lib.ListN.{length}
+use Rattle.tokens.specs.Written.{same}
+use Rattle.tokens.specs.Tokens.{Tok}
+use Rattle.meaning.specs.Refusals.{notDefined}
+use Rattle.meaning.specs.Names.{find}
+use Rattle.meaning.specs.Body.{Args, Kind, macro, procedure, listed, Way, looped, shifted, entered, Body, done, vec, set′, inner}
+use Rattle.meaning.specs.Statements.{Decl, Decls}
+use Rattle.meaning.specs.Run.{State, Cycle, Played, size, shiftOf, changed, cycleAt, follow, again, entering, playing, play, start, cyclesOf}
+use Rattle.meaning.specs.Meaning.{Answer, given, refused, answering, runOf}
+use Rattle.meaning.proofs.Others.{same-is}
+use Rattle.meaning.proofs.Unplaced.{unplaced}
+use Rattle.folded.specs.Flat.{Row, Line}
+use Rattle.folded.specs.Layout.{patternName, namesFrom, namedFrom, orOne}
+use Rattle.folded.specs.Same.{wordsOf, placeless}
+use Rattle.folded.proofs.Reading.{findIn, same-self}
+use Rattle.folded.proofs.Leaves.{pattern-apart}
+use Rattle.folded.proofs.StatementsBack.{bodyOf}
+use Rattle.folded.proofs.PatternsBack.{bodied, bodiesOf}
+use Rattle.folded.proofs.PlayBack.{cycleOf, cyclesFor, runBack}
+
+-- ---- the names of Patterns find them
+
+-- from number i on
+unfoldable Finds : List (List ℕ × Body) → ℕ → List (List Line) → Type 0
+Finds xs i [] = Unit {0}
+Finds xs i (p ∷ ps) = (findIn xs (patternName i) ≡ some (bodyOf p)) × Finds xs (suc i) ps
+
+pub other-name : (i j : ℕ) → i < j → j < 2 ^ 64 → same (patternName i) (patternName j) ≡ false
+other-name i j h k = by (same (patternName i) (patternName j)) refl
+  where
+    by : (b : Bool) → same (patternName i) (patternName j) ≡ b → b ≡ false
+    by true e = let z = pattern-apart i j (omega arith) k (same-is _ _ e) in absurd (omega arith)
+    by false e = refl
+
+finds-behind : (k : ℕ) (b : Body) (xs : List (List ℕ × Body)) (i : ℕ) (ps : List (List Line)) → k < i → i + length ps < 2 ^ 64 → Finds xs i ps → Finds ((patternName k, b) ∷ xs) i ps
+unfolding Finds findIn
+finds-behind k b xs i [] h l f = tt
+finds-behind k b xs i (p ∷ ps) h l f = (rw (other-name k i h (omega arith), findIn) (f .0), finds-behind k b xs (suc i) ps (omega arith) (omega arith) (f .1))
+
+finds-all : (i : ℕ) (ps : List (List Line)) → i + length ps < 2 ^ 64 → Finds (bodiesOf (namedFrom i ps)) i ps
+unfolding Finds bodiesOf namedFrom findIn
+finds-all i [] l = tt
+finds-all i (p ∷ ps) l = (rw (same-self (patternName i), findIn), finds-behind i (bodyOf p) (bodiesOf (namedFrom (suc i) ps)) (suc i) ps (omega arith) (omega arith) (finds-all (suc i) ps (omega arith)))
+
+-- ---- so they are the run
+
+bodied-found : (ps : Decls) (w : List ℕ) (b : Body) → findIn (bodied ps) w ≡ some b → (d : Decl) × (find ps w ≡ some d) × (unplaced (d .body) ≡ b)
+unfolding bodied find findIn
+bodied-found [] w b h = absurd (let z : _≡_ {A = ℕ} 0 1 = cc in omega arith)
+bodied-found (x ∷ ps) w b h = by (same (x .0 .word) w) refl h (bodied-found ps w b)
+  where
+    by : (c : Bool) → same (x .0 .word) w ≡ c → _≡_ {A = Option Body} (elim c [ true ↦ some (unplaced (x .1 .body)) | false ↦ findIn (bodied ps) w ]) (some b)
+        → (findIn (bodied ps) w ≡ some b → (d : Decl) × (find ps w ≡ some d) × (unplaced (d .body) ≡ b))
+        → (d : Decl) × (_≡_ {A = Option Decl} (elim c [ true ↦ some (x .1) | false ↦ find ps w ]) (some d)) × (unplaced (d .body) ≡ b)
+    by true e h ih = (x .1, refl, let q : unplaced (x .1 .body) ≡ b = cc in q)
+    by false e h ih = ih h
+
+pub record RunIs (ps : Decls) (l : List Tok) (ls : List (List Line)) : Type 0 where
+  pub run : Body
+  pub is : runOf ps l ≡ given run
+  pub twins : unplaced run ≡ runBack ls
+
+run-more : (ps : Decls) (t : Tok) (l : List Tok) (d : Decl) (r : Body) → find ps (t .word) ≡ some d → runOf ps l ≡ given r
+    → runOf ps (t ∷ l) ≡ given (inner (entered listed 0 []) (d .body) r)
+unfolding runOf answering
+run-more ps t l d r e f =
+    ap (λ (o : Option Decl). elim o as (λ x. Answer Body) [
+      | none ↦ refused notDefined (t .at)
+      | some d ↦ answering (runOf ps l) λ r. given (inner (entered listed 0 []) (d .body) r)
+    ]) e
+    ∙ ap (λ (a : Answer Body). answering a λ r. given (inner (entered listed 0 []) (d .body) r)) f
+
+run-finds : (ps : Decls) (i : ℕ) (ls : List (List Line)) (l : List Tok) → wordsOf l ≡ namesFrom i (length ls) → Finds (bodied ps) i ls → RunIs ps l ls
+unfolding Finds wordsOf namesFrom runOf answering runBack unplaced
+run-finds ps i [] [] e f = record { run = done; is = refl; twins = refl }
+run-finds ps i [] (t ∷ l) e f = absurd (let z : _≡_ {A = ℕ} 0 1 = cc in omega arith)
+run-finds ps i (p ∷ ls) [] e f = absurd (let z : _≡_ {A = ℕ} 0 1 = cc in omega arith)
+run-finds ps i (p ∷ ls) (t ∷ l) e f =
+    let w : t .word ≡ patternName i = cc in
+    let v : wordsOf l ≡ namesFrom (suc i) (length ls) = cc in
+    let d = bodied-found ps (patternName i) (bodyOf p) (f .0) in
+    let r = run-finds ps (suc i) ls l v (f .1) in
+    record {
+      run = inner (entered listed 0 []) (d .0 .body) (r .run);
+      is = run-more ps t l (d .0) (r .run) (ap (find ps) w ∙ d .1) (r .is);
+      twins = ap₂ (inner (entered listed 0 [])) (d .2) (r .twins);
+    }
+
+pub run-back : (ps : Decls) (ls : List (List Line)) (l : List Tok) → bodied ps ≡ bodiesOf (namedFrom 0 (orOne ls)) → wordsOf l ≡ namesFrom 0 (length ls) → length ls < 2 ^ 64 → RunIs ps l ls
+unfolding orOne Finds
+run-back ps [] l e f k = run-finds ps 0 [] l f tt
+run-back ps (p ∷ ls) l e f k = run-finds ps 0 (p ∷ ls) l f (subst (λ xs. Finds xs 0 (p ∷ ls)) (sym e) (finds-all 0 (p ∷ ls) (omega arith)))
+
+-- ---- cycles without the places of their V's
+
+placeless-++ : (cs ds : List Cycle) → placeless (cs ++ ds) ≡ placeless cs ++ placeless ds
+unfolding placeless
+placeless-++ [] ds = refl
+placeless-++ (c ∷ cs) ds = ap (λ (l : List Cycle). record { at = 0; table = c .table; pins = c .pins } ∷ l) (placeless-++ cs ds)
+
+pub placeless-rows : (xs : List Row) → placeless (cyclesFor xs) ≡ cyclesFor xs
+unfolding placeless cyclesFor cycleOf
+placeless-rows [] = refl
+placeless-rows (x ∷ xs) = ap (λ (l : List Cycle). cycleOf x ∷ l) (placeless-rows xs)
+
+-- two plays that end alike
+abbrev Alike : Played → Played → Type 0
+Alike x y = (x .0 ≡ y .0) × (placeless (x .1) ≡ placeless (y .1))
+
+alike-follow : (x y : Played) (f g : State → Played) → Alike x y → ((s : State) → Alike (f s) (g s)) → Alike (follow x f) (follow y g)
+unfolding follow
+alike-follow x y f g h k = (
+  ap (λ (s : State). f s .0) (h .0) ∙ k (y .0) .0,
+  placeless-++ (x .1) (f (x .0) .1) ∙ ap₂ (λ (a b : List Cycle). a ++ b) (h .1) (ap (λ (s : State). placeless (f s .1)) (h .0) ∙ k (y .0) .1) ∙ sym (placeless-++ (y .1) (g (y .0) .1)),
+)
+
+module _ (f g : State → Played) (h : (s : State) → Alike (f s) (g s)) where
+  alike-again : (n : ℕ) (s : State) → Alike (again n f s) (again n g s)
+  unfolding again
+  alike-again zero s = (refl, refl)
+  alike-again (suc n) s = alike-follow (f s) (g s) (again n f) (again n g) (h s) (alike-again n)
+
+  alike-entering : (k : Kind) (a : Args) (s : State) → Alike (entering k a f s) (entering k a g s)
+  unfolding entering
+  alike-entering macro a s =
+      let x : State = record { pins = s .pins; table = s .table; args = a } in
+      (ap (λ (y : State). record { pins = y .pins; table = y .table; args = s .args }) (h x .0), h x .1)
+  alike-entering procedure a s = (refl, h _ .1)
+  alike-entering listed a s = (refl, h _ .1)
+
+  alike-playing : (t : ℕ) (w : Way) (s : State) → Alike (playing t w f s) (playing t w g s)
+  unfolding playing
+  alike-playing t (looped n) s = alike-again n s
+  alike-playing t shifted s = alike-again t s
+  alike-playing t (entered k u a) s = alike-entering k a s
+
+alike-play : (t : ℕ) (b : Body) (s : State) → Alike (play t (unplaced b) s) (play t b s)
+unfolding unplaced play cycleAt placeless
+alike-play t done s = (refl, refl)
+alike-play t (vec p a r) s = alike-follow _ _ _ _ (refl, refl) (alike-play t r)
+alike-play t (set′ x r) s = alike-play t r (changed x s)
+alike-play t (inner w b r) s = alike-follow _ _ _ _ (alike-playing _ _ (alike-play (shiftOf t w) b) t w s) (alike-play t r)
+
+-- THE LAW
+pub placeless-cycles : (n : ℕ) (b : Body) → placeless (cyclesOf n (unplaced b)) ≡ placeless (cyclesOf n b)
+unfolding cyclesOf
+placeless-cycles n b = alike-play 0 b (start n) .1
+
+pub unplaced-size : (b : Body) → size (unplaced b) ≡ size b
+unfolding unplaced size
+unplaced-size done = refl
+unplaced-size (vec p a r) = rw (unplaced-size r)
+unplaced-size (set′ x r) = rw (unplaced-size r)
+unplaced-size (inner w b r) = rw (unplaced-size b, unplaced-size r)

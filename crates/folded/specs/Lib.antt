@@ -1,0 +1,6 @@
+pub mod Pieces
+pub mod Flat
+pub mod Shapes
+pub mod Layout
+pub mod Fold
+pub mod Same
