@@ -14,7 +14,7 @@ use Rattle.words.specs.Cursor.{alive, stream}
 use Rattle.words.specs.declared.Cursor.{Cursor}
 use Rattle.pins.specs.Shown.{tableOf}
 use Rattle.plays.specs.declared.Played.{Played}
-use Rattle.plays.specs.Plays.{Ground, Holding, Knows, Arrays, Standing, Kept, Plays, Fed, Ended, Onward, Steps, Resumed, Moves}
+use Rattle.plays.specs.Plays.{Ground, Holding, Heads, Knows, Arrays, Standing, Kept, Plays, Fed, Ended, Onward, Steps, Resumed, Moves}
 use Rattle.plays.proofs.Fitting.{neither, fits-again}
 use Rattle.plays.proofs.Following.{failing-plays, alike-same, alike-then, told-alike}
 
@@ -94,4 +94,5 @@ pub record Going (g : Ground) (marks sums memo₀ memo : List ℕ) (more level k
   pub onward : (E : Env) (b : Body) (us : Toks) (s : State) → Standing g (stream (g .text) c₀) more level table₀ x₀ E b us s → Knows g marks sums memo₀ E
       → Onward g more level table x E us k t b s c
   pub memo-long : length memo ≡ length memo₀
+  pub heads : Heads g memo
   pub learnt : (E : Env) (b : Body) (us : Toks) (s : State) → Standing g (stream (g .text) c₀) more level table₀ x₀ E b us s → Knows g marks sums memo₀ E → Knows g marks sums memo E

@@ -16,5 +16,4 @@ pub mod Texts
 pub mod Summing
 mod Settling
 mod Passing
-mod Memos
 mod Recalling

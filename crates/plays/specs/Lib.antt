@@ -1,3 +1,2 @@
-pub mod Memo
 pub mod Plays
 pub mod Run

@@ -32,8 +32,8 @@ use Rattle.heads.specs.Heads.{kindOf}
 use Rattle.pins.specs.Shown.{tableOf, Shows, Told, Roomy, Feeding, feedAt}
 use Rattle.plays.specs.declared.Played.{Played}
 use Rattle.plays.specs.declared.Passed.{Passed}
-use Rattle.plays.specs.declared.Use.{Use}
-use Rattle.plays.specs.Memo.{Row}
+use Rattle.memos.specs.declared.Use.{Use}
+use Rattle.memos.specs.Memo.{telling, Row}
 
 -- ---- what is played
 
@@ -93,16 +93,26 @@ pub record Comes (tabs : Tables) (n table : ℕ) (values : List ℕ) (s : State)
   pub table-is : p .0 .table ≡ tableOf table
   pub args-same : p .0 .args ≡ s .args
 
--- so does the use at the cursor c, whatever body is used there, from every state with this table and these pins
+-- so does the use at the cursor c, whatever body is used there, from every state with this table and these pins, and with fewer second turns too
 pub record Outcome (g : Ground) (E : Env) (k : ℕ) (c : Cursor) (table : ℕ) (values : List ℕ) (table′ : ℕ) (values′ : List ℕ) : Type 0 where
-  pub each : (kind : Kind) (d : Decl) (t : ℕ) (a : Args) (us : Toks) → HeadAt E (stream (g .text) c) (uses kind d t a) us
+  pub each : (j : ℕ) → j ≤ k → (kind : Kind) (d : Decl) (t : ℕ) (a : Args) (us : Toks) → HeadAt E (stream (g .text) c) (uses kind d t a) us
       → (s : State) → s .pins ≡ take (g .signals) values → s .table ≡ tableOf table
-      → Comes (E .tables) (g .signals) table′ values′ s (entering kind a (playFew k t (d .body)) s)
+      → Comes (E .tables) (g .signals) table′ values′ s (entering kind a (playFew j t (d .body)) s)
 
 -- what a row tells is so
 pub record Remembers (g : Ground) (memo : List ℕ) (E : Env) : Type 0 where
-  pub each : (j k : ℕ) (c : Cursor) (table : ℕ) (values : List ℕ) (table′ : ℕ) (values′ : List ℕ) → g .signals ≤ length values → g .signals ≤ length values′
-      → Row memo (g .signals) j (useAt k c) table values table′ values′ → Outcome g E k c table values table′ values′
+  pub each : (j k : ℕ) (c b : Cursor) (table : ℕ) (values : List ℕ) (table′ : ℕ) (values′ : List ℕ) → g .signals ≤ length values → g .signals ≤ length values′
+      → Row memo (g .signals) j (telling (useAt k c) b table values table′ values′) → Outcome g E k c table values table′ values′
+
+-- at the cursor c a statement uses a body, and b is behind it, whatever is declared
+pub record Behind (g : Ground) (c b : Cursor) : Type 0 where
+  pub each : (E : Env) → Describes (g .text) (g .places) (g .lists) (g .tplaces) (g .book) (g .rows) (g .known) E
+      → (kind : Kind) × (d : Decl) × (t : ℕ) × (a : Args) × HeadAt E (stream (g .text) c) (uses kind d t a) (stream (g .text) b)
+
+-- each row has the cursor behind its use
+pub record Heads (g : Ground) (memo : List ℕ) : Type 0 where
+  pub each : (j k : ℕ) (c b : Cursor) (table : ℕ) (values : List ℕ) (table′ : ℕ) (values′ : List ℕ)
+      → Row memo (g .signals) j (telling (useAt k c) b table values table′ values′) → Behind g c b
 
 -- what is known of the bodies that a text uses
 pub record Knows (g : Ground) (marks sums memo : List ℕ) (E : Env) : Type 0 where
@@ -211,6 +221,7 @@ pub record PromisedWhere (fine : Body → Type 0) (g : Ground) (marks sums memo 
   pub ended : (E : Env) (b : Body) (us : Toks) (s : State) → Standing g ts more level table x E b us s → r .failed ≡ false → Ended g level y us (s .args) (r .cursor)
   pub plays : (E : Env) (b : Body) (us : Toks) (s : State) → Standing g ts more level table x E b us s → Knows g marks sums memo E → fine b → Plays g (E .tables) level y us r (f b s)
   pub memo-long : length memo′ ≡ length memo
+  pub heads : Heads g memo′
   pub learnt : (E : Env) (b : Body) (us : Toks) (s : State) → Standing g ts more level table x E b us s → Knows g marks sums memo E → Knows g marks sums memo′ E
 
 -- ---- a second turn that begins as the first began
@@ -263,6 +274,7 @@ pub record Stepped (g : Ground) (marks sums memo memo′ : List ℕ) (ts : Toks)
   pub steps : (E : Env) (b : Body) (us : Toks) (s : State) → Standing g ts more level table x E b us s → Knows g marks sums memo E
       → Steps g ts more level y E us k t b s r
   pub memo-long : length memo′ ≡ length memo
+  pub heads : Heads g memo′
   pub learnt : (E : Env) (b : Body) (us : Toks) (s : State) → Standing g ts more level table x E b us s → Knows g marks sums memo E → Knows g marks sums memo′ E
 
 -- whatever V a Shift holds from ts on, it was played t times
@@ -308,6 +320,7 @@ pub record Performed (g : Ground) (marks sums memo memo′ : List ℕ) (i more l
   pub told : (E : Env) (b : Body) (us : Toks) (a : Args) (s : State) → Using g i more level table x E b us a s → Knows g marks sums memo E
       → Telling g (E .tables) level y r (entering (kindOf i) a (playFew k t b) s)
   pub memo-long : length memo′ ≡ length memo
+  pub heads : Heads g memo′
   pub learnt : (E : Env) (b : Body) (us : Toks) (a : Args) (s : State) → Using g i more level table x E b us a s → Knows g marks sums memo E → Knows g marks sums memo′ E
 
 -- the statement at the cursor c uses the declared body b of number i with the arguments a, for t turns of its Shift
@@ -338,6 +351,7 @@ pub record Served (g : Ground) (marks sums memo memo′ : List ℕ) (c : Cursor)
   pub told : (E : Env) (b : Body) (us : Toks) (a : Args) (s : State) → Invoking g c i t more level table given x E b us a s → Knows g marks sums memo E
       → Telling g (E .tables) level y r (entering (kindOf i) a (playFew k t b) s)
   pub memo-long : length memo′ ≡ length memo
+  pub heads : Heads g memo′
   pub learnt : (E : Env) (b : Body) (us : Toks) (a : Args) (s : State) → Invoking g c i t more level table given x E b us a s → Knows g marks sums memo E
       → Knows g marks sums memo′ E
 

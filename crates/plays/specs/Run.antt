@@ -21,7 +21,7 @@ use Rattle.texts.specs.declared.Parts.{Parts}
 use Rattle.texts.specs.Tables.{Tabled}
 use Rattle.plays.specs.declared.Played.{Played}
 use Rattle.plays.specs.declared.Failing.{Failing}
-use Rattle.plays.specs.Plays.{Ground, Holding, Knows, Fits, Arrays, Sized}
+use Rattle.plays.specs.Plays.{Ground, Holding, Heads, Knows, Fits, Arrays, Sized}
 
 -- ---- one listed pattern
 
@@ -50,6 +50,7 @@ pub record PlaysListed (g : Ground) (marks sums memo memo′ : List ℕ) (list :
   pub sound : (E : Env) (ps : Decls) (d : Decl) → ListedAt g list patterns k E ps d → Knows g marks sums memo E → (s : State) → length (s .pins) ≡ g .signals → r .failed ≡ false
       → firstFailing (E .tables) (entering listed [] (playFew openMost 0 (d .body)) s .1) ≡ none
   pub memo-long : length memo′ ≡ length memo
+  pub heads : Heads g memo′
   pub learnt : (E : Env) (ps : Decls) (d : Decl) → ListedAt g list patterns k E ps d → Knows g marks sums memo E → Knows g marks sums memo′ E
 
 -- ---- the whole run

@@ -18,10 +18,10 @@ ghost use Rattle.measures.specs.Book.{bodies};
 ghost use Rattle.pins.specs.Shown.{valuesLength};
 ghost use Rattle.heads.specs.declared.Known.{Known};
 ghost use Rattle.texts.specs.declared.Parts.{Parts};
-ghost use Rattle.plays.specs.Memo.{memoRow, pictureSize, Short, Notes, Pictures, Writes, Remembered, Recalls};
 ghost use Rattle.plays.specs.Run.{SomeListed, PlaysListed, SomeRun, Runs, Decides};
-ghost use Rattle.plays.specs.Plays.{ground, arrays, Stood, Used, Promised, PromisedWhere, SamePins, Stepped, Shifted, Entered, Performed, SomeInvoked, Served, Summed, Settles, Passing};
+ghost use Rattle.plays.specs.Plays.{ground, arrays, Heads, Behind, Stood, Used, Promised, PromisedWhere, SamePins, Stepped, Shifted, Entered, Performed, SomeInvoked, Served, Summed, Settles, Passing};
 use heads::Known;
+use memos::Use;
 use words::Cursor;
 
 const DEPTH: usize = 8;
@@ -55,193 +55,6 @@ pub struct Passed {
 pub struct Failing {
     pub failed: bool,
     pub place: usize,
-}
-
-// ---- uses that were played before
-
-// A statement that uses a body, where it stands in the text, and how many second turns may be open in it.
-pub struct Use {
-    pub seconds: usize,
-    pub fault: usize,
-    pub at: usize,
-    pub end: usize,
-}
-
-// What a row is found by, and behind it two pictures of a table and pins: before the use, and behind it.
-const BEFORE: usize = 5;
-
-const PICTURE: usize = 1 + sets::MOST;
-
-const BEHIND: usize = BEFORE + PICTURE;
-
-const MEMO_ROW: usize = BEHIND + PICTURE;
-
-// So many rows are kept. A prime: uses at regular distances have rows of their own.
-const MEMO: usize = 337 * MEMO_ROW;
-
-// Numbers below it are kept.
-const KEPT: usize = 65_536;
-
-// Where the row of a use at this place begins, in a memo of this length: each place has one row.
-fn memo_row(long: usize, at: usize) -> usize
-    ensures { λ r. ⌜ ((j : ℕ) × (r ≡ j * memoRow) × (r ≤ long)) ⌝ }
-{
-    let rows = long / MEMO_ROW;
-    if rows == 0 {
-        return 0;
-    }
-    (at % rows) * MEMO_ROW
-}
-
-// What the memo keeps, as a number.
-fn number(n: u16) -> usize
-    ensures { λ r. ⌜ r ≡ n ⌝ }
-{
-    n as usize
-}
-
-// A number, as the memo keeps it.
-fn short(n: usize) -> u16
-    ensures { λ r. ⌜ (n < 65_536 → r ≡ n) ⌝ }
-{
-    (n % KEPT) as u16
-}
-
-// A pin, as the memo keeps it.
-fn wide(b: u8) -> u16
-    ensures { λ r. ⌜ (r ≡ b) × (r % 256 ≡ b) ⌝ }
-{
-    b as u16
-}
-
-// The pin that was kept.
-fn pin_of(n: u16) -> u8
-    ensures { λ r. ⌜ r ≡ n % 256 ⌝ }
-{
-    (n % 256) as u8
-}
-
-// Is the row for this use?
-fn is_noted(memo: &[u16], o: usize, u: Use) -> bool
-    requires { ⌜ o + memoRow ≤ length (now memo) ⌝ }
-    ensures { λ r. ⌜ (r ≡ true → Notes (now (memo .entry)) o u) ⌝ }
-{
-    (memo[o] == 1)
-        & (number(memo[o + 1]) == u.seconds)
-        & (number(memo[o + 2]) == u.fault)
-        & (number(memo[o + 3]) == u.at)
-        & (number(memo[o + 4]) == u.end)
-}
-
-// Can it be?
-fn is_short(u: Use) -> bool
-    ensures { λ r. ⌜ (r ≡ true → Short u) ⌝ }
-{
-    (u.seconds < KEPT) & (u.fault < KEPT) & (u.at < KEPT) & (u.end < KEPT)
-}
-
-// Now it is.
-fn note(memo: &mut [u16], o: usize, u: Use)
-    requires { ⌜ (o + memoRow ≤ length (now memo)) × Short u ⌝ }
-    ensures { λ _. ⌜ Writes (now (memo .entry)) (now (memo .exit)) o (o + 5) × Notes (now (memo .exit)) o u ⌝ }
-{
-    memo[o] = 1;
-    memo[o + 1] = short(u.seconds);
-    memo[o + 2] = short(u.fault);
-    memo[o + 3] = short(u.at);
-    memo[o + 4] = short(u.end);
-}
-
-// Are the table and the pins those of the picture?
-fn is_pictured(memo: &[u16], o: usize, table: usize, values: &[u8], signals: usize) -> bool
-    requires { ⌜ (o + pictureSize ≤ length (now memo)) × (signals < pictureSize) × (signals ≤ length (now values)) ⌝ }
-    ensures { λ r. ⌜ (r ≡ true → Pictures (now (memo .entry)) o signals table (now (values .entry))) ⌝ }
-{
-    let first = number(memo[o]);
-    if first != table {
-        return false;
-    }
-    let mut s = 0;
-    while s < signals {
-        if pin_of(memo[o + 1 + s]) != values[s] {
-            return false;
-        }
-        s += 1;
-    }
-    true
-}
-
-// Now they are.
-fn picture(memo: &mut [u16], o: usize, table: usize, values: &[u8], signals: usize)
-    requires { ⌜ (table < 65_536) × (o + pictureSize ≤ length (now memo)) × (signals < pictureSize) × (signals ≤ length (now values)) ⌝ }
-    ensures { λ _. ⌜ Writes (now (memo .entry)) (now (memo .exit)) o (o + pictureSize) × Pictures (now (memo .exit)) o signals table (now (values .entry)) ⌝ }
-{
-    memo[o] = short(table);
-    let mut s = 0;
-    while s < signals {
-        memo[o + 1 + s] = wide(values[s]);
-        s += 1;
-    }
-}
-
-// The pins are those of the picture.
-fn restore(memo: &[u16], o: usize, values: &mut [u8], signals: usize)
-    requires { ⌜ (o + pictureSize ≤ length (now memo)) × (signals < pictureSize) × (signals ≤ length (now values)) ⌝ }
-    ensures { λ _. ⌜ (length (now (values .exit)) ≡ length (now (values .entry))) × ((i : ℕ) → signals ≤ i → getD (now (values .exit)) i 0 ≡ getD (now (values .entry)) i 0) × Pictures (now (memo .entry)) o signals (getD (now (memo .entry)) o 0) (now (values .exit)) ⌝ }
-{
-    let mut s = 0;
-    while s < signals {
-        values[s] = pin_of(memo[o + 1 + s]);
-        s += 1;
-    }
-}
-
-// A use from this table and these pins, if it is remembered: what it left is left.
-fn recall(memo: &[u16], u: Use, table: usize, values: &mut [u8], signals: usize) -> Passed
-    requires { ⌜ (signals < pictureSize) × (signals ≤ length (now values)) ⌝ }
-    ensures { λ r. ⌜ Recalls (now (memo .entry)) signals u table (now (values .entry)) (now (values .exit)) r ⌝ }
-{
-    let stay = Passed { done: false, table };
-    let o = memo_row(memo.len(), u.at);
-    if memo.len() < o + MEMO_ROW {
-        return stay;
-    }
-    if !is_noted(memo, o, u) {
-        return stay;
-    }
-    if !is_pictured(memo, o + BEFORE, table, values, signals) {
-        return stay;
-    }
-    restore(memo, o + BEHIND, values, signals);
-    Passed {
-        done: true,
-        table: number(memo[o + BEHIND]),
-    }
-}
-
-// A use that was played, in which no cycle failed, from a table and the kept pins to a table and pins.
-fn remember(
-    memo: &mut [u16],
-    u: Use,
-    table: usize,
-    kept: &[u8],
-    behind: usize,
-    values: &[u8],
-    signals: usize,
-)
-    requires { ⌜ (signals < pictureSize) × (signals ≤ length (now kept)) × (signals ≤ length (now values)) ⌝ }
-    ensures { λ _. ⌜ Remembered (now (memo .entry)) (now (memo .exit)) signals u table (now (kept .entry)) behind (now (values .entry)) ⌝ }
-{
-    let o = memo_row(memo.len(), u.at);
-    if (memo.len() < o + MEMO_ROW) | (KEPT <= table) | (KEPT <= behind) {
-        return;
-    }
-    if !is_short(u) {
-        return;
-    }
-    note(memo, o, u);
-    picture(memo, o + BEFORE, table, kept, signals);
-    picture(memo, o + BEHIND, behind, values, signals);
 }
 
 // ---- one statement
@@ -359,7 +172,7 @@ fn needed_turns<'a>(
     args: &mut [usize],
     memo: &mut [u16],
 ) -> Played
-    requires { ⌜ (alive c ≡ true) × (0 < n) × (0 < frame .depth) × Stood (ground (now text) (now places) (now lists) (now tplaces) (now book) (now rows) (now waves) known signals) (stream (now text) c) (frame .depth - 1) (frame .level) table (arrays (now values) (now feeds) (now args)) ⌝ }
+    requires { ⌜ (alive c ≡ true) × (0 < n) × (0 < frame .depth) × Stood (ground (now text) (now places) (now lists) (now tplaces) (now book) (now rows) (now waves) known signals) (stream (now text) c) (frame .depth - 1) (frame .level) table (arrays (now values) (now feeds) (now args)) × Heads (ground (now text) (now places) (now lists) (now tplaces) (now book) (now rows) (now waves) known signals) (now memo) ⌝ }
     ensures { λ r. ⌜ PromisedWhere (λ b. plain ≡ true → Plain b) (ground (now (text .entry)) (now (places .entry)) (now (lists .entry)) (now (tplaces .entry)) (now (book .entry)) (now (rows .entry)) (now (waves .entry)) known signals) (now (marks .entry)) (now (sums .entry)) (now (memo .entry)) (now (memo .exit)) (stream (now (text .entry)) c) (frame .depth - 1) (frame .level) table (arrays (now (values .entry)) (now (feeds .entry)) (now (args .entry))) (arrays (now (values .exit)) (now (feeds .exit)) (now (args .exit))) (λ b. loopFew n (frame .seconds) (λ j. playFew j (frame .turns) b)) r ⌝ }
 {
     let first = Frame {
@@ -503,7 +316,7 @@ fn play_body<'a>(
     args: &mut [usize],
     memo: &mut [u16],
 ) -> Played
-    requires { ⌜ Used (ground (now text) (now places) (now lists) (now tplaces) (now book) (now rows) (now waves) known signals) i (frame .depth) (frame .level) table (arrays (now values) (now feeds) (now args)) ⌝ }
+    requires { ⌜ Used (ground (now text) (now places) (now lists) (now tplaces) (now book) (now rows) (now waves) known signals) i (frame .depth) (frame .level) table (arrays (now values) (now feeds) (now args)) × Heads (ground (now text) (now places) (now lists) (now tplaces) (now book) (now rows) (now waves) known signals) (now memo) ⌝ }
     ensures { λ r. ⌜ Performed (ground (now (text .entry)) (now (places .entry)) (now (lists .entry)) (now (tplaces .entry)) (now (book .entry)) (now (rows .entry)) (now (waves .entry)) known signals) (now (marks .entry)) (now (sums .entry)) (now (memo .entry)) (now (memo .exit)) i (frame .depth) (frame .level) table (arrays (now (values .entry)) (now (feeds .entry)) (now (args .entry))) (arrays (now (values .exit)) (now (feeds .exit)) (now (args .exit))) (frame .seconds) t r ⌝ }
 {
     let inner = Frame {
@@ -690,11 +503,11 @@ fn pass(
     Passed { done, table }
 }
 
-// Macro or Call at the cursor c, of the body of number i: where it was played from here before, what it left is left. Else it is played, and remembered where
-// no cycle fails.
+// Macro or Call at the cursor c, with another behind it, of the body of number i: it is played, and remembered where no cycle fails.
 fn used<'a>(
     text: &'a [u8],
     c: Cursor,
+    behind: Cursor,
     places: &'a [usize],
     lists: &'a [u16],
     tplaces: &'a [usize],
@@ -715,25 +528,9 @@ fn used<'a>(
     args: &mut [usize],
     memo: &mut [u16],
 ) -> Played
-    requires { ⌜ SomeInvoked (ground (now text) (now places) (now lists) (now tplaces) (now book) (now rows) (now waves) known signals) c i t (frame .depth) (frame .level) table (now given) (arrays (now values) (now feeds) (now args)) ⌝ }
+    requires { ⌜ SomeInvoked (ground (now text) (now places) (now lists) (now tplaces) (now book) (now rows) (now waves) known signals) c i t (frame .depth) (frame .level) table (now given) (arrays (now values) (now feeds) (now args)) × Heads (ground (now text) (now places) (now lists) (now tplaces) (now book) (now rows) (now waves) known signals) (now memo) × Behind (ground (now text) (now places) (now lists) (now tplaces) (now book) (now rows) (now waves) known signals) c behind ⌝ }
     ensures { λ r. ⌜ Served (ground (now (text .entry)) (now (places .entry)) (now (lists .entry)) (now (tplaces .entry)) (now (book .entry)) (now (rows .entry)) (now (waves .entry)) known signals) (now (marks .entry)) (now (sums .entry)) (now (memo .entry)) (now (memo .exit)) c i t (frame .depth) (frame .level) table (now (given .entry)) (arrays (now (values .entry)) (now (feeds .entry)) (now (args .entry))) (arrays (now (values .exit)) (now (feeds .exit)) (now (args .exit))) (frame .seconds) r ⌝ }
 {
-    let u = Use {
-        seconds: frame.seconds,
-        fault: c.fault as usize,
-        at: c.at,
-        end: c.end,
-    };
-    let q = recall(memo, u, table, values, signals);
-    if q.done {
-        return Played {
-            cursor: c,
-            failed: false,
-            place: 0,
-            table: q.table,
-            ends: false,
-        };
-    }
     let mut kept = [0u8; sets::MOST];
     keep(values, &mut kept, signals, true);
     pins::supply(given, args, feeds, frame.level + 1);
@@ -761,11 +558,17 @@ fn used<'a>(
     if left.failed {
         return left;
     }
-    remember(memo, u, table, &kept, left.table, values, signals);
+    let u = Use {
+        seconds: frame.seconds,
+        fault: c.fault as usize,
+        at: c.at,
+        end: c.end,
+    };
+    memos::remember(memo, u, behind, table, &kept, left.table, values, signals);
     left
 }
 
-// The statement at the cursor, or the `}` there.
+// The statement at the cursor, or the `}` there. A use that was played from this table and these pins before is not read again: what it left is left.
 fn statement<'a>(
     text: &'a [u8],
     c: Cursor,
@@ -786,9 +589,27 @@ fn statement<'a>(
     args: &mut [usize],
     memo: &mut [u16],
 ) -> Played
-    requires { ⌜ (alive c ≡ true) × Stood (ground (now text) (now places) (now lists) (now tplaces) (now book) (now rows) (now waves) known signals) (stream (now text) c) (frame .depth) (frame .level) table (arrays (now values) (now feeds) (now args)) ⌝ }
+    requires { ⌜ (alive c ≡ true) × Stood (ground (now text) (now places) (now lists) (now tplaces) (now book) (now rows) (now waves) known signals) (stream (now text) c) (frame .depth) (frame .level) table (arrays (now values) (now feeds) (now args)) × Heads (ground (now text) (now places) (now lists) (now tplaces) (now book) (now rows) (now waves) known signals) (now memo) ⌝ }
     ensures { λ r. ⌜ Stepped (ground (now (text .entry)) (now (places .entry)) (now (lists .entry)) (now (tplaces .entry)) (now (book .entry)) (now (rows .entry)) (now (waves .entry)) known signals) (now (marks .entry)) (now (sums .entry)) (now (memo .entry)) (now (memo .exit)) (stream (now (text .entry)) c) (frame .depth) (frame .level) table (arrays (now (values .entry)) (now (feeds .entry)) (now (args .entry))) (arrays (now (values .exit)) (now (feeds .exit)) (now (args .exit))) (frame .seconds) (frame .turns) r ⌝ }
 {
+    let u = Use {
+        seconds: frame.seconds,
+        fault: c.fault as usize,
+        at: c.at,
+        end: c.end,
+    };
+    let f = memos::find(memo, u, table, values, signals);
+    if f.is {
+        let q = memos::bring(memo, f.at, values, signals);
+        let past = q.cursor;
+        return Played {
+            cursor: past,
+            failed: false,
+            place: 0,
+            table: q.table,
+            ends: false,
+        };
+    }
     let mut given = [0; sets::MOST];
     let h = heads::head(
         text,
@@ -927,6 +748,7 @@ fn statement<'a>(
             let r = used(
                 text,
                 c,
+                cursor,
                 places,
                 lists,
                 tplaces,
@@ -981,7 +803,7 @@ fn statements<'a>(
     args: &mut [usize],
     memo: &mut [u16],
 ) -> Played
-    requires { ⌜ (alive c ≡ true) × Stood (ground (now text) (now places) (now lists) (now tplaces) (now book) (now rows) (now waves) known signals) (stream (now text) c) (frame .depth) (frame .level) table (arrays (now values) (now feeds) (now args)) ⌝ }
+    requires { ⌜ (alive c ≡ true) × Stood (ground (now text) (now places) (now lists) (now tplaces) (now book) (now rows) (now waves) known signals) (stream (now text) c) (frame .depth) (frame .level) table (arrays (now values) (now feeds) (now args)) × Heads (ground (now text) (now places) (now lists) (now tplaces) (now book) (now rows) (now waves) known signals) (now memo) ⌝ }
     ensures { λ r. ⌜ PromisedWhere (λ b. Unit {0}) (ground (now (text .entry)) (now (places .entry)) (now (lists .entry)) (now (tplaces .entry)) (now (book .entry)) (now (rows .entry)) (now (waves .entry)) known signals) (now (marks .entry)) (now (sums .entry)) (now (memo .entry)) (now (memo .exit)) (stream (now (text .entry)) c) (frame .depth) (frame .level) table (arrays (now (values .entry)) (now (feeds .entry)) (now (args .entry))) (arrays (now (values .exit)) (now (feeds .exit)) (now (args .exit))) (playFew (frame .seconds) (frame .turns)) r ⌝ }
 {
     let mut cursor = c;
@@ -1036,7 +858,7 @@ fn body_of<'a>(
     args: &mut [usize],
     memo: &mut [u16],
 ) -> Played
-    requires { ⌜ (length (now body) ≤ length (now text)) × Stood (ground (now text) (now places) (now lists) (now tplaces) (now book) (now rows) (now waves) known signals) (toks (now text) (length (now text) - length (now body))) (frame .depth) (frame .level) table (arrays (now values) (now feeds) (now args)) ⌝ }
+    requires { ⌜ (length (now body) ≤ length (now text)) × Stood (ground (now text) (now places) (now lists) (now tplaces) (now book) (now rows) (now waves) known signals) (toks (now text) (length (now text) - length (now body))) (frame .depth) (frame .level) table (arrays (now values) (now feeds) (now args)) × Heads (ground (now text) (now places) (now lists) (now tplaces) (now book) (now rows) (now waves) known signals) (now memo) ⌝ }
     ensures { λ r. ⌜ PromisedWhere (λ b. Unit {0}) (ground (now (text .entry)) (now (places .entry)) (now (lists .entry)) (now (tplaces .entry)) (now (book .entry)) (now (rows .entry)) (now (waves .entry)) known signals) (now (marks .entry)) (now (sums .entry)) (now (memo .entry)) (now (memo .exit)) (toks (now (text .entry)) (length (now (text .entry)) - length (now (body .entry)))) (frame .depth) (frame .level) table (arrays (now (values .entry)) (now (feeds .entry)) (now (args .entry))) (arrays (now (values .exit)) (now (feeds .exit)) (now (args .exit))) (playFew (frame .seconds) (frame .turns)) r ⌝ }
 {
     let c = words::cursor_at(text, text.len() - body.len());
@@ -1085,7 +907,7 @@ fn pattern<'a>(
     args: &mut [usize],
     memo: &mut [u16],
 ) -> Played
-    requires { ⌜ SomeListed (ground (now text) (now places) (now lists) (now tplaces) (now book) (now rows) (now waves) known signals) (now list) patterns k (arrays (now values) (now feeds) (now args)) ⌝ }
+    requires { ⌜ SomeListed (ground (now text) (now places) (now lists) (now tplaces) (now book) (now rows) (now waves) known signals) (now list) patterns k (arrays (now values) (now feeds) (now args)) × Heads (ground (now text) (now places) (now lists) (now tplaces) (now book) (now rows) (now waves) known signals) (now memo) ⌝ }
     ensures { λ r. ⌜ PlaysListed (ground (now (text .entry)) (now (places .entry)) (now (lists .entry)) (now (tplaces .entry)) (now (book .entry)) (now (rows .entry)) (now (waves .entry)) known signals) (now (marks .entry)) (now (sums .entry)) (now (memo .entry)) (now (memo .exit)) (now (list .entry)) patterns k (arrays (now (values .exit)) (now (feeds .exit)) (now (args .exit))) r ⌝ }
 {
     let names = &book[measures::PATTERNS * 2..];
@@ -1144,7 +966,7 @@ pub fn first_failing<'a>(
     let mut values = [0u8; pins::VALUES];
     let mut feeds = [0usize; pins::FEEDS];
     let mut args = [0usize; measures::ROW];
-    let mut memo = [0u16; MEMO];
+    let mut memo = [0u16; memos::MEMO];
     let mut k = 0;
     while k < listed {
         let r = pattern(

@@ -15,11 +15,11 @@ use Rattle.plays.specs.Plays.{ground, arrays}
 use Rattle.plays.proofs.Fitting.{both, fits-some}
 use Rattle.plays.proofs.Heading.{begins-within}
 use Rattle.plays.proofs.Keeping.{kept-none, kept-then, kept-others, kept-args, kept-passed, kept-used, sized-kept, sized-at, shows-untouched, shows-supplied}
-use Rattle.plays.proofs.Stepping.{steps-moves, ends-step, vector-step, assigns-step, chooses-step, in-loop, in-shift, called, loop-standing, loop-plain, loop-step, shift-standing, shift-step, inside-moves, called-moves, called-calling, called-invoking, called-step}
+use Rattle.plays.proofs.Stepping.{steps-moves, ends-step, vector-step, assigns-step, chooses-step, in-loop, in-shift, called, reused, reused-moves, reused-step, loop-standing, loop-plain, loop-step, shift-standing, shift-step, inside-moves, called-moves, called-calling, called-invoking, called-step}
 use Rattle.plays.proofs.Turning.{turned-once, turned-twice, turned-standing, second-open, first-sound}
 use Rattle.plays.proofs.Steady.{asked, pins-again, turned-same}
 use Rattle.plays.proofs.Going.{going, going-on, gone, ended-then, resumed, resumed-standing, resumed-on, resumed-less, resumed-end, again-standing, Going}
-use Rattle.plays.proofs.Recalling.{played-outcome, recalled-told, invoked-using, invoking-untouched, knows-more, found-outcome, kept-outcome}
+use Rattle.plays.proofs.Recalling.{played-outcome, recalled-told, invoked-using, knows-more, kept-outcome, behind-head, heads-more}
 use Rattle.plays.proofs.Entering.{kind-macro, kind-procedure, kept-below, kept-returned, sized-left, macro-standing, procedure-standing, macro-told, procedure-told, served-fed, part-within, part-begins}
 use Prim.Native.Nat.{ℕ, _<_}
 use borrow.Fn.Kinds.{In}
@@ -44,6 +44,10 @@ use Rattle.plays.proofs.used.Kinds as used-kinds
 use Rattle.plays.proofs.+body_of+needed_turns+play_body+statement+statements+used.Lts-used as used-lts
 use Rattle.heads.proofs.head.Reads as head-reads
 use Rattle.measures.proofs.start_at.Reads as start-at-reads
+use Rattle.memos.proofs.Rows.{recalled-row}
+use Rattle.memos.proofs.bring.Reads as bring-reads
+use Rattle.memos.proofs.find.Reads as find-reads
+use Rattle.memos.proofs.remember.Reads as remember-reads
 use Rattle.pins.proofs.come_back.Reads as come-back-reads
 use Rattle.pins.proofs.leave.Reads as leave-reads
 use Rattle.pins.proofs.put.Reads as put-reads
@@ -51,8 +55,6 @@ use Rattle.pins.proofs.supply.Reads as supply-reads
 use Rattle.pins.proofs.vectors.Reads as vectors-reads
 use Rattle.plays.proofs.keep.Reads as keep-reads
 use Rattle.plays.proofs.pass.Reads as pass-reads
-use Rattle.plays.proofs.recall.Reads as recall-reads
-use Rattle.plays.proofs.remember.Reads as remember-reads
 use Rattle.plays.proofs.same_pins.Reads as same-pins-reads
 use Rattle.plays.proofs.shift.Reads as shift-reads
 use Rattle.words.proofs.cursor_at.Reads as cursor-at-reads
@@ -79,7 +81,7 @@ abbrev μ-statements : Measures 5 statements-kinds.ps ℕ
 μ-statements κs a = 6 * a .1 .1 .1 .1 .1 .1 .1 .1 .1 .1 .1 .1 .0 .depth + 3
 
 abbrev μ-used : Measures 5 used-kinds.ps ℕ
-μ-used κs a = 6 * a .1 .1 .1 .1 .1 .1 .1 .1 .1 .1 .1 .1 .0 .depth + 1
+μ-used κs a = 6 * a .1 .1 .1 .1 .1 .1 .1 .1 .1 .1 .1 .1 .1 .0 .depth + 1
 
 abbrev body-of-at : ℕ → In 5 body-of-kinds.ps
 body-of-at t = and 5 body-of-kinds.ps (is 5 body-of-kinds.ps μ-body-of t) body-of.Pre
@@ -137,10 +139,10 @@ abbrev play-body-calls : ℕ → play-body-lts.Claims
 play-body-calls t = (start-at-reads.Asked, start-at-reads.Learnt, body-of-below t, body-of.Post, leave-reads.Asked, leave-reads.Learnt, come-back-reads.Asked, come-back-reads.Learnt)
 
 abbrev statement-calls : ℕ → statement-lts.Claims
-statement-calls t = (head-reads.Asked, head-reads.Learnt, vectors-reads.Asked, vectors-reads.Learnt, put-reads.Asked, put-reads.Learnt, needed-turns-below t, needed-turns.Post, shift-reads.Asked, shift-reads.Learnt, pass-reads.Asked, pass-reads.Learnt, used-below t, used.Post)
+statement-calls t = (find-reads.Asked, find-reads.Learnt, bring-reads.Asked, bring-reads.Learnt, head-reads.Asked, head-reads.Learnt, vectors-reads.Asked, vectors-reads.Learnt, put-reads.Asked, put-reads.Learnt, needed-turns-below t, needed-turns.Post, shift-reads.Asked, shift-reads.Learnt, pass-reads.Asked, pass-reads.Learnt, used-below t, used.Post)
 
 abbrev used-calls : ℕ → used-lts.Claims
-used-calls t = (recall-reads.Asked, recall-reads.Learnt, keep-reads.Asked, keep-reads.Learnt, supply-reads.Asked, supply-reads.Learnt, play-body-below t, play-body.Post, remember-reads.Asked, remember-reads.Learnt)
+used-calls t = (keep-reads.Asked, keep-reads.Learnt, supply-reads.Asked, supply-reads.Learnt, play-body-below t, play-body.Post, remember-reads.Asked, remember-reads.Learnt)
 
 body-of-sub-cursor-at : (t : ℕ) → body-of-lts.Need-sub-cursor-at (body-of-calls t) (body-of-at t) body-of.Post
 body-of-sub-cursor-at t c =
@@ -154,7 +156,7 @@ body-of-statements-requires : (t : ℕ) → body-of-lts.Need-statements-requires
 body-of-statements-requires t c κs =
     let pre′ = c .before .before .before .before .before .before .before .before .before .before .before .before .before .before .before .before .before .before .before .pre in
     let cursor-at′ = c .before .before .before .before .cursor-at in
-    (omega (arith, pre′ .0), (eq-eqb _ 0 (cursor-at′ .ensures .on), rw (cursor-at′ .ensures .there) (pre′ .1 .1)))
+    (omega (arith, pre′ .0), (eq-eqb _ 0 (cursor-at′ .ensures .on), rw (cursor-at′ .ensures .there) (pre′ .1 .1), pre′ .1 .2))
 
 body-of-same-length : (t : ℕ) → body-of-lts.Need-same-length (body-of-calls t) (body-of-at t) body-of.Post
 body-of-same-length t c = search needs
@@ -191,7 +193,7 @@ needed-turns-keep-requires t c κs =
 needed-turns-statements-requires : (t : ℕ) → needed-turns-lts.Need-statements-requires (needed-turns-calls t) (needed-turns-at t) needed-turns.Post
 needed-turns-statements-requires t c κs =
     let pre′ = c .before .before .before .before .before .before .before .before .before .before .before .before .before .before .before .before .before .before .before .before .before .before .before .pre in
-    (omega (arith, pre′ .0, pre′ .1 .2), (pre′ .1 .0, pre′ .1 .3))
+    (omega (arith, pre′ .0, pre′ .1 .2), (pre′ .1 .0, pre′ .1 .3, pre′ .1 .4))
 
 needed-turns-same-length : (t : ℕ) → needed-turns-lts.Need-same-length (needed-turns-calls t) (needed-turns-at t) needed-turns.Post
 needed-turns-same-length t c = search needs
@@ -215,6 +217,7 @@ needed-turns-returns t c =
       ended = a .ended;
       plays = λ E b us s st m f. turned-once _ _ (λ j. playFew j _ b) (pre′ .1 .1) (a .plays E b us s st m tt) (c .if1 .taken);
       memo-long = a .memo-long;
+      heads = a .heads;
       learnt = a .learnt;
     }
 
@@ -260,6 +263,7 @@ needed-turns-returns-2 t c =
       ended = a .ended;
       plays = λ E b us s st m f. turned-same _ st (f (j .0)) pins (eqb-true _ _ (j .1)) _ _ (a .plays E b us s st m tt) (if1′ .left);
       memo-long = a .memo-long;
+      heads = a .heads;
       learnt = a .learnt;
     }
 
@@ -295,6 +299,7 @@ needed-turns-statements-requires-2 t c κs =
           standing = again-standing _ (stood .standing) (a .ended (stood .env) (stood .body) (stood .rest) (stood .state) (stood .standing) sound);
           sized = sized-kept (stood .sized) (a .kept);
         },
+        a .heads,
       ),
     )
 
@@ -338,18 +343,19 @@ needed-turns-returns-3 t c =
           let p = a .plays E b us s st m tt in
           turned-twice _ _ (λ j. playFew j _ b) p (if1′ .left) (z .plays E b us _ (turned-standing _ _ st p sound) (a .learnt E b us s st m) tt));
       memo-long = z .memo-long ∙ a .memo-long;
+      heads = z .heads;
       learnt = λ E b us s st m. z .learnt E b us _ (turned-standing _ _ st (a .plays E b us s st m tt) sound) (a .learnt E b us s st m);
     }
 
 play-body-sub-body : (t : ℕ) → play-body-lts.Need-sub-body (play-body-calls t) (play-body-at t) play-body.Post
 play-body-sub-body t c =
     let pre′ = c .before .before .before .before .before .before .before .before .before .before .before .before .before .before .pre in
-    omega (arith, pre′ .1 .use′ .some-more)
+    omega (arith, pre′ .1 .0 .use′ .some-more)
 
 play-body-add-t26 : (t : ℕ) → play-body-lts.Need-add-t26 (play-body-calls t) (play-body-at t) play-body.Post
 play-body-add-t26 t c =
     let pre′ = c .before .before .before .before .before .before .before .before .before .before .before .before .before .before .before .pre in
-    omega (arith, pre′ .1 .use′ .fits .levels)
+    omega (arith, pre′ .1 .0 .use′ .fits .levels)
 
 play-body-start-at-requires : (t : ℕ) → play-body-lts.Need-start-at-requires (play-body-calls t) (play-body-at t) play-body.Post
 play-body-start-at-requires t c κs = search needs
@@ -357,13 +363,13 @@ play-body-start-at-requires t c κs = search needs
 play-body-sub-body-2 : (t : ℕ) → play-body-lts.Need-sub-body-2 (play-body-calls t) (play-body-at t) play-body.Post
 play-body-sub-body-2 t c =
     let pre′ = c .before .before .before .before .before .before .before .before .before .before .before .before .before .before .before .before .pre in
-    let u = pre′ .1 .use′ in
+    let u = pre′ .1 .0 .use′ in
     omega (arith, c .start-at .ensures (omega (arith, u .declared)), begins-within _ _ _ _ _ (u .holds))
 
 play-body-part-body-start : (t : ℕ) → play-body-lts.Need-part-body-start (play-body-calls t) (play-body-at t) play-body.Post
 play-body-part-body-start t c =
     let pre′ = c .before .before .before .before .before .before .before .before .before .before .before .before .before .before .before .before .pre in
-    let u = pre′ .1 .use′ in
+    let u = pre′ .1 .0 .use′ in
     omega (arith, c .start-at .ensures (omega (arith, u .declared)), begins-within _ _ _ _ _ (u .holds))
 
 play-body-part-body-end : (t : ℕ) → play-body-lts.Need-part-body-end (play-body-calls t) (play-body-at t) play-body.Post
@@ -374,7 +380,7 @@ play-body-body-of-requires t c κs =
     let pre′ = c .before .before .before .before .before .before .before .before .before .before .before .before .before .before .before .before .before .before .before .before .before .before .pre in
     let args′ = c .before .before .before .before .before .before .before .before .before .before .before .before .before .before .before .before .before .before .before .before .before .before .args in
     let start-at′ = c .before .before .before .before .before .before .start-at in
-    let used = pre′ .1 in
+    let used = pre′ .1 .0 in
     let u = used .use′ in
     let at = start-at′ .ensures (omega (arith, u .declared)) in
     let within = begins-within _ _ _ _ _ (u .holds) in (
@@ -389,6 +395,7 @@ play-body-body-of-requires t c κs =
           standing = macro-standing u;
           sized = sized-at (used .sized) _ (omega (arith, u .fits .levels));
         }),
+        pre′ .1 .1,
       ),
     )
 
@@ -411,7 +418,7 @@ play-body-returns t c =
     let start-at′ = c .before .before .before .before .before .before .before .before .before .before .before .before .before .before .before .start-at in
     let if1′ = c .before .before .before .before .before .before .before .before .before .before .before .before .before .if1 in
     let body-of′ = c .before .before .before .before .before .before .before .before .body-of in
-    let u = pre′ .1 .use′ in
+    let u = pre′ .1 .0 .use′ in
     let at = start-at′ .ensures (omega (arith, u .declared)) in
     let p = rw (part-begins (args′ .text .now) (start-at′ .result) _ at (begins-within _ _ _ _ _ (u .holds))) at (body-of′ .ensures) in
     record {
@@ -419,13 +426,14 @@ play-body-returns t c =
       own = λ s h. p .kept .arguments _ s h (omega arith);
       told = λ E b us a s v m. macro-told v _ _ (kind-macro _ (if1′ .taken)) (p .kept) (p .plays E b us _ (macro-standing v) m tt);
       memo-long = p .memo-long;
+      heads = p .heads;
       learnt = λ E b us a s v m. p .learnt E b us _ (macro-standing v) m;
     }
 
 play-body-leave-requires : (t : ℕ) → play-body-lts.Need-leave-requires (play-body-calls t) (play-body-at t) play-body.Post
 play-body-leave-requires t c κs =
     let pre′ = c .before .before .before .before .before .before .before .before .before .before .before .before .before .before .before .before .before .before .before .pre in
-    let used = pre′ .1 in
+    let used = pre′ .1 .0 in
     (used .sized .roomy .values-long, omega (arith, used .use′ .fits .levels))
 
 play-body-body-of-requires-2 : (t : ℕ) → play-body-lts.Need-body-of-requires-2 (play-body-calls t) (play-body-at t) play-body.Post
@@ -434,7 +442,7 @@ play-body-body-of-requires-2 t c κs =
     let args′ = c .before .before .before .before .before .before .before .before .before .before .before .before .before .before .before .before .before .before .before .before .before .before .before .before .before .before .args in
     let start-at′ = c .before .before .before .before .before .before .before .before .before .before .start-at in
     let leave′ = c .before .before .before .before .before .before .leave in
-    let used = pre′ .1 in
+    let used = pre′ .1 .0 in
     let u = used .use′ in
     let at = start-at′ .ensures (omega (arith, u .declared)) in
     let within = begins-within _ _ _ _ _ (u .holds) in (
@@ -449,6 +457,7 @@ play-body-body-of-requires-2 t c κs =
           standing = procedure-standing u (used .sized) (leave′ .ensures);
           sized = sized-at (sized-left (used .sized) (leave′ .ensures)) _ (omega (arith, u .fits .levels));
         }),
+        pre′ .1 .1,
       ),
     )
 
@@ -457,7 +466,7 @@ play-body-come-back-requires t c κs =
     let pre′ = c .before .before .before .before .before .before .before .before .before .before .before .before .before .before .before .before .before .before .before .before .before .before .before .before .before .before .before .before .before .before .before .before .before .before .before .before .pre in
     let leave′ = c .before .before .before .before .before .before .before .before .before .before .before .before .before .before .before .before .leave in
     let body-of2′ = c .before .before .before .before .before .before .before .before .before .body-of2 in
-    let used = pre′ .1 in
+    let used = pre′ .1 .0 in
     (body-of2′ .ensures .kept .values-long ∙ leave′ .ensures .long ∙ used .sized .roomy .values-long, omega (arith, used .use′ .fits .levels))
 
 play-body-same-length-5 : (t : ℕ) → play-body-lts.Need-same-length-5 (play-body-calls t) (play-body-at t) play-body.Post
@@ -481,8 +490,8 @@ play-body-returns-2 t c =
     let leave′ = c .before .before .before .before .before .before .before .before .before .before .before .before .before .before .before .before .before .before .before .before .leave in
     let body-of2′ = c .before .before .before .before .before .before .before .before .before .before .before .before .before .body-of2 in
     let come-back′ = c .before .before .before .come-back in
-    let sized = pre′ .1 .sized in
-    let u = pre′ .1 .use′ in
+    let sized = pre′ .1 .0 .sized in
+    let u = pre′ .1 .0 .use′ in
     let at = start-at′ .ensures (omega (arith, u .declared)) in
     let l = leave′ .ensures in
     let p = rw (part-begins (args′ .text .now) (start-at′ .result) _ at (begins-within _ _ _ _ _ (u .holds))) at (body-of2′ .ensures) in
@@ -492,7 +501,50 @@ play-body-returns-2 t c =
       told = λ E b us a s v m.
           procedure-told v _ _ (kind-procedure _ (if1′ .left)) sized l (p .kept) (come-back′ .ensures) (p .plays E b us _ (procedure-standing v sized l) m tt);
       memo-long = p .memo-long;
+      heads = p .heads;
       learnt = λ E b us a s v m. p .learnt E b us _ (procedure-standing v sized l) m;
+    }
+
+statement-cast-t37 : (t : ℕ) → statement-lts.Need-cast-t37 (statement-calls t) (statement-at t) statement′.Post
+statement-cast-t37 t c = search needs
+
+statement-find-requires : (t : ℕ) → statement-lts.Need-find-requires (statement-calls t) (statement-at t) statement′.Post
+statement-find-requires t c κs =
+    let roomy = c .before .before .before .before .before .before .before .before .before .before .before .before .before .before .before .before .pre .1 .1 .sized .roomy in
+    (omega (arith, roomy .few), omega (arith, roomy .few, roomy .values-long))
+
+statement-bring-requires : (t : ℕ) → statement-lts.Need-bring-requires (statement-calls t) (statement-at t) statement′.Post
+statement-bring-requires t c κs =
+    let roomy = c .before .before .before .before .before .before .before .before .before .before .before .before .before .before .before .before .before .before .before .before .pre .1 .1 .sized .roomy in
+    (c .before .before .before .find .ensures .room (c .before .before .if1 .taken), omega (arith, roomy .few), omega (arith, roomy .few, roomy .values-long))
+
+statement-same-length : (t : ℕ) → statement-lts.Need-same-length (statement-calls t) (statement-at t) statement′.Post
+statement-same-length t c = search needs
+
+statement-same-length-2 : (t : ℕ) → statement-lts.Need-same-length-2 (statement-calls t) (statement-at t) statement′.Post
+statement-same-length-2 t c = search needs
+
+statement-returns : (t : ℕ) → statement-lts.Need-returns (statement-calls t) (statement-at t) statement′.Post
+statement-returns t c =
+    let pre′ = c .before .before .before .before .before .before .before .before .before .before .before .before .before .before .before .before .before .before .before .before .before .before .before .before .pre in
+    let f = c .before .before .before .before .before .before .before .find .ensures in
+    let q = c .before .before .before .bring .ensures in
+    let sized = pre′ .1 .1 .sized in
+    let row = recalled-row f (c .before .before .before .before .before .before .if1 .taken) q in
+    let on = eq-eqb _ 0 (q .pointed .on) in
+    let behind = pre′ .1 .2 .each (row .0) _ _ _ _ _ _ _ (row .1) in
+    record {
+      kept = kept-passed sized (sized .args-long) (q .long) (λ i h. q .rows i (omega (arith, sized .roomy .few)));
+      moves = λ E b us s st. reused-moves st on behind (st .shows .args-are);
+      steps = λ E b us s st m. (
+          let u = reused st on behind in
+          reused-step st on behind (record { cursor = c .before .before .before .bring .result .cursor; failed = false; place = 0; table = c .before .before .before .bring .result .table; ends = false }) _ _
+          (recalled-told _ (u .kind) (u .decl) (u .turns) (u .arguments) _
+          (m .remembers .each (row .0) _ _ _ _ _ _ _ (omega (arith, sized .roomy .few, sized .roomy .values-long)) (omega (arith, sized .roomy .few, sized .roomy .values-long, q .long)) (row .1))
+          (u .read) (st .shows)));
+      memo-long = refl;
+      heads = pre′ .1 .2;
+      learnt = λ E b us s st m. m;
     }
 
 statement-slice-aggregate-head : (t : ℕ) → statement-lts.Need-slice-aggregate-head (statement-calls t) (statement-at t) statement′.Post
@@ -500,7 +552,7 @@ statement-slice-aggregate-head t c = search needs
 
 statement-head-requires : (t : ℕ) → statement-lts.Need-head-requires (statement-calls t) (statement-at t) statement′.Post
 statement-head-requires t c κs =
-    let pre′ = c .before .before .before .before .before .before .before .before .before .before .before .before .before .before .before .pre in
+    let pre′ = c .before .before .before .before .before .before .before .before .before .before .before .before .before .before .before .before .before .before .before .before .pre in
     let stood = pre′ .1 .1 in
     (record { env = stood .env; describes = stood .standing .holding .describes }, (omega arith), gave-zeros, stood .sized .args-long)
 
@@ -515,7 +567,7 @@ statement-slice-aggregate-vectors t c = search needs
 
 statement-vectors-requires : (t : ℕ) → statement-lts.Need-vectors-requires (statement-calls t) (statement-at t) statement′.Post
 statement-vectors-requires t c κs =
-    let pre′ = c .before .before .before .before .before .before .before .before .before .before .before .before .before .before .before .before .before .before .before .before .before .before .before .before .before .before .pre in
+    let pre′ = c .before .before .before .before .before .before .before .before .before .before .before .before .before .before .before .before .before .before .before .before .before .before .before .before .before .before .before .before .before .before .before .pre in
     let head′ = c .before .before .before .before .before .before .before .before .before .before .head in
     let sized = pre′ .1 .1 .sized in
     (sized .roomy, head′ .ensures .0, sized .waves-long)
@@ -528,7 +580,7 @@ statement-slice-aggregate-put t c = search needs
 
 statement-put-requires : (t : ℕ) → statement-lts.Need-put-requires (statement-calls t) (statement-at t) statement′.Post
 statement-put-requires t c κs =
-    let pre′ = c .before .before .before .before .before .before .before .before .before .before .before .before .before .before .before .before .before .before .before .before .before .before .before .before .before .pre in
+    let pre′ = c .before .before .before .before .before .before .before .before .before .before .before .before .before .before .before .before .before .before .before .before .before .before .before .before .before .before .before .before .before .before .pre in
     let head′ = c .before .before .before .before .before .before .before .before .before .head in
     (pre′ .1 .1 .sized .roomy, head′ .ensures .0)
 
@@ -540,7 +592,7 @@ statement-enum-known-what-3 t c = c .match .keys5
 
 statement-needed-turns-requires : (t : ℕ) → statement-lts.Need-needed-turns-requires (statement-calls t) (statement-at t) statement′.Post
 statement-needed-turns-requires t c κs =
-    let pre′ = c .before .before .before .before .before .before .before .before .before .before .before .before .before .before .before .before .before .before .before .before .before .before .before .before .before .before .before .pre in
+    let pre′ = c .before .before .before .before .before .before .before .before .before .before .before .before .before .before .before .before .before .before .before .before .before .before .before .before .before .before .before .before .before .before .before .before .pre in
     let head′ = c .before .before .before .before .before .before .before .before .before .before .before .head in
     let what3′ = c .before .before .before .before .before .what3 in
     let stood = pre′ .1 .1 in
@@ -559,6 +611,7 @@ statement-needed-turns-requires t c κs =
           standing = loop-standing st (i .1) (st .shows);
           sized = sized-kept (stood .sized) (kept-args (stood .sized) (head′ .ensures .1));
         },
+        pre′ .1 .2,
       ),
     )
 
@@ -567,7 +620,7 @@ statement-enum-told-3 t c = c .match .keys6
 
 statement-shift-requires : (t : ℕ) → statement-lts.Need-shift-requires (statement-calls t) (statement-at t) statement′.Post
 statement-shift-requires t c κs =
-    let pre′ = c .before .before .before .before .before .before .before .before .before .before .before .before .before .before .before .before .before .before .before .before .before .before .before .before .before .pre in
+    let pre′ = c .before .before .before .before .before .before .before .before .before .before .before .before .before .before .before .before .before .before .before .before .before .before .before .before .before .before .before .before .before .before .pre in
     let head′ = c .before .before .before .before .before .before .before .before .before .head in
     let enum-told3′ = c .before .before .before .enum-told3 in
     let stood = pre′ .1 .1 in
@@ -592,7 +645,7 @@ statement-slice-aggregate-pass t c = search needs
 
 statement-pass-requires : (t : ℕ) → statement-lts.Need-pass-requires (statement-calls t) (statement-at t) statement′.Post
 statement-pass-requires t c κs =
-    let pre′ = c .before .before .before .before .before .before .before .before .before .before .before .before .before .before .before .before .before .before .before .before .before .before .before .before .before .before .pre in
+    let pre′ = c .before .before .before .before .before .before .before .before .before .before .before .before .before .before .before .before .before .before .before .before .before .before .before .before .before .before .before .before .before .before .before .pre in
     let head′ = c .before .before .before .before .before .before .before .before .before .before .head in
     let what4′ = c .before .before .before .before .what4 in
     let stood = pre′ .1 .1 in
@@ -600,20 +653,23 @@ statement-pass-requires t c κs =
     let d = called st (pre′ .1 .0) _ _ _ (head′ .ensures .2 (stood .env) (st .holding .describes)) _ _ (what4′ .given .1) in
     (stood .sized .waves-long, stood .sized .roomy .few, d .declared, head′ .ensures .0, head′ .ensures .1, stood .sized .roomy .values-long)
 
-statement-same-length : (t : ℕ) → statement-lts.Need-same-length (statement-calls t) (statement-at t) statement′.Post
-statement-same-length t c = search needs
+statement-same-length-3 : (t : ℕ) → statement-lts.Need-same-length-3 (statement-calls t) (statement-at t) statement′.Post
+statement-same-length-3 t c = search needs
 
-statement-same-length-2 : (t : ℕ) → statement-lts.Need-same-length-2 (statement-calls t) (statement-at t) statement′.Post
-statement-same-length-2 t c = search needs
+statement-same-length-4 : (t : ℕ) → statement-lts.Need-same-length-4 (statement-calls t) (statement-at t) statement′.Post
+statement-same-length-4 t c = search needs
 
-statement-returns : (t : ℕ) → statement-lts.Need-returns (statement-calls t) (statement-at t) statement′.Post
-statement-returns t c =
-    let pre′ = c .before .before .before .before .before .before .before .before .before .before .before .before .before .before .before .before .before .before .before .before .before .before .before .before .before .before .before .before .before .before .pre in
-    let args′ = c .before .before .before .before .before .before .before .before .before .before .before .before .before .before .before .before .before .before .before .before .before .before .before .before .before .before .before .before .before .before .args in
+statement-same-length-5 : (t : ℕ) → statement-lts.Need-same-length-5 (statement-calls t) (statement-at t) statement′.Post
+statement-same-length-5 t c = search needs
+
+statement-returns-2 : (t : ℕ) → statement-lts.Need-returns-2 (statement-calls t) (statement-at t) statement′.Post
+statement-returns-2 t c =
+    let pre′ = c .before .before .before .before .before .before .before .before .before .before .before .before .before .before .before .before .before .before .before .before .before .before .before .before .before .before .before .before .before .before .before .before .before .before .before .pre in
+    let args′ = c .before .before .before .before .before .before .before .before .before .before .before .before .before .before .before .before .before .before .before .before .before .before .before .before .before .before .before .before .before .before .before .before .before .before .before .args in
     let head′ = c .before .before .before .before .before .before .before .before .before .before .before .before .before .before .head in
     let what4′ = c .before .before .before .before .before .before .before .before .what4 in
     let pass′ = c .before .before .before .pass in
-    let if1′ = c .if1 in
+    let if1′ = c .if2 in
     let h = head′ .ensures in
     let q = pass′ .ensures (args′ .places .now) (args′ .lists .now) (args′ .tplaces .now) (args′ .book .now) (args′ .rows .now) (args′ .known) in
     record {
@@ -626,6 +682,7 @@ statement-returns t c =
           called-step st d (record { cursor = head′ .result .cursor; failed = false; place = 0; table = pass′ .result .table; ends = false }) _ _
           (q .told (if1′ .taken) E (d .body) (d .after) (d .arguments) s _ _ _ 0 (called-calling (st .holding) d (m .summed)) (st .shows)));
       memo-long = refl;
+      heads = c .before .before .before .before .before .before .before .before .before .before .before .before .before .before .before .before .before .before .before .before .before .before .before .before .before .before .before .before .before .before .before .before .before .before .before .pre .1 .2;
       learnt = λ E b us s st m. m;
     }
 
@@ -634,35 +691,45 @@ statement-slice-aggregate-used t c = search needs
 
 statement-used-requires : (t : ℕ) → statement-lts.Need-used-requires (statement-calls t) (statement-at t) statement′.Post
 statement-used-requires t c κs =
-    let pre′ = c .before .before .before .before .before .before .before .before .before .before .before .before .before .before .before .before .before .before .before .before .before .before .before .before .before .before .before .before .before .before .before .before .before .before .before .pre in
-    let args′ = c .before .before .before .before .before .before .before .before .before .before .before .before .before .before .before .before .before .before .before .before .before .before .before .before .before .before .before .before .before .before .before .before .before .before .before .args in
+    let pre′ = c .before .before .before .before .before .before .before .before .before .before .before .before .before .before .before .before .before .before .before .before .before .before .before .before .before .before .before .before .before .before .before .before .before .before .before .before .before .before .before .before .pre in
+    let args′ = c .before .before .before .before .before .before .before .before .before .before .before .before .before .before .before .before .before .before .before .before .before .before .before .before .before .before .before .before .before .before .before .before .before .before .before .before .before .before .before .before .args in
     let head′ = c .before .before .before .before .before .before .before .before .before .before .before .before .before .before .before .before .before .before .before .head in
     let what4′ = c .before .before .before .before .before .before .before .before .before .before .before .before .before .what4 in
     let pass′ = c .before .before .before .before .before .before .before .before .pass in
-    let if1′ = c .before .before .before .before .before .if1 in
+    let if1′ = c .before .before .before .before .before .if2 in
     let stood = pre′ .1 .1 in
     let st = stood .standing in
     let d = called st (pre′ .1 .0) _ _ _ (head′ .ensures .2 (stood .env) (st .holding .describes)) _ _ (what4′ .given .1) in
     let q = pass′ .ensures (args′ .places .now) (args′ .lists .now) (args′ .tplaces .now) (args′ .book .now) (args′ .rows .now) (args′ .known) in (
       omega (arith, pre′ .0),
-      record {
-        env = stood .env;
-        body = d .body;
-        rest = d .after;
-        arguments = d .arguments;
-        state = stood .state;
-        invoking = called-invoking (st .holding) d (shows-untouched (st .shows) (q .untouched (if1′ .left)));
-        sized = sized-kept (stood .sized) (kept-passed (stood .sized) (head′ .ensures .1) (q .long) (q .rows));
-        given-long = head′ .ensures .0;
-      },
+      (
+        record {
+          env = stood .env;
+          body = d .body;
+          rest = d .after;
+          arguments = d .arguments;
+          state = stood .state;
+          invoking = called-invoking (st .holding) d (shows-untouched (st .shows) (q .untouched (if1′ .left)));
+          sized = sized-kept (stood .sized) (kept-passed (stood .sized) (head′ .ensures .1) (q .long) (q .rows));
+          given-long = head′ .ensures .0;
+        },
+        pre′ .1 .2,
+        behind-head _ _ _ _ _ (pre′ .1 .0) (d .on) (what4′ .given .1) (head′ .ensures .2),
+      ),
     )
 
-statement-same-length-3 : (t : ℕ) → statement-lts.Need-same-length-3 (statement-calls t) (statement-at t) statement′.Post
-statement-same-length-3 t c = search needs
+statement-same-length-6 : (t : ℕ) → statement-lts.Need-same-length-6 (statement-calls t) (statement-at t) statement′.Post
+statement-same-length-6 t c = search needs
 
-statement-returns-2 : (t : ℕ) → statement-lts.Need-returns-2 (statement-calls t) (statement-at t) statement′.Post
-statement-returns-2 t c =
-    let pre′ = c .before .before .before .before .before .before .before .before .before .before .before .before .before .before .before .before .before .before .before .before .before .before .pre in
+statement-same-length-7 : (t : ℕ) → statement-lts.Need-same-length-7 (statement-calls t) (statement-at t) statement′.Post
+statement-same-length-7 t c = search needs
+
+statement-same-length-8 : (t : ℕ) → statement-lts.Need-same-length-8 (statement-calls t) (statement-at t) statement′.Post
+statement-same-length-8 t c = search needs
+
+statement-returns-3 : (t : ℕ) → statement-lts.Need-returns-3 (statement-calls t) (statement-at t) statement′.Post
+statement-returns-3 t c =
+    let pre′ = c .before .before .before .before .before .before .before .before .before .before .before .before .before .before .before .before .before .before .before .before .before .before .before .before .before .before .before .pre in
     let head′ = c .before .before .before .before .before .before .head in
     let h = head′ .ensures in
     record {
@@ -670,21 +737,25 @@ statement-returns-2 t c =
       moves = λ E b us s st. steps-moves {k = 0} {t = 0} (ends-step st (pre′ .1 .0) _ _ _ (h .2 E (st .holding .describes)) (c .enum-told .given .1) (st .shows));
       steps = λ E b us s st m. ends-step st (pre′ .1 .0) _ _ _ (h .2 E (st .holding .describes)) (c .enum-told .given .1) (st .shows);
       memo-long = refl;
+      heads = c .before .before .before .before .before .before .before .before .before .before .before .before .before .before .before .before .before .before .before .before .before .before .before .before .before .before .before .pre .1 .2;
       learnt = λ E b us s st m. m;
     }
 
-statement-same-length-4 : (t : ℕ) → statement-lts.Need-same-length-4 (statement-calls t) (statement-at t) statement′.Post
-statement-same-length-4 t c = search needs
+statement-same-length-9 : (t : ℕ) → statement-lts.Need-same-length-9 (statement-calls t) (statement-at t) statement′.Post
+statement-same-length-9 t c = search needs
 
-statement-same-length-5 : (t : ℕ) → statement-lts.Need-same-length-5 (statement-calls t) (statement-at t) statement′.Post
-statement-same-length-5 t c = search needs
+statement-same-length-10 : (t : ℕ) → statement-lts.Need-same-length-10 (statement-calls t) (statement-at t) statement′.Post
+statement-same-length-10 t c = search needs
 
-statement-same-length-6 : (t : ℕ) → statement-lts.Need-same-length-6 (statement-calls t) (statement-at t) statement′.Post
-statement-same-length-6 t c = search needs
+statement-same-length-11 : (t : ℕ) → statement-lts.Need-same-length-11 (statement-calls t) (statement-at t) statement′.Post
+statement-same-length-11 t c = search needs
 
-statement-returns-3 : (t : ℕ) → statement-lts.Need-returns-3 (statement-calls t) (statement-at t) statement′.Post
-statement-returns-3 t c =
-    let pre′ = c .before .before .before .before .before .before .before .before .before .before .before .before .before .before .before .before .before .before .before .before .before .before .before .before .before .before .before .before .before .before .before .pre in
+statement-same-length-12 : (t : ℕ) → statement-lts.Need-same-length-12 (statement-calls t) (statement-at t) statement′.Post
+statement-same-length-12 t c = search needs
+
+statement-returns-4 : (t : ℕ) → statement-lts.Need-returns-4 (statement-calls t) (statement-at t) statement′.Post
+statement-returns-4 t c =
+    let pre′ = c .before .before .before .before .before .before .before .before .before .before .before .before .before .before .before .before .before .before .before .before .before .before .before .before .before .before .before .before .before .before .before .before .before .before .before .before .pre in
     let head′ = c .before .before .before .before .before .before .before .before .before .before .before .before .before .before .before .head in
     let what′ = c .before .before .before .before .before .before .before .before .before .what in
     let vectors′ = c .before .before .before .before .vectors in
@@ -695,21 +766,25 @@ statement-returns-3 t c =
       moves = λ E b us s st. steps-moves {k = 0} {t = 0} (vector-step st (pre′ .1 .0) _ _ _ (h .2 E (st .holding .describes)) _ (what′ .given .1) (v .1));
       steps = λ E b us s st m. vector-step st (pre′ .1 .0) _ _ _ (h .2 E (st .holding .describes)) _ (what′ .given .1) (v .1);
       memo-long = refl;
+      heads = c .before .before .before .before .before .before .before .before .before .before .before .before .before .before .before .before .before .before .before .before .before .before .before .before .before .before .before .before .before .before .before .before .before .before .before .before .pre .1 .2;
       learnt = λ E b us s st m. m;
     }
 
-statement-same-length-7 : (t : ℕ) → statement-lts.Need-same-length-7 (statement-calls t) (statement-at t) statement′.Post
-statement-same-length-7 t c = search needs
+statement-same-length-13 : (t : ℕ) → statement-lts.Need-same-length-13 (statement-calls t) (statement-at t) statement′.Post
+statement-same-length-13 t c = search needs
 
-statement-same-length-8 : (t : ℕ) → statement-lts.Need-same-length-8 (statement-calls t) (statement-at t) statement′.Post
-statement-same-length-8 t c = search needs
+statement-same-length-14 : (t : ℕ) → statement-lts.Need-same-length-14 (statement-calls t) (statement-at t) statement′.Post
+statement-same-length-14 t c = search needs
 
-statement-same-length-9 : (t : ℕ) → statement-lts.Need-same-length-9 (statement-calls t) (statement-at t) statement′.Post
-statement-same-length-9 t c = search needs
+statement-same-length-15 : (t : ℕ) → statement-lts.Need-same-length-15 (statement-calls t) (statement-at t) statement′.Post
+statement-same-length-15 t c = search needs
 
-statement-returns-4 : (t : ℕ) → statement-lts.Need-returns-4 (statement-calls t) (statement-at t) statement′.Post
-statement-returns-4 t c =
-    let pre′ = c .before .before .before .before .before .before .before .before .before .before .before .before .before .before .before .before .before .before .before .before .before .before .before .before .before .before .before .before .before .before .pre in
+statement-same-length-16 : (t : ℕ) → statement-lts.Need-same-length-16 (statement-calls t) (statement-at t) statement′.Post
+statement-same-length-16 t c = search needs
+
+statement-returns-5 : (t : ℕ) → statement-lts.Need-returns-5 (statement-calls t) (statement-at t) statement′.Post
+statement-returns-5 t c =
+    let pre′ = c .before .before .before .before .before .before .before .before .before .before .before .before .before .before .before .before .before .before .before .before .before .before .before .before .before .before .before .before .before .before .before .before .before .before .before .pre in
     let head′ = c .before .before .before .before .before .before .before .before .before .before .before .before .before .before .head in
     let enum-told2′ = c .before .before .before .before .before .before .before .before .enum-told2 in
     let put′ = c .before .before .before .before .put in
@@ -720,15 +795,22 @@ statement-returns-4 t c =
       moves = λ E b us s st. steps-moves {k = 0} {t = 0} (assigns-step st (pre′ .1 .0) _ _ _ (h .2 E (st .holding .describes)) (enum-told2′ .given .1) (v .1));
       steps = λ E b us s st m. assigns-step st (pre′ .1 .0) _ _ _ (h .2 E (st .holding .describes)) (enum-told2′ .given .1) (v .1);
       memo-long = refl;
+      heads = c .before .before .before .before .before .before .before .before .before .before .before .before .before .before .before .before .before .before .before .before .before .before .before .before .before .before .before .before .before .before .before .before .before .before .before .pre .1 .2;
       learnt = λ E b us s st m. m;
     }
 
-statement-same-length-10 : (t : ℕ) → statement-lts.Need-same-length-10 (statement-calls t) (statement-at t) statement′.Post
-statement-same-length-10 t c = search needs
+statement-same-length-17 : (t : ℕ) → statement-lts.Need-same-length-17 (statement-calls t) (statement-at t) statement′.Post
+statement-same-length-17 t c = search needs
 
-statement-returns-5 : (t : ℕ) → statement-lts.Need-returns-5 (statement-calls t) (statement-at t) statement′.Post
-statement-returns-5 t c =
-    let pre′ = c .before .before .before .before .before .before .before .before .before .before .before .before .before .before .before .before .before .before .before .before .before .before .before .pre in
+statement-same-length-18 : (t : ℕ) → statement-lts.Need-same-length-18 (statement-calls t) (statement-at t) statement′.Post
+statement-same-length-18 t c = search needs
+
+statement-same-length-19 : (t : ℕ) → statement-lts.Need-same-length-19 (statement-calls t) (statement-at t) statement′.Post
+statement-same-length-19 t c = search needs
+
+statement-returns-6 : (t : ℕ) → statement-lts.Need-returns-6 (statement-calls t) (statement-at t) statement′.Post
+statement-returns-6 t c =
+    let pre′ = c .before .before .before .before .before .before .before .before .before .before .before .before .before .before .before .before .before .before .before .before .before .before .before .before .before .before .before .before .pre in
     let head′ = c .before .before .before .before .before .before .before .head in
     let what2′ = c .before .what2 in
     let h = head′ .ensures in
@@ -737,24 +819,25 @@ statement-returns-5 t c =
       moves = λ E b us s st. steps-moves {k = 0} {t = 0} (chooses-step st (pre′ .1 .0) _ _ _ (h .2 E (st .holding .describes)) _ (what2′ .given .1) (st .shows));
       steps = λ E b us s st m. chooses-step st (pre′ .1 .0) _ _ _ (h .2 E (st .holding .describes)) _ (what2′ .given .1) (st .shows);
       memo-long = refl;
+      heads = c .before .before .before .before .before .before .before .before .before .before .before .before .before .before .before .before .before .before .before .before .before .before .before .before .before .before .before .before .pre .1 .2;
       learnt = λ E b us s st m. m;
     }
 
-statement-same-length-11 : (t : ℕ) → statement-lts.Need-same-length-11 (statement-calls t) (statement-at t) statement′.Post
-statement-same-length-11 t c = search needs
+statement-same-length-20 : (t : ℕ) → statement-lts.Need-same-length-20 (statement-calls t) (statement-at t) statement′.Post
+statement-same-length-20 t c = search needs
 
-statement-same-length-12 : (t : ℕ) → statement-lts.Need-same-length-12 (statement-calls t) (statement-at t) statement′.Post
-statement-same-length-12 t c = search needs
+statement-same-length-21 : (t : ℕ) → statement-lts.Need-same-length-21 (statement-calls t) (statement-at t) statement′.Post
+statement-same-length-21 t c = search needs
 
-statement-same-length-13 : (t : ℕ) → statement-lts.Need-same-length-13 (statement-calls t) (statement-at t) statement′.Post
-statement-same-length-13 t c = search needs
+statement-same-length-22 : (t : ℕ) → statement-lts.Need-same-length-22 (statement-calls t) (statement-at t) statement′.Post
+statement-same-length-22 t c = search needs
 
-statement-same-length-14 : (t : ℕ) → statement-lts.Need-same-length-14 (statement-calls t) (statement-at t) statement′.Post
-statement-same-length-14 t c = search needs
+statement-same-length-23 : (t : ℕ) → statement-lts.Need-same-length-23 (statement-calls t) (statement-at t) statement′.Post
+statement-same-length-23 t c = search needs
 
-statement-returns-6 : (t : ℕ) → statement-lts.Need-returns-6 (statement-calls t) (statement-at t) statement′.Post
-statement-returns-6 t c =
-    let pre′ = c .before .before .before .before .before .before .before .before .before .before .before .before .before .before .before .before .before .before .before .before .before .before .before .before .before .before .before .before .before .before .before .before .before .before .before .before .before .pre in
+statement-returns-7 : (t : ℕ) → statement-lts.Need-returns-7 (statement-calls t) (statement-at t) statement′.Post
+statement-returns-7 t c =
+    let pre′ = c .before .before .before .before .before .before .before .before .before .before .before .before .before .before .before .before .before .before .before .before .before .before .before .before .before .before .before .before .before .before .before .before .before .before .before .before .before .before .before .before .before .before .pre in
     let head′ = c .before .before .before .before .before .before .before .before .before .before .before .before .before .before .before .before .before .before .before .before .before .head in
     let what3′ = c .before .before .before .before .before .before .before .before .before .before .before .before .before .before .before .what3 in
     let turns′ = c .before .before .before .before .before .before .before .before .before .needed-turns in
@@ -769,23 +852,27 @@ statement-returns-6 t c =
           let i = in-loop st (pre′ .1 .0) _ _ _ (h .2 E (st .holding .describes)) _ (what3′ .given .1) in
           loop-step st (i .1) _ _ (v .plays E (i .1 .body) (i .1 .between) s (loop-standing st (i .1) (st .shows)) m (λ e. loop-plain (i .1))));
       memo-long = v .memo-long;
+      heads = v .heads;
       learnt = λ E b us s st m. (
           let i = in-loop st (pre′ .1 .0) _ _ _ (h .2 E (st .holding .describes)) _ (what3′ .given .1) in
           v .learnt E (i .1 .body) (i .1 .between) s (loop-standing st (i .1) (st .shows)) m);
     }
 
-statement-same-length-15 : (t : ℕ) → statement-lts.Need-same-length-15 (statement-calls t) (statement-at t) statement′.Post
-statement-same-length-15 t c = search needs
+statement-same-length-24 : (t : ℕ) → statement-lts.Need-same-length-24 (statement-calls t) (statement-at t) statement′.Post
+statement-same-length-24 t c = search needs
 
-statement-same-length-16 : (t : ℕ) → statement-lts.Need-same-length-16 (statement-calls t) (statement-at t) statement′.Post
-statement-same-length-16 t c = search needs
+statement-same-length-25 : (t : ℕ) → statement-lts.Need-same-length-25 (statement-calls t) (statement-at t) statement′.Post
+statement-same-length-25 t c = search needs
 
-statement-same-length-17 : (t : ℕ) → statement-lts.Need-same-length-17 (statement-calls t) (statement-at t) statement′.Post
-statement-same-length-17 t c = search needs
+statement-same-length-26 : (t : ℕ) → statement-lts.Need-same-length-26 (statement-calls t) (statement-at t) statement′.Post
+statement-same-length-26 t c = search needs
 
-statement-returns-7 : (t : ℕ) → statement-lts.Need-returns-7 (statement-calls t) (statement-at t) statement′.Post
-statement-returns-7 t c =
-    let pre′ = c .before .before .before .before .before .before .before .before .before .before .before .before .before .before .before .before .before .before .before .before .before .before .before .before .before .before .before .before .before .before .before .before .pre in
+statement-same-length-27 : (t : ℕ) → statement-lts.Need-same-length-27 (statement-calls t) (statement-at t) statement′.Post
+statement-same-length-27 t c = search needs
+
+statement-returns-8 : (t : ℕ) → statement-lts.Need-returns-8 (statement-calls t) (statement-at t) statement′.Post
+statement-returns-8 t c =
+    let pre′ = c .before .before .before .before .before .before .before .before .before .before .before .before .before .before .before .before .before .before .before .before .before .before .before .before .before .before .before .before .before .before .before .before .before .before .before .before .before .pre in
     let head′ = c .before .before .before .before .before .before .before .before .before .before .before .before .before .before .before .before .head in
     let enum-told3′ = c .before .before .before .before .before .before .before .before .before .before .enum-told3 in
     let shift′ = c .before .before .before .before .before .before .shift in
@@ -800,33 +887,30 @@ statement-returns-7 t c =
           let i = in-shift st (pre′ .1 .0) _ _ _ (h .2 E (st .holding .describes)) (enum-told3′ .given .1) in
           shift-step st i _ _ (v .goes-on) (v .plays E _ _ (i .between) s (shift-standing st i (st .shows))));
       memo-long = refl;
+      heads = c .before .before .before .before .before .before .before .before .before .before .before .before .before .before .before .before .before .before .before .before .before .before .before .before .before .before .before .before .before .before .before .before .before .before .before .before .before .pre .1 .2;
       learnt = λ E b us s st m. m;
     }
 
-statement-same-length-18 : (t : ℕ) → statement-lts.Need-same-length-18 (statement-calls t) (statement-at t) statement′.Post
-statement-same-length-18 t c = search needs
+statement-same-length-28 : (t : ℕ) → statement-lts.Need-same-length-28 (statement-calls t) (statement-at t) statement′.Post
+statement-same-length-28 t c = search needs
 
-statement-same-length-19 : (t : ℕ) → statement-lts.Need-same-length-19 (statement-calls t) (statement-at t) statement′.Post
-statement-same-length-19 t c = search needs
+statement-same-length-29 : (t : ℕ) → statement-lts.Need-same-length-29 (statement-calls t) (statement-at t) statement′.Post
+statement-same-length-29 t c = search needs
 
-statement-same-length-20 : (t : ℕ) → statement-lts.Need-same-length-20 (statement-calls t) (statement-at t) statement′.Post
-statement-same-length-20 t c =
-    let pre′ = c .before .before .before .before .before .before .before .before .before .before .before .before .before .before .before .before .before .before .before .before .before .before .before .before .before .before .before .before .before .before .before .before .before .before .before .before .before .before .before .before .before .before .before .before .pre in
-    let head′ = c .before .before .before .before .before .before .before .before .before .before .before .before .before .before .before .before .before .before .before .before .before .before .before .before .before .before .before .before .head in
-    let used′ = c .before .before .before .before .before .before .before .before .used in
-    used′ .ensures .kept .args-long ∙ head′ .ensures .1 ∙ sym (pre′ .1 .1 .sized .args-long)
+statement-same-length-30 : (t : ℕ) → statement-lts.Need-same-length-30 (statement-calls t) (statement-at t) statement′.Post
+statement-same-length-30 t c = c .before .before .before .before .before .before .before .before .used .ensures .kept .args-long ∙ c .before .before .before .before .before .before .before .before .before .before .before .before .before .before .before .before .before .before .before .before .before .before .before .before .before .before .before .before .head .ensures .1 ∙ sym (c .before .before .before .before .before .before .before .before .before .before .before .before .before .before .before .before .before .before .before .before .before .before .before .before .before .before .before .before .before .before .before .before .before .before .before .before .before .before .before .before .before .before .before .before .before .before .before .before .before .pre .1 .1 .sized .args-long)
 
-statement-same-length-21 : (t : ℕ) → statement-lts.Need-same-length-21 (statement-calls t) (statement-at t) statement′.Post
-statement-same-length-21 t c = c .before .before .before .before .before .before .before .before .used .ensures .memo-long
+statement-same-length-31 : (t : ℕ) → statement-lts.Need-same-length-31 (statement-calls t) (statement-at t) statement′.Post
+statement-same-length-31 t c = search needs
 
-statement-returns-8 : (t : ℕ) → statement-lts.Need-returns-8 (statement-calls t) (statement-at t) statement′.Post
-statement-returns-8 t c =
-    let pre′ = c .before .before .before .before .before .before .before .before .before .before .before .before .before .before .before .before .before .before .before .before .before .before .before .before .before .before .before .before .before .before .before .before .before .before .before .before .before .before .before .before .before .before .before .before .pre in
-    let args′ = c .before .before .before .before .before .before .before .before .before .before .before .before .before .before .before .before .before .before .before .before .before .before .before .before .before .before .before .before .before .before .before .before .before .before .before .before .before .before .before .before .before .before .before .before .args in
+statement-returns-9 : (t : ℕ) → statement-lts.Need-returns-9 (statement-calls t) (statement-at t) statement′.Post
+statement-returns-9 t c =
+    let pre′ = c .before .before .before .before .before .before .before .before .before .before .before .before .before .before .before .before .before .before .before .before .before .before .before .before .before .before .before .before .before .before .before .before .before .before .before .before .before .before .before .before .before .before .before .before .before .before .before .before .before .pre in
+    let args′ = c .before .before .before .before .before .before .before .before .before .before .before .before .before .before .before .before .before .before .before .before .before .before .before .before .before .before .before .before .before .before .before .before .before .before .before .before .before .before .before .before .before .before .before .before .before .before .before .before .before .args in
     let head′ = c .before .before .before .before .before .before .before .before .before .before .before .before .before .before .before .before .before .before .before .before .before .before .before .before .before .before .before .before .head in
     let what4′ = c .before .before .before .before .before .before .before .before .before .before .before .before .before .before .before .before .before .before .before .before .before .before .what4 in
     let pass′ = c .before .before .before .before .before .before .before .before .before .before .before .before .before .before .before .before .before .pass in
-    let if1′ = c .before .before .before .before .before .before .before .before .before .before .before .before .before .before .if1 in
+    let if1′ = c .before .before .before .before .before .before .before .before .before .before .before .before .before .before .if2 in
     let used′ = c .before .before .before .before .before .before .before .before .used in
     let h = head′ .ensures in
     let q = pass′ .ensures (args′ .places .now) (args′ .lists .now) (args′ .tplaces .now) (args′ .book .now) (args′ .rows .now) (args′ .known) in
@@ -840,6 +924,7 @@ statement-returns-8 t c =
           let d = called st (pre′ .1 .0) _ _ _ (h .2 E (st .holding .describes)) _ _ (what4′ .given .1) in
           called-step st d (used′ .result) _ _ (v .told E (d .body) (d .after) (d .arguments) s (called-invoking (st .holding) d (shows-untouched (st .shows) (q .untouched (if1′ .left)))) m));
       memo-long = v .memo-long;
+      heads = v .heads;
       learnt = λ E b us s st m. (
           let d = called st (pre′ .1 .0) _ _ _ (h .2 E (st .holding .describes)) _ _ (what4′ .given .1) in
           v .learnt E (d .body) (d .after) (d .arguments) s (called-invoking (st .holding) d (shows-untouched (st .shows) (q .untouched (if1′ .left)))) m);
@@ -859,7 +944,14 @@ statements-loop-holds : (t : ℕ) → statements-lts.Need-loop-holds (
 ) (statements-at t) statements.Post statements-Inv-loop statements-μ-loop
 statements-loop-holds t c =
     let pre′ = c .before .before .before .before .before .before .before .before .before .before .before .before .before .pre in
-    record { kept = kept-none; resumes = λ E b us s st. resumed (pre′ .1 .0) st; onward = λ E b us s st m. going (pre′ .1 .0) st; memo-long = refl; learnt = λ E b us s st m. m }
+    record {
+      kept = kept-none;
+      resumes = λ E b us s st. resumed (pre′ .1 .0) st;
+      onward = λ E b us s st m. going (pre′ .1 .0) st;
+      memo-long = refl;
+      heads = c .before .before .before .before .before .before .before .before .before .before .before .before .before .pre .1 .2;
+      learnt = λ E b us s st m. m;
+    }
 
 statements-statement-requires : (t : ℕ) → statements-lts.Need-statement-requires (
   statement-below t,
@@ -882,6 +974,7 @@ statements-statement-requires t c κs =
           standing = resumed-standing o _ (stood .standing .holding);
           sized = sized-kept (stood .sized) (inv .kept);
         },
+        inv .heads,
       ),
     )
 
@@ -928,6 +1021,7 @@ statements-returns t c =
           let o = inv .resumes E b us s st in resumed-end o (step .moves E (o .rest) us _ (resumed-standing o _ (st .holding))) (c .if1 .taken) e);
       plays = λ E b us s st m f. (let o = inv .onward E b us s st m in gone o (step .steps E (o .rest) us (o .state) (o .standing) (inv .learnt E b us s st m)) (c .if1 .taken));
       memo-long = step .memo-long ∙ inv .memo-long;
+      heads = step .heads;
       learnt = λ E b us s st m. (let o = inv .onward E b us s st m in step .learnt E (o .rest) us (o .state) (o .standing) (inv .learnt E b us s st m));
     }
 
@@ -960,35 +1054,8 @@ statements-loop-again t c =
           let o = inv .resumes E b us s st in resumed-on o (step .moves E (o .rest) us _ (resumed-standing o _ (st .holding))) (if1′ .left));
       onward = λ E b us s st m. (let o = inv .onward E b us s st m in going-on o (step .steps E (o .rest) us (o .state) (o .standing) (inv .learnt E b us s st m)) (if1′ .left));
       memo-long = step .memo-long ∙ inv .memo-long;
+      heads = step .heads;
       learnt = λ E b us s st m. (let o = inv .onward E b us s st m in step .learnt E (o .rest) us (o .state) (o .standing) (inv .learnt E b us s st m));
-    }
-
-used-cast-supply : (t : ℕ) → used-lts.Need-cast-supply (used-calls t) (used-at t) used.Post
-used-cast-supply t c = search needs
-
-used-recall-requires : (t : ℕ) → used-lts.Need-recall-requires (used-calls t) (used-at t) used.Post
-used-recall-requires t c κs =
-    let roomy = c .before .before .before .before .before .before .before .before .before .before .before .before .before .before .before .before .before .pre .1 .sized .roomy in
-    (omega (arith, roomy .few), omega (arith, roomy .few, roomy .values-long))
-
-used-same-length : (t : ℕ) → used-lts.Need-same-length (used-calls t) (used-at t) used.Post
-used-same-length t c = search needs
-
-used-same-length-2 : (t : ℕ) → used-lts.Need-same-length-2 (used-calls t) (used-at t) used.Post
-used-same-length-2 t c = search needs
-
-used-returns : (t : ℕ) → used-lts.Need-returns (used-calls t) (used-at t) used.Post
-used-returns t c =
-    let pre′ = c .before .before .before .before .before .before .before .before .before .before .before .before .before .before .before .before .before .before .before .before .before .pre in
-    let q = c .before .before .before .recall .ensures in
-    let if1′ = c .if1 in
-    let sized = pre′ .1 .sized in
-    record {
-      kept = kept-passed sized (sized .args-long) (q .long) (λ i h. q .rows i (omega (arith, sized .roomy .few)));
-      own = λ s h. refl;
-      told = λ E b us a s v m. recalled-told v _ (found-outcome m (omega (arith, sized .roomy .few, sized .roomy .values-long)) q (if1′ .taken));
-      memo-long = refl;
-      learnt = λ E b us a s v m. m;
     }
 
 used-slice-aggregate-keep : (t : ℕ) → used-lts.Need-slice-aggregate-keep (used-calls t) (used-at t) used.Post
@@ -996,48 +1063,80 @@ used-slice-aggregate-keep t c = search needs
 
 used-keep-requires : (t : ℕ) → used-lts.Need-keep-requires (used-calls t) (used-at t) used.Post
 used-keep-requires t c κs =
-    let roomy = c .before .before .before .before .before .before .before .before .before .before .before .before .before .before .before .before .before .before .before .before .before .before .before .pre .1 .sized .roomy in
-    let q = c .before .before .before .before .before .recall .ensures in
-    (omega (arith, roomy .few, roomy .values-long, q .long), omega (arith, roomy .few))
+    let roomy = c .before .before .before .before .before .before .before .before .before .before .before .before .before .before .before .before .pre .1 .0 .sized .roomy in
+    (omega (arith, roomy .few, roomy .values-long), omega (arith, roomy .few))
 
 used-add-supply : (t : ℕ) → used-lts.Need-add-supply (used-calls t) (used-at t) used.Post
-used-add-supply t c = omega (arith, c .before .before .before .before .before .before .before .before .before .before .before .before .before .before .before .before .before .before .before .before .before .before .before .before .before .before .before .before .pre .1 .sized .roomy .inside-levels)
+used-add-supply t c = omega (arith, c .before .before .before .before .before .before .before .before .before .before .before .before .before .before .before .before .before .before .before .before .before .pre .1 .0 .sized .roomy .inside-levels)
 
 used-supply-requires : (t : ℕ) → used-lts.Need-supply-requires (used-calls t) (used-at t) used.Post
 used-supply-requires t c κs =
-    let s = c .before .before .before .before .before .before .before .before .before .before .before .before .before .before .before .before .before .before .before .before .before .before .before .before .before .before .before .before .pre .1 in
+    let s = c .before .before .before .before .before .before .before .before .before .before .before .before .before .before .before .before .before .before .before .before .before .pre .1 .0 in
     (s .given-long, s .sized .args-long, s .sized .roomy .feeds-long, omega (arith, s .invoking .fits .levels))
 
 used-play-body-requires : (t : ℕ) → used-lts.Need-play-body-requires (used-calls t) (used-at t) used.Post
 used-play-body-requires t c κs =
-    let pre′ = c .before .before .before .before .before .before .before .before .before .before .before .before .before .before .before .before .before .before .before .before .before .before .before .before .before .before .before .before .before .before .before .before .before .before .before .pre in
-    let q = c .before .before .before .before .before .before .before .before .before .before .before .before .before .before .before .before .before .recall .ensures in
-    let if1′ = c .before .before .before .before .before .before .before .before .before .before .before .before .before .before .if1 in
+    let pre′ = c .before .before .before .before .before .before .before .before .before .before .before .before .before .before .before .before .before .before .before .before .before .before .before .before .before .before .before .before .pre in
     let f = c .before .before .before .before .before .before .supply .ensures in
-    let sized = pre′ .1 .sized in
-    let kept = kept-used sized (sized .args-long) (q .long) (λ i h. q .rows i (omega (arith, sized .roomy .few))) (f .0) (f .1) in
-    let s = pre′ .1 in
-    let v = invoking-untouched (s .invoking) (q .untouched (if1′ .left)) in (
+    let sized = pre′ .1 .0 .sized in
+    let kept = kept-used sized (sized .args-long) refl (λ i h. refl) (f .0) (f .1) in
+    let s = pre′ .1 .0 in
+    let v = s .invoking in (
       omega (arith, pre′ .0),
-      record {
-        env = s .env;
-        body = s .body;
-        rest = s .rest;
-        arguments = s .arguments;
-        state = s .state;
-        use′ = invoked-using v (shows-supplied (v .shows) (f .1)) (f .2 _ _ (v .supplied));
-        sized = sized-kept sized kept;
-      },
+      (
+        record {
+          env = s .env;
+          body = s .body;
+          rest = s .rest;
+          arguments = s .arguments;
+          state = s .state;
+          use′ = invoked-using v (shows-supplied (v .shows) (f .1)) (f .2 _ _ (v .supplied));
+          sized = sized-kept sized kept;
+        },
+        pre′ .1 .1,
+      ),
     )
 
+used-same-length : (t : ℕ) → used-lts.Need-same-length (used-calls t) (used-at t) used.Post
+used-same-length t c = search needs
+
+used-same-length-2 : (t : ℕ) → used-lts.Need-same-length-2 (used-calls t) (used-at t) used.Post
+used-same-length-2 t c = search needs
+
 used-same-length-3 : (t : ℕ) → used-lts.Need-same-length-3 (used-calls t) (used-at t) used.Post
-used-same-length-3 t c =
-    let recall′ = c .before .before .before .before .before .before .before .before .before .before .before .before .before .before .before .before .before .before .before .before .before .before .before .before .before .before .before .recall in
-    let play-body′ = c .before .before .before .before .before .before .before .before .before .play-body in
-    play-body′ .ensures .kept .values-long ∙ recall′ .ensures .long
+used-same-length-3 t c = search needs
 
 used-same-length-4 : (t : ℕ) → used-lts.Need-same-length-4 (used-calls t) (used-at t) used.Post
 used-same-length-4 t c = search needs
+
+used-returns : (t : ℕ) → used-lts.Need-returns (used-calls t) (used-at t) used.Post
+used-returns t c =
+    let pre′ = c .before .before .before .before .before .before .before .before .before .before .before .before .before .before .before .before .before .before .before .before .before .before .before .before .before .before .before .before .before .before .before .before .before .before .before .before .before .before .pre in
+    let f = c .before .before .before .before .before .before .before .before .before .before .before .before .before .before .before .before .supply .ensures in
+    let sized = pre′ .1 .0 .sized in
+    let kept = kept-used sized (sized .args-long) refl (λ i h. refl) (f .0) (f .1) in
+    let p = c .before .before .before .before .before .before .before .before .before .play-body .ensures in
+    record {
+      kept = kept-then kept (p .kept);
+      own = λ s h. p .own s h ∙ f .1 _ s h (λ z. omega arith);
+      told = λ E b us a s v m. p .told E b us a s (invoked-using v (shows-supplied (v .shows) (f .1)) (f .2 _ _ (v .supplied))) m;
+      memo-long = p .memo-long;
+      heads = p .heads;
+      learnt = λ E b us a s v m. p .learnt E b us a s (invoked-using v (shows-supplied (v .shows) (f .1)) (f .2 _ _ (v .supplied))) m;
+    }
+
+used-cast-t35 : (t : ℕ) → used-lts.Need-cast-t35 (used-calls t) (used-at t) used.Post
+used-cast-t35 t c = search needs
+
+used-slice-aggregate-remember : (t : ℕ) → used-lts.Need-slice-aggregate-remember (used-calls t) (used-at t) used.Post
+used-slice-aggregate-remember t c = omega (arith, c .before .before .before .before .before .before .before .before .before .before .before .before .before .before .before .before .before .before .before .before .before .before .before .before .keep .ensures .0)
+
+used-remember-requires : (t : ℕ) → used-lts.Need-remember-requires (used-calls t) (used-at t) used.Post
+used-remember-requires t c κs =
+    let roomy = c .before .before .before .before .before .before .before .before .before .before .before .before .before .before .before .before .before .before .before .before .before .before .before .before .before .before .before .before .before .before .before .before .before .before .before .before .before .before .before .before .before .before .pre .1 .0 .sized .roomy in
+    let keep′ = c .before .before .before .before .before .before .before .before .before .before .before .before .before .before .before .before .before .before .before .before .before .before .before .before .before .keep in
+    let p = c .before .before .before .before .before .before .before .before .before .before .before .before .before .play-body .ensures in
+    (omega (arith, roomy .few), omega (arith, roomy .few, keep′ .ensures .0), omega (arith, roomy .few, roomy .values-long, p .kept .values-long))
 
 used-same-length-5 : (t : ℕ) → used-lts.Need-same-length-5 (used-calls t) (used-at t) used.Post
 used-same-length-5 t c = search needs
@@ -1045,72 +1144,32 @@ used-same-length-5 t c = search needs
 used-same-length-6 : (t : ℕ) → used-lts.Need-same-length-6 (used-calls t) (used-at t) used.Post
 used-same-length-6 t c = search needs
 
-used-returns-2 : (t : ℕ) → used-lts.Need-returns-2 (used-calls t) (used-at t) used.Post
-used-returns-2 t c =
-    let pre′ = c .before .before .before .before .before .before .before .before .before .before .before .before .before .before .before .before .before .before .before .before .before .before .before .before .before .before .before .before .before .before .before .before .before .before .before .before .before .before .before .before .before .before .before .before .before .pre in
-    let q = c .before .before .before .before .before .before .before .before .before .before .before .before .before .before .before .before .before .before .before .before .before .before .before .before .before .before .before .recall .ensures in
-    let if1′ = c .before .before .before .before .before .before .before .before .before .before .before .before .before .before .before .before .before .before .before .before .before .before .before .before .if1 in
-    let f = c .before .before .before .before .before .before .before .before .before .before .before .before .before .before .before .before .supply .ensures in
-    let sized = pre′ .1 .sized in
-    let kept = kept-used sized (sized .args-long) (q .long) (λ i h. q .rows i (omega (arith, sized .roomy .few))) (f .0) (f .1) in
-    let p = c .before .before .before .before .before .before .before .before .before .play-body .ensures in
-    record {
-      kept = kept-then kept (p .kept);
-      own = λ s h. p .own s h ∙ f .1 _ s h (λ z. omega arith);
-      told = λ E b us a s w m. (let v = invoking-untouched w (q .untouched (if1′ .left)) in p .told E b us a s (invoked-using v (shows-supplied (v .shows) (f .1)) (f .2 _ _ (v .supplied))) m);
-      memo-long = p .memo-long;
-      learnt = λ E b us a s w m. (let v = invoking-untouched w (q .untouched (if1′ .left)) in p .learnt E b us a s (invoked-using v (shows-supplied (v .shows) (f .1)) (f .2 _ _ (v .supplied))) m);
-    }
-
-used-slice-aggregate-remember : (t : ℕ) → used-lts.Need-slice-aggregate-remember (used-calls t) (used-at t) used.Post
-used-slice-aggregate-remember t c = search needs
-
-used-remember-requires : (t : ℕ) → used-lts.Need-remember-requires (used-calls t) (used-at t) used.Post
-used-remember-requires t c κs =
-    let roomy = c .before .before .before .before .before .before .before .before .before .before .before .before .before .before .before .before .before .before .before .before .before .before .before .before .before .before .before .before .before .before .before .before .before .before .before .before .before .before .before .before .before .before .before .before .before .before .before .before .pre .1 .sized .roomy in
-    let q = c .before .before .before .before .before .before .before .before .before .before .before .before .before .before .before .before .before .before .before .before .before .before .before .before .before .before .before .before .before .before .recall .ensures in
-    let keep′ = c .before .before .before .before .before .before .before .before .before .before .before .before .before .before .before .before .before .before .before .before .before .before .before .before .keep in
-    let p = c .before .before .before .before .before .before .before .before .before .before .before .before .play-body .ensures in
-    (omega (arith, roomy .few), omega (arith, roomy .few, keep′ .ensures .0), omega (arith, roomy .few, roomy .values-long, q .long, p .kept .values-long))
-
 used-same-length-7 : (t : ℕ) → used-lts.Need-same-length-7 (used-calls t) (used-at t) used.Post
-used-same-length-7 t c =
-    let recall′ = c .before .before .before .before .before .before .before .before .before .before .before .before .before .before .before .before .before .before .before .before .before .before .before .before .before .before .before .before .before .before .before .before .before .recall in
-    let play-body′ = c .before .before .before .before .before .before .before .before .before .before .before .before .before .before .before .play-body in
-    play-body′ .ensures .kept .values-long ∙ recall′ .ensures .long
+used-same-length-7 t c = search needs
 
 used-same-length-8 : (t : ℕ) → used-lts.Need-same-length-8 (used-calls t) (used-at t) used.Post
 used-same-length-8 t c = search needs
 
-used-same-length-9 : (t : ℕ) → used-lts.Need-same-length-9 (used-calls t) (used-at t) used.Post
-used-same-length-9 t c = search needs
-
-used-same-length-10 : (t : ℕ) → used-lts.Need-same-length-10 (used-calls t) (used-at t) used.Post
-used-same-length-10 t c = search needs
-
-used-returns-3 : (t : ℕ) → used-lts.Need-returns-3 (used-calls t) (used-at t) used.Post
-used-returns-3 t c =
-    let pre′ = c .before .before .before .before .before .before .before .before .before .before .before .before .before .before .before .before .before .before .before .before .before .before .before .before .before .before .before .before .before .before .before .before .before .before .before .before .before .before .before .before .before .before .before .before .before .before .before .before .before .before .before .pre in
-    let q = c .before .before .before .before .before .before .before .before .before .before .before .before .before .before .before .before .before .before .before .before .before .before .before .before .before .before .before .before .before .before .before .before .before .recall .ensures in
-    let if1′ = c .before .before .before .before .before .before .before .before .before .before .before .before .before .before .before .before .before .before .before .before .before .before .before .before .before .before .before .before .before .before .if1 in
-    let f = c .before .before .before .before .before .before .before .before .before .before .before .before .before .before .before .before .before .before .before .before .before .before .supply .ensures in
-    let sized = pre′ .1 .sized in
-    let kept = kept-used sized (sized .args-long) (q .long) (λ i h. q .rows i (omega (arith, sized .roomy .few))) (f .0) (f .1) in
-    let keep′ = c .before .before .before .before .before .before .before .before .before .before .before .before .before .before .before .before .before .before .before .before .before .before .before .before .before .before .before .keep in
-    let if2′ = c .before .before .before .before .before .before .if2 in
-    let p = c .before .before .before .before .before .before .before .before .before .before .before .before .before .before .before .play-body .ensures in
+used-returns-2 : (t : ℕ) → used-lts.Need-returns-2 (used-calls t) (used-at t) used.Post
+used-returns-2 t c =
+    let pre′ = c .before .before .before .before .before .before .before .before .before .before .before .before .before .before .before .before .before .before .before .before .before .before .before .before .before .before .before .before .before .before .before .before .before .before .before .before .before .before .before .before .before .before .before .before .before .pre in
+    let f = c .before .before .before .before .before .before .before .before .before .before .before .before .before .before .before .before .before .before .before .before .before .before .before .supply .ensures in
+    let sized = pre′ .1 .0 .sized in
+    let kept = kept-used sized (sized .args-long) refl (λ i h. refl) (f .0) (f .1) in
+    let keep′ = c .before .before .before .before .before .before .before .before .before .before .before .before .before .before .before .before .before .before .before .before .before .before .before .before .before .before .before .before .keep in
+    let p = c .before .before .before .before .before .before .before .before .before .before .before .before .before .before .before .before .play-body .ensures in
     let remember′ = c .before .before .remember in
     let roomy = sized .roomy in
     record {
       kept = kept-then kept (p .kept);
       own = λ s h. p .own s h ∙ f .1 _ s h (λ z. omega arith);
-      told = λ E b us a s w m. (let v = invoking-untouched w (q .untouched (if1′ .left)) in p .told E b us a s (invoked-using v (shows-supplied (v .shows) (f .1)) (f .2 _ _ (v .supplied))) m);
+      told = λ E b us a s v m. p .told E b us a s (invoked-using v (shows-supplied (v .shows) (f .1)) (f .2 _ _ (v .supplied))) m;
       memo-long = remember′ .ensures .long ∙ p .memo-long;
-      learnt = λ E b us a s w m. (
-          let v = invoking-untouched w (q .untouched (if1′ .left)) in
+      heads = heads-more (p .heads) (remember′ .ensures) (pre′ .1 .2);
+      learnt = λ E b us a s v m. (
           let u = invoked-using v (shows-supplied (v .shows) (f .1)) (f .2 _ _ (v .supplied)) in
-          knows-more (p .learnt E b us a s u m) (omega (arith, roomy .few, keep′ .ensures .0)) (omega (arith, roomy .few, roomy .values-long, q .long, p .kept .values-long)) (remember′ .ensures)
-          (kept-outcome (played-outcome v _ (p .told E b us a s u m) (if2′ .left)) (omega (arith, roomy .few, roomy .values-long, q .long)) (omega (arith, roomy .few, keep′ .ensures .0)) (keep′ .ensures .1 refl)));
+          knows-more (p .learnt E b us a s u m) (omega (arith, roomy .few, keep′ .ensures .0)) (omega (arith, roomy .few, roomy .values-long, p .kept .values-long)) (remember′ .ensures)
+          (kept-outcome (played-outcome v _ (p .told E b us a s u m) (c .before .before .before .before .before .before .before .if1 .left)) (omega (arith, roomy .few, roomy .values-long)) (omega (arith, roomy .few, keep′ .ensures .0)) (keep′ .ensures .1 refl)));
     }
 
 pub +body-of+needed-turns+play-body+statement+statements+used-spec : {M : Type 1} → statement M
@@ -1186,6 +1245,12 @@ pub +body-of+needed-turns+play-body+statement+statements+used-spec : {M : Type 1
     (λ t. statement-lts.spec (statement-calls t)
     (statement-at t)
     statement′.Post
+    (statement-cast-t37 t)
+    (statement-find-requires t)
+    (statement-bring-requires t)
+    (statement-same-length t)
+    (statement-same-length-2 t)
+    (statement-returns t)
     (statement-slice-aggregate-head t)
     (statement-head-requires t)
     (statement-enum-told t)
@@ -1203,37 +1268,45 @@ pub +body-of+needed-turns+play-body+statement+statements+used-spec : {M : Type 1
     (statement-enum-known-what-4 t)
     (statement-slice-aggregate-pass t)
     (statement-pass-requires t)
-    (statement-same-length t)
-    (statement-same-length-2 t)
-    (statement-returns t)
-    (statement-slice-aggregate-used t)
-    (statement-used-requires t)
     (statement-same-length-3 t)
-    (statement-returns-2 t)
     (statement-same-length-4 t)
     (statement-same-length-5 t)
+    (statement-returns-2 t)
+    (statement-slice-aggregate-used t)
+    (statement-used-requires t)
     (statement-same-length-6 t)
-    (statement-returns-3 t)
     (statement-same-length-7 t)
     (statement-same-length-8 t)
+    (statement-returns-3 t)
     (statement-same-length-9 t)
-    (statement-returns-4 t)
     (statement-same-length-10 t)
-    (statement-returns-5 t)
     (statement-same-length-11 t)
     (statement-same-length-12 t)
+    (statement-returns-4 t)
     (statement-same-length-13 t)
     (statement-same-length-14 t)
-    (statement-returns-6 t)
     (statement-same-length-15 t)
     (statement-same-length-16 t)
+    (statement-returns-5 t)
     (statement-same-length-17 t)
-    (statement-returns-7 t)
     (statement-same-length-18 t)
     (statement-same-length-19 t)
+    (statement-returns-6 t)
     (statement-same-length-20 t)
     (statement-same-length-21 t)
-    (statement-returns-8 t))
+    (statement-same-length-22 t)
+    (statement-same-length-23 t)
+    (statement-returns-7 t)
+    (statement-same-length-24 t)
+    (statement-same-length-25 t)
+    (statement-same-length-26 t)
+    (statement-same-length-27 t)
+    (statement-returns-8 t)
+    (statement-same-length-28 t)
+    (statement-same-length-29 t)
+    (statement-same-length-30 t)
+    (statement-same-length-31 t)
+    (statement-returns-9 t))
     (λ t. statements-lts.spec
     (statement-below t, statement′.Post)
     (statements-at t)
@@ -1252,25 +1325,21 @@ pub +body-of+needed-turns+play-body+statement+statements+used-spec : {M : Type 1
     λ t. used-lts.spec (used-calls t)
     (used-at t)
     used.Post
-    (used-cast-supply t)
-    (used-recall-requires t)
-    (used-same-length t)
-    (used-same-length-2 t)
-    (used-returns t)
     (used-slice-aggregate-keep t)
     (used-keep-requires t)
     (used-add-supply t)
     (used-supply-requires t)
     (used-play-body-requires t)
+    (used-same-length t)
+    (used-same-length-2 t)
     (used-same-length-3 t)
     (used-same-length-4 t)
-    (used-same-length-5 t)
-    (used-same-length-6 t)
-    (used-returns-2 t)
+    (used-returns t)
+    (used-cast-t35 t)
     (used-slice-aggregate-remember t)
     (used-remember-requires t)
+    (used-same-length-5 t)
+    (used-same-length-6 t)
     (used-same-length-7 t)
     (used-same-length-8 t)
-    (used-same-length-9 t)
-    (used-same-length-10 t)
-    (used-returns-3 t)
+    (used-returns-2 t)

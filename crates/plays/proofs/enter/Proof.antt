@@ -1,7 +1,7 @@
 -- Where nothing is remembered, the body is played.
 use borrow.Author.Needs.{needs}
-use Rattle.plays.proofs.Memos.{zeros}
-use Rattle.plays.proofs.Recalling.{entered-all}
+use Rattle.memos.proofs.Rows.{zeros}
+use Rattle.plays.proofs.Recalling.{heads-none, entered-all}
 use Rattle.plays.proofs.enter.Statement.{statement}
 use Rattle.plays.proofs.enter.Tie as tie
 
@@ -9,7 +9,7 @@ slice-aggregate-play-body : tie.Need-slice-aggregate-play-body
 slice-aggregate-play-body c = search needs
 
 play-body-requires : tie.Need-play-body-requires
-play-body-requires c κs = search needs
+play-body-requires c κs = (c .before .before .before .before .before .before .before .before .before .before .before .before .before .before .before .before .pre, heads-none (zeros 0))
 
 same-length : tie.Need-same-length
 same-length c = search needs

@@ -39,7 +39,7 @@ add-start-at c =
     let pre′ = c .before .before .before .before .before .before .before .before .before .before .before .before .before .before .before .before .before .pre in
     let args′ = c .before .before .before .before .before .before .before .before .before .before .before .before .before .before .before .before .before .args in
     let name-bytes′ = c .before .name-bytes in
-    let n = pre′ .listed-at in
+    let n = pre′ .0 .listed-at in
     omega (arith, found-at n (c .find .result) (rest (args′ .book .now) (firstPattern * 2)) (name-bytes′ .ensures) (c .find .ensures) .0, n .few)
 
 start-at-requires : tie.Need-start-at-requires
@@ -51,7 +51,7 @@ sub-body c =
     let args′ = c .before .before .before .before .before .before .before .before .before .before .before .before .before .before .before .before .before .before .args in
     let name-bytes′ = c .before .before .name-bytes in
     let find′ = c .before .find in
-    let n = pre′ .listed-at in
+    let n = pre′ .0 .listed-at in
     let x = found-at n (find′ .result) (rest (args′ .book .now) (firstPattern * 2)) (name-bytes′ .ensures) (find′ .ensures) in
     omega (arith, c .start-at .ensures (omega (arith, x .0, n .few)), pattern-within n (find′ .result) (x .2))
 
@@ -61,7 +61,7 @@ part-body-start c =
     let args′ = c .before .before .before .before .before .before .before .before .before .before .before .before .before .before .before .before .before .before .args in
     let name-bytes′ = c .before .before .name-bytes in
     let find′ = c .before .find in
-    let n = pre′ .listed-at in
+    let n = pre′ .0 .listed-at in
     let x = found-at n (find′ .result) (rest (args′ .book .now) (firstPattern * 2)) (name-bytes′ .ensures) (find′ .ensures) in
     omega (arith, c .start-at .ensures (omega (arith, x .0, n .few)), pattern-within n (find′ .result) (x .2))
 
@@ -80,19 +80,20 @@ body-of-requires c κs =
     let start-at′ = c .before .before .before .before .before .before .before .before .before .start-at in
     let leave′ = c .before .before .before .before .before .before .leave in
     let pre′ = pre′ in
-    let n = pre′ .listed-at in
+    let n = pre′ .0 .listed-at in
     let x = found-at n (find′ .result) (rest (args′ .book .now) (firstPattern * 2)) (name-bytes′ .ensures) (find′ .ensures) in
     let at = start-at′ .ensures (omega (arith, x .0, n .few)) in
     let within = pattern-within n (find′ .result) (x .2) in (
       part-within (args′ .text .now) (start-at′ .result) _ at within,
       rw (part-begins (args′ .text .now) (start-at′ .result) _ at within) (record {
-        env = pre′ .env;
-        body = pre′ .decl .body;
+        env = pre′ .0 .env;
+        body = pre′ .0 .decl .body;
         rest = n .stands .0;
         state = record { pins = bare (start (args′ .signals) .pins); table = none; args = [] };
-        standing = pattern-standing n (find′ .result) (x .2) (pre′ .sized) (leave′ .ensures) (start (args′ .signals)) (opening-long (args′ .signals));
-        sized = sized-left (pre′ .sized) (leave′ .ensures);
+        standing = pattern-standing n (find′ .result) (x .2) (pre′ .0 .sized) (leave′ .ensures) (start (args′ .signals)) (opening-long (args′ .signals));
+        sized = sized-left (pre′ .0 .sized) (leave′ .ensures);
       }),
+      pre′ .1,
     )
 
 same-length : tie.Need-same-length
@@ -117,23 +118,24 @@ returns c =
     let leave′ = c .before .before .before .before .before .before .before .before .before .before .before .before .before .before .before .leave in
     let body-of′ = c .before .before .before .before .before .before .before .before .body-of in
     let pre′ = pre′ in
-    let n = pre′ .listed-at in
+    let n = pre′ .0 .listed-at in
     let l = leave′ .ensures in
     let x = found-at n (find′ .result) (rest (args′ .book .now) (firstPattern * 2)) (name-bytes′ .ensures) (find′ .ensures) in
     let at = start-at′ .ensures (omega (arith, x .0, n .few)) in
     let b = rw (part-begins (args′ .text .now) (start-at′ .result) _ at (pattern-within n (find′ .result) (x .2))) at (body-of′ .ensures) in
     record {
-      sized = sized-kept (sized-left (pre′ .sized) l) (b .kept);
+      sized = sized-kept (sized-left (pre′ .0 .sized) l) (b .kept);
       fails = λ E ps d m u s h. (
           let e = found-at m (find′ .result) (rest (args′ .book .now) (firstPattern * 2)) (name-bytes′ .ensures) (find′ .ensures) .2 in
-          listed-fails m s (b .plays E (d .body) (m .stands .0) _ (pattern-standing m (find′ .result) e (pre′ .sized) l s h) u tt));
+          listed-fails m s (b .plays E (d .body) (m .stands .0) _ (pattern-standing m (find′ .result) e (pre′ .0 .sized) l s h) u tt));
       sound = λ E ps d m u s h. (
           let e = found-at m (find′ .result) (rest (args′ .book .now) (firstPattern * 2)) (name-bytes′ .ensures) (find′ .ensures) .2 in
-          listed-sound m s (b .plays E (d .body) (m .stands .0) _ (pattern-standing m (find′ .result) e (pre′ .sized) l s h) u tt));
+          listed-sound m s (b .plays E (d .body) (m .stands .0) _ (pattern-standing m (find′ .result) e (pre′ .0 .sized) l s h) u tt));
       memo-long = b .memo-long;
+      heads = b .heads;
       learnt = λ E ps d m u. (
           let e = found-at m (find′ .result) (rest (args′ .book .now) (firstPattern * 2)) (name-bytes′ .ensures) (find′ .ensures) .2 in
-          b .learnt E (d .body) (m .stands .0) _ (pattern-standing m (find′ .result) e (pre′ .sized) l (start (args′ .signals)) (opening-long (args′ .signals))) u);
+          b .learnt E (d .body) (m .stands .0) _ (pattern-standing m (find′ .result) e (pre′ .0 .sized) l (start (args′ .signals)) (opening-long (args′ .signals))) u);
     }
 
 pub pattern-spec : {M : Type 1} → statement M

@@ -1,7 +1,7 @@
 -- No turn is left out, whatever the body, and nothing is remembered.
 use borrow.Author.Needs.{needs}
-use Rattle.plays.proofs.Memos.{zeros}
-use Rattle.plays.proofs.Recalling.{promised-all}
+use Rattle.memos.proofs.Rows.{zeros}
+use Rattle.plays.proofs.Recalling.{heads-none, promised-all}
 use Rattle.plays.proofs.turns.Statement.{statement}
 use Rattle.plays.proofs.turns.Tie as tie
 
@@ -9,7 +9,7 @@ slice-aggregate-needed-turns : tie.Need-slice-aggregate-needed-turns
 slice-aggregate-needed-turns c = search needs
 
 needed-turns-requires : tie.Need-needed-turns-requires
-needed-turns-requires c κs = search needs
+needed-turns-requires c κs = let p = c .before .before .before .before .before .before .before .before .before .before .before .before .before .before .before .before .pre in (p .0, p .1, p .2, p .3, heads-none (zeros 0))
 
 same-length : tie.Need-same-length
 same-length c = search needs

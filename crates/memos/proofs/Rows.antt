@@ -9,18 +9,22 @@ use mathlib.Core.List.{List}
 use lib.Dec.{eqb, ltb, leb}
 use lib.ListN.{length, getD, set, replicate, length-set, length-replicate, getD-replicate, List·getD-eq-default}
 use lib.Seq.{getD-set-same, getD-set-other}
-use borrow.Author.Tests.{eqb-true, eqb-false, ltb-true, ltb-false, leb-false}
-use Rattle.plays.specs.declared.Use.{Use}
-use Rattle.plays.specs.Memo.{Short, memoRow, beforeAt, behindAt, pictureSize, Notes, Pictures, Row, Writes, SameUse, Remembered, Recalls}
-use Rattle.plays.proofs.Fitting.{both, neither}
+use borrow.Author.Tests.{eqb-true, eqb-false, ltb-true, ltb-false, leb-true, leb-false}
+use Rattle.words.specs.declared.Cursor.{Cursor}
+use Rattle.words.proofs.Loops.{both}
+use Rattle.words.proofs.Words.{neither}
+use Rattle.memos.specs.declared.Use.{Use}
+use Rattle.memos.specs.declared.Found.{Found}
+use Rattle.memos.specs.declared.Recalled.{Recalled}
+use Rattle.memos.specs.Memo.{Short, Near, memoRow, pointsAt, beforeAt, behindAt, pictureSize, Notes, Points, Pictures, Told, telling, Row, Writes, SameUse, Remembered, Finds, Brings}
 
 pub some : (n : ℕ) → (n ≡ 0 → ⊥) → 0 < n
 some zero h = absurd (h refl)
 some (suc n) h = omega arith
 
 -- a place has a row
-pub row-within : (long at : ℕ) → 0 < long / memoRow → at % (long / memoRow) * memoRow ≤ long
-row-within long at h = omega (arith, mod-lt at h, div-mul-le-self long memoRow)
+pub row-within : (long n : ℕ) → 0 < long / memoRow → n % (long / memoRow) * memoRow ≤ long
+row-within long n h = omega (arith, mod-lt n h, div-mul-le-self long memoRow)
 
 -- ---- places that were written
 
@@ -39,15 +43,15 @@ writes-then x y = record { long = y .long ∙ x .long; others = λ i h. y .other
 -- ---- what a row is found by
 
 pub notes-all : (m : List ℕ) (o : ℕ) (u : Use) {a b c d : ℕ} → a ≡ getD m (o + 1) 0 → b ≡ getD m (o + 2) 0 → c ≡ getD m (o + 3) 0 → d ≡ getD m (o + 4) 0
-    → ((((eqb (getD m o 0) 1 && eqb a (u .seconds)) && eqb b (u .fault)) && eqb c (u .at)) && eqb d (u .end)) ≡ true → Notes m o u
-notes-all m o u a b c d h =
+    → ((((eqb (getD m o 0) 1 && leb (u .seconds) a) && eqb b (u .fault)) && eqb c (u .at)) && eqb d (u .end)) ≡ true → Notes m o u
+notes-all m o u {a = a′} a b c d h =
     let p = both _ _ h in
     let q = both _ _ (p .0) in
     let r = both _ _ (q .0) in
     let s = both _ _ (r .0) in
     record {
       in-use = eqb-true _ _ (s .0);
-      seconds-is = sym a ∙ eqb-true _ _ (s .1);
+      seconds-fit = omega (arith, a, leb-true (u .seconds) a′ (s .1));
       fault-is = sym b ∙ eqb-true _ _ (r .1);
       at-is = sym c ∙ eqb-true _ _ (q .1);
       end-is = sym d ∙ eqb-true _ _ (p .1);
@@ -98,17 +102,59 @@ module _ (m : List ℕ) (o : ℕ) (u : Use) (a b c d : ℕ) (room : o + memoRow 
   past : (l : List ℕ) (i v k : ℕ) → k < i → getD (set l i v) k 0 ≡ getD l k 0
   past l i v k h = getD-set-other l i k v 0 λ z. omega arith
 
-  pub note-written : Writes m m5 o (o + 5) × Notes m5 o u
+  seconds-kept : getD m5 (o + 1) 0 ≡ u .seconds
+  seconds-kept =
+      past m4 (o + 4) d (o + 1) (omega arith) ∙ past m3 (o + 3) c (o + 1) (omega arith) ∙ past m2 (o + 2) b (o + 1) (omega arith) ∙ getD-set-same m1 (o + 1) a 0 (omega (arith, long1)) ∙ is-a
+
+  pub note-written : Writes m m5 o (o + 5) × Notes m5 o u × (getD m5 (o + 1) 0 ≡ u .seconds)
   note-written = (
     writes-next (writes-next (writes-next (writes-next (writes-next writes-none o 1 (omega arith) (omega arith)) (o + 1) _ (omega arith) (omega arith)) (o + 2) _ (omega arith) (omega arith)) (o + 3) _ (omega arith) (omega arith)) (o + 4) _ (omega arith) (omega arith),
     record {
       in-use = past m4 (o + 4) d o (omega arith) ∙ past m3 (o + 3) c o (omega arith) ∙ past m2 (o + 2) b o (omega arith) ∙ past m1 (o + 1) a o (omega arith) ∙ getD-set-same m o 1 0 (omega arith);
-      seconds-is = past m4 (o + 4) d (o + 1) (omega arith) ∙ past m3 (o + 3) c (o + 1) (omega arith) ∙ past m2 (o + 2) b (o + 1) (omega arith) ∙ getD-set-same m1 (o + 1) a 0 (omega (arith, long1)) ∙ is-a;
+      seconds-fit = omega (arith, seconds-kept);
       fault-is = past m4 (o + 4) d (o + 2) (omega arith) ∙ past m3 (o + 3) c (o + 2) (omega arith) ∙ getD-set-same m2 (o + 2) b 0 (omega (arith, long2)) ∙ is-b;
       at-is = past m4 (o + 4) d (o + 3) (omega arith) ∙ getD-set-same m3 (o + 3) c 0 (omega (arith, long3)) ∙ is-c;
       end-is = getD-set-same m4 (o + 4) d 0 (omega (arith, long4)) ∙ is-d;
     },
+    seconds-kept,
   )
+
+-- ---- the cursor behind a use
+
+pub near-all : (b : Cursor) → ((eqb (b .no) 0 && ltb (b .at) 65_536) && ltb (b .end) 65_536) ≡ true → Near b
+near-all b h =
+    let p = both _ _ h in
+    let q = both _ _ (p .0) in
+    record { on = eqb-true _ _ (q .0); at = ltb-true _ _ (q .1); end = ltb-true _ _ (p .1) }
+
+pub point-written : (m : List ℕ) (o : ℕ) (b : Cursor) (x y z : ℕ) → o + 3 ≤ length m → b .no ≡ 0 → x % 256 ≡ b .fault → y ≡ b .at → z ≡ b .end
+    → Writes m (set (set (set m o x) (o + 1) y) (o + 2) z) o (o + 3) × Points (set (set (set m o x) (o + 1) y) (o + 2) z) o b
+point-written m o b x y z room on f a e =
+    let m1 = set m o x in
+    let m2 = set m1 (o + 1) y in
+    let long1 = length-set m o x in
+    let long2 = length-set m1 (o + 1) y in (
+      writes-next (writes-next (writes-next writes-none o x (omega arith) (omega arith)) (o + 1) y (omega arith) (omega arith)) (o + 2) z (omega arith) (omega arith),
+      record {
+        on = on;
+        fault-is = ap (λ (k : ℕ). k % 256) (getD-set-other m2 (o + 2) o z 0 (λ q. omega arith) ∙ getD-set-other m1 (o + 1) o y 0 (λ q. omega arith) ∙ getD-set-same m o x 0 (omega arith)) ∙ f;
+        at-is = getD-set-other m2 (o + 2) (o + 1) z 0 (λ q. omega arith) ∙ getD-set-same m1 (o + 1) y 0 (omega (arith, long1)) ∙ a;
+        end-is = getD-set-same m2 (o + 2) z 0 (omega (arith, long1, long2)) ∙ e;
+      },
+    )
+
+pub pointing : (m : List ℕ) (o : ℕ) {f a e : ℕ} → f ≡ getD m o 0 % 256 → a ≡ getD m (o + 1) 0 → e ≡ getD m (o + 2) 0 → Points m o (record { no = 0; fault = f; at = a; end = e })
+pointing m o f a e = record { on = refl; fault-is = sym f; at-is = sym a; end-is = sym e }
+
+-- a place points at one cursor
+one-cursor : {m m′ : List ℕ} {o : ℕ} {b c : Cursor} → Points m o b → Points m′ o c → getD m′ o 0 ≡ getD m o 0 → getD m′ (o + 1) 0 ≡ getD m (o + 1) 0
+    → getD m′ (o + 2) 0 ≡ getD m (o + 2) 0 → c ≡ b
+one-cursor {b = b} {c = c} x y f a e =
+    let n : c .no ≡ b .no = y .on ∙ sym (x .on) in
+    let p : c .fault ≡ b .fault = sym (y .fault-is) ∙ ap (λ (k : ℕ). k % 256) f ∙ x .fault-is in
+    let q : c .at ≡ b .at = sym (y .at-is) ∙ a ∙ x .at-is in
+    let r : c .end ≡ b .end = sym (y .end-is) ∙ e ∙ x .end-is in
+    λ i. record { no = n i; fault = p i; at = q i; end = r i }
 
 -- ---- pictures, one signal at a time
 
@@ -166,63 +212,79 @@ restores-all e r = (r .long, λ i h. r .rows i (omega arith), record { table-is 
 
 -- ---- a row that is found
 
-pub recalls-none : {m : List ℕ} {n : ℕ} {u : Use} {t : ℕ} {v : List ℕ} {k : ℕ} → Recalls m n u t v v (record { done = false; table = k })
-recalls-none = record { long = refl; rows = λ i h. refl; untouched = λ e. refl; found = λ e. (let z : _≡_ {A = ℕ} 0 1 = cc in absurd (omega arith)) }
+pub finds-none : {m : List ℕ} {n : ℕ} {u : Use} {t : ℕ} {v : List ℕ} {o : ℕ} → Finds m n u t v (record { is = false; at = o })
+finds-none = record { row = λ e. absurd (never e); room = λ e. absurd (never e); noted = λ e. absurd (never e); before = λ e. absurd (never e) }
+  where
+    never : false ≡ true → ⊥
+    never e = let z : _≡_ {A = ℕ} 0 1 = cc in omega arith
 
-pub recalls-row : {m : List ℕ} {n o : ℕ} {u : Use} {t : ℕ} {v v′ : List ℕ} (j : ℕ) → o ≡ j * memoRow → Notes m o u → Pictures m (o + beforeAt) n t v
-    → (length v′ ≡ length v) × ((i : ℕ) → n ≤ i → getD v′ i 0 ≡ getD v i 0) × Pictures m (o + behindAt) n (getD m (o + behindAt) 0) v′
-    → {k : ℕ} → k ≡ getD m (o + behindAt) 0 → Recalls m n u t v v′ (record { done = true; table = k })
-recalls-row j e noted before restored {k} is = record {
-  long = restored .0;
-  rows = restored .1;
-  untouched = λ q. (let z : _≡_ {A = ℕ} 0 1 = cc in absurd (omega arith));
-  found = λ q. (j, record { noted = rw (← e) noted; before = rw (← e) before; behind = rw (← e, is) (restored .2) });
-}
+pub recalled-row : {m : List ℕ} {n : ℕ} {u : Use} {t : ℕ} {v v′ : List ℕ} {f : Found} {r : Recalled} → Finds m n u t v f → f .is ≡ true → Brings m n (f .at) v v′ r
+    → (j : ℕ) × Row m n j (telling u (r .cursor) t v (r .table) v′)
+recalled-row x e y =
+    let j = x .row e in
+    (j .0, record { noted = rw (← j .1) (x .noted e); pointed = rw (← j .1) (y .pointed); before = rw (← j .1) (x .before e); behind = rw (← j .1) (y .behind) })
 
 -- ---- one row
 
-module _ {m m1 m2 m3 : List ℕ} {n o : ℕ} (k : ℕ) {u : Use} {t : ℕ} {v : List ℕ} {t′ : ℕ} {v′ : List ℕ} (few : n < pictureSize) (o-is : o ≡ k * memoRow)
-    (w1 : Writes m m1 o (o + 5)) (n1 : Notes m1 o u) (w2 : Writes m1 m2 (o + beforeAt) (o + beforeAt + pictureSize)) (p2 : Pictures m2 (o + beforeAt) n t v)
-    (w3 : Writes m2 m3 (o + behindAt) (o + behindAt + pictureSize)) (p3 : Pictures m3 (o + behindAt) n t′ v′) where
+module _ {m m1 m2 m3 m4 : List ℕ} {n o : ℕ} (k : ℕ) {u : Use} {b : Cursor} {t : ℕ} {v : List ℕ} {t′ : ℕ} {v′ : List ℕ} (few : n < pictureSize) (o-is : o ≡ k * memoRow)
+    (w1 : Writes m m1 o (o + 5)) (n1 : Notes m1 o u) (seconds-are : getD m1 (o + 1) 0 ≡ u .seconds) (w2 : Writes m1 m2 (o + pointsAt) (o + pointsAt + 3)) (p2 : Points m2 (o + pointsAt) b)
+    (w3 : Writes m2 m3 (o + beforeAt) (o + beforeAt + pictureSize)) (p3 : Pictures m3 (o + beforeAt) n t v)
+    (w4 : Writes m3 m4 (o + behindAt) (o + behindAt + pictureSize)) (p4 : Pictures m4 (o + behindAt) n t′ v′) where
+  abbrev told : Told
+  told = telling u b t v t′ v′
+
   -- a place of another row
-  elsewhere : (i : ℕ) → (o ≤ i → i < o + memoRow → ⊥) → getD m3 i 0 ≡ getD m i 0
+  elsewhere : (i : ℕ) → (o ≤ i → i < o + memoRow → ⊥) → getD m4 i 0 ≡ getD m i 0
   elsewhere i h =
-      w3 .others i (λ a b. h (omega arith) (omega arith)) ∙ w2 .others i (λ a b. h (omega arith) (omega arith)) ∙ w1 .others i (λ a b. h (omega arith) (omega arith))
+      w4 .others i (λ a b. h (omega arith) (omega arith)) ∙ w3 .others i (λ a b. h (omega arith) (omega arith))
+      ∙ w2 .others i (λ a b. h (omega arith) (omega arith)) ∙ w1 .others i (λ a b. h (omega arith) (omega arith))
 
   -- the note's
-  front : (i : ℕ) → i < o + 5 → getD m3 i 0 ≡ getD m1 i 0
-  front i h = w3 .others i (λ a b. omega arith) ∙ w2 .others i (λ a b. omega arith)
+  front : (i : ℕ) → i < o + pointsAt → getD m4 i 0 ≡ getD m1 i 0
+  front i h = w4 .others i (λ a b. omega arith) ∙ w3 .others i (λ a b. omega arith) ∙ w2 .others i (λ a b. omega arith)
+
+  -- the cursor's
+  second : (i : ℕ) → i < o + beforeAt → getD m4 i 0 ≡ getD m2 i 0
+  second i h = w4 .others i (λ a b. omega arith) ∙ w3 .others i (λ a b. omega arith)
 
   -- the first picture's
-  middle : (i : ℕ) → i < o + behindAt → getD m3 i 0 ≡ getD m2 i 0
-  middle i h = w3 .others i λ a b. omega arith
+  middle : (i : ℕ) → i < o + behindAt → getD m4 i 0 ≡ getD m3 i 0
+  middle i h = w4 .others i λ a b. omega arith
 
-  module _ {j : ℕ} {w : Use} {x : ℕ} {y : List ℕ} {x′ : ℕ} {y′ : List ℕ} (r : Row m3 n j w x y x′ y′) where
-    this-row : j ≡ k → SameUse n u t v t′ v′ w x y x′ y′
+  module _ {j : ℕ} {y : Told} (r : Row m4 n j y) where
+    this-row : j ≡ k → SameUse n told y
     this-row e =
         let q : j * memoRow ≡ o = omega arith in
-        let a : Notes m3 o w = rw q at (r .noted) in
-        let b : Pictures m3 (o + beforeAt) n x y = rw q at (r .before) in
-        let c : Pictures m3 (o + behindAt) n x′ y′ = rw q at (r .behind) in
+        let a : Notes m4 o (y .of-use) = rw q at (r .noted) in
+        let d : Points m4 (o + pointsAt) (y .cursor) = rw q at (r .pointed) in
+        let b : Pictures m4 (o + beforeAt) n (y .table) (y .pins) = rw q at (r .before) in
+        let c : Pictures m4 (o + behindAt) n (y .table-behind) (y .pins-behind) = rw q at (r .behind) in
         record {
-          seconds-is = sym (a .seconds-is) ∙ front (o + 1) (omega arith) ∙ n1 .seconds-is;
+          seconds-fit = omega (arith, a .seconds-fit, front (o + 1) (omega arith), seconds-are);
           fault-is = sym (a .fault-is) ∙ front (o + 2) (omega arith) ∙ n1 .fault-is;
           at-is = sym (a .at-is) ∙ front (o + 3) (omega arith) ∙ n1 .at-is;
           end-is = sym (a .end-is) ∙ front (o + 4) (omega arith) ∙ n1 .end-is;
-          table-is = sym (b .table-is) ∙ middle (o + beforeAt) (omega arith) ∙ p2 .table-is;
-          pins-are = λ s h. sym (b .pins-are s h) ∙ ap (λ (z : ℕ). z % 256) (middle (o + beforeAt + 1 + s) (omega arith)) ∙ p2 .pins-are s h;
-          behind-is = sym (c .table-is) ∙ p3 .table-is;
-          behind-are = λ s h. sym (c .pins-are s h) ∙ p3 .pins-are s h;
+          cursor-is = one-cursor p2 d (second (o + pointsAt) (omega arith)) (second (o + pointsAt + 1) (omega arith)) (second (o + pointsAt + 2) (omega arith));
+          table-is = sym (b .table-is) ∙ middle (o + beforeAt) (omega arith) ∙ p3 .table-is;
+          pins-are = λ s h. sym (b .pins-are s h) ∙ ap (λ (z : ℕ). z % 256) (middle (o + beforeAt + 1 + s) (omega arith)) ∙ p3 .pins-are s h;
+          behind-is = sym (c .table-is) ∙ p4 .table-is;
+          behind-are = λ s h. sym (c .pins-are s h) ∙ p4 .pins-are s h;
         }
 
-    other-row : (j ≡ k → ⊥) → Row m n j w x y x′ y′
+    other-row : (j ≡ k → ⊥) → Row m n j y
     other-row d = record {
       noted = record {
         in-use = sym (away (j * memoRow) (omega arith) (omega arith)) ∙ r .noted .in-use;
-        seconds-is = sym (away (j * memoRow + 1) (omega arith) (omega arith)) ∙ r .noted .seconds-is;
+        seconds-fit = omega (arith, away (j * memoRow + 1) (omega arith) (omega arith), r .noted .seconds-fit);
         fault-is = sym (away (j * memoRow + 2) (omega arith) (omega arith)) ∙ r .noted .fault-is;
         at-is = sym (away (j * memoRow + 3) (omega arith) (omega arith)) ∙ r .noted .at-is;
         end-is = sym (away (j * memoRow + 4) (omega arith) (omega arith)) ∙ r .noted .end-is;
+      };
+      pointed = record {
+        on = r .pointed .on;
+        fault-is = ap (λ (z : ℕ). z % 256) (sym (away (j * memoRow + pointsAt) (omega arith) (omega arith))) ∙ r .pointed .fault-is;
+        at-is = sym (away (j * memoRow + pointsAt + 1) (omega arith) (omega arith)) ∙ r .pointed .at-is;
+        end-is = sym (away (j * memoRow + pointsAt + 2) (omega arith) (omega arith)) ∙ r .pointed .end-is;
       };
       before = record {
         table-is = sym (away (j * memoRow + beforeAt) (omega arith) (omega arith)) ∙ r .before .table-is;
@@ -234,24 +296,23 @@ module _ {m m1 m2 m3 : List ℕ} {n o : ℕ} (k : ℕ) {u : Use} {t : ℕ} {v : 
       };
     }
       where
-        away : (i : ℕ) → j * memoRow ≤ i → i < j * memoRow + memoRow → getD m3 i 0 ≡ getD m i 0
+        away : (i : ℕ) → j * memoRow ≤ i → i < j * memoRow + memoRow → getD m4 i 0 ≡ getD m i 0
         away i a b = elsewhere i λ p q. d (omega arith)
 
   -- THE LAW
-  pub row-written : Remembered m m3 n u t v t′ v′
+  pub row-written : Remembered m m4 n told
   row-written = record {
-    long = w3 .long ∙ w2 .long ∙ w1 .long;
-    each = λ j w x y x′ y′ r. by j w x y x′ y′ r (eqb j k) refl;
+    long = w4 .long ∙ w3 .long ∙ w2 .long ∙ w1 .long;
+    each = λ j y r. by j y r (eqb j k) refl;
   }
     where
-      by : (j : ℕ) (w : Use) (x : ℕ) (y : List ℕ) (x′ : ℕ) (y′ : List ℕ) → Row m3 n j w x y x′ y′ → (z : Bool) → eqb j k ≡ z
-          → Row m n j w x y x′ y′ ⊎ SameUse n u t v t′ v′ w x y x′ y′
-      by j w x y x′ y′ r true e = inr (this-row r (eqb-true j k e))
-      by j w x y x′ y′ r false e = inl (other-row r (eqb-false j k e))
+      by : (j : ℕ) (y : Told) → Row m4 n j y → (z : Bool) → eqb j k ≡ z → Row m n j y ⊎ SameUse n told y
+      by j y r true e = inr (this-row r (eqb-true j k e))
+      by j y r false e = inl (other-row r (eqb-false j k e))
 
 -- no row was written
-pub row-kept : {m : List ℕ} {n : ℕ} {u : Use} {t : ℕ} {v : List ℕ} {t′ : ℕ} {v′ : List ℕ} → Remembered m m n u t v t′ v′
-row-kept = record { long = refl; each = λ j w x y x′ y′ r. inl r }
+pub row-kept : {m : List ℕ} {n : ℕ} {x : Told} → Remembered m m n x
+row-kept = record { long = refl; each = λ j y r. inl r }
 
 -- nothing is in use
 pub zeros : (n i : ℕ) → getD {A = ℕ} (replicate n 0) i 0 ≡ 0

@@ -4,11 +4,11 @@ use native.Mathlib.Omega.{arith}
 use mathlib.Core.Path.{_∙_}
 use lib.ListN.{length-set}
 use lib.Seq.{getD-set-same}
-use Rattle.plays.specs.Memo.{pictureSize, Writes, Pictures}
-use Rattle.plays.proofs.Memos.{writes-none, writes-next, writes-then, pictures-none, pictures-all, drawn-next}
+use Rattle.memos.specs.Memo.{pictureSize, Writes, Pictures}
+use Rattle.memos.proofs.Rows.{writes-none, writes-next, writes-then, pictures-none, pictures-all, drawn-next}
 use borrow.Author.Needs.{needs}
-use Rattle.plays.proofs.picture.Statement.{statement}
-use Rattle.plays.proofs.picture.Tie as tie
+use Rattle.memos.proofs.picture.Statement.{statement}
+use Rattle.memos.proofs.picture.Tie as tie
 
 abbrev Inv-loop : tie.InvT-loop
 Inv-loop memo₀ o table values signals s₀ memo s = (s ≤ signals) × Writes memo₀ memo o (o + pictureSize) × Pictures memo o s table values

@@ -2,11 +2,11 @@
 use Prim.Native.Nat.{ℕ, _-_, _≤_}
 use native.Mathlib.Omega.{arith}
 use mathlib.Core.Path.{_≡_, sym, _∙_}
-use Rattle.plays.specs.Memo.{Pictures}
-use Rattle.plays.proofs.Memos.{pictures-none, pictures-next, pictures-all}
+use Rattle.memos.specs.Memo.{Pictures}
+use Rattle.memos.proofs.Rows.{pictures-none, pictures-next, pictures-all}
 use borrow.Author.Needs.{needs}
-use Rattle.plays.proofs.is_pictured.Statement.{statement}
-use Rattle.plays.proofs.is_pictured.Tie as tie
+use Rattle.memos.proofs.is_pictured.Statement.{statement}
+use Rattle.memos.proofs.is_pictured.Tie as tie
 
 abbrev Inv-loop : tie.InvT-loop
 Inv-loop memo o table values signals first s₀ s = (s ≤ signals) × Pictures memo o s table values
@@ -29,20 +29,20 @@ returns c = λ e. let z : _≡_ {A = ℕ} 0 1 = cc in absurd (omega arith)
 loop-holds : tie.Need-loop-holds Inv-loop μ-loop
 loop-holds c = (omega arith, pictures-none (sym (c .before .number .ensures) ∙ c .if1 .left))
 
-add-pin-of : tie.Need-add-pin-of Inv-loop μ-loop
-add-pin-of c = omega arith
+add-byte-of : tie.Need-add-byte-of Inv-loop μ-loop
+add-byte-of c = omega arith
 
-add-pin-of-2 : tie.Need-add-pin-of-2 Inv-loop μ-loop
-add-pin-of-2 c = omega arith
+add-byte-of-2 : tie.Need-add-byte-of-2 Inv-loop μ-loop
+add-byte-of-2 c = omega arith
 
-mul-pin-of : tie.Need-mul-pin-of Inv-loop μ-loop
-mul-pin-of c = search needs
+mul-byte-of : tie.Need-mul-byte-of Inv-loop μ-loop
+mul-byte-of c = search needs
 
-shared-slice-read-pin-of : tie.Need-shared-slice-read-pin-of Inv-loop μ-loop
-shared-slice-read-pin-of c = omega arith
+shared-slice-read-byte-of : tie.Need-shared-slice-read-byte-of Inv-loop μ-loop
+shared-slice-read-byte-of c = omega arith
 
-pin-of-requires : tie.Need-pin-of-requires Inv-loop μ-loop
-pin-of-requires c κs = search needs
+byte-of-requires : tie.Need-byte-of-requires Inv-loop μ-loop
+byte-of-requires c κs = search needs
 
 shared-slice-read-if2 : tie.Need-shared-slice-read-if2 Inv-loop μ-loop
 shared-slice-read-if2 c = omega arith
@@ -57,7 +57,7 @@ loop-less : tie.Need-loop-less Inv-loop μ-loop
 loop-less c = omega arith
 
 loop-again : tie.Need-loop-again Inv-loop μ-loop
-loop-again c = (omega arith, pictures-next (c .before .before .before .before .before .loop .inv .1) (sym (c .before .before .pin-of .ensures) ∙ c .if2 .left))
+loop-again c = (omega arith, pictures-next (c .before .before .before .before .before .loop .inv .1) (sym (c .before .before .byte-of .ensures) ∙ c .if2 .left))
 
 returns-3 : tie.Need-returns-3 Inv-loop μ-loop
 returns-3 c = λ e. pictures-all (omega arith) (c .before .loop .inv .1)
@@ -73,11 +73,11 @@ is-pictured-spec =
     number-requires
     returns
     loop-holds
-    add-pin-of
-    add-pin-of-2
-    mul-pin-of
-    shared-slice-read-pin-of
-    pin-of-requires
+    add-byte-of
+    add-byte-of-2
+    mul-byte-of
+    shared-slice-read-byte-of
+    byte-of-requires
     shared-slice-read-if2
     returns-2
     add-s

@@ -1,8 +1,8 @@
 -- Each number is compared.
-use Rattle.plays.proofs.Memos.{notes-all}
+use Rattle.memos.proofs.Rows.{notes-all}
 use borrow.Author.Needs.{needs}
-use Rattle.plays.proofs.is_noted.Statement.{statement}
-use Rattle.plays.proofs.is_noted.Tie as tie
+use Rattle.memos.proofs.is_noted.Statement.{statement}
+use Rattle.memos.proofs.is_noted.Tie as tie
 
 mul-result : tie.Need-mul-result
 mul-result c = search needs

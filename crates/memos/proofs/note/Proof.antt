@@ -1,10 +1,10 @@
 -- Five numbers are stored.
 use native.Mathlib.Omega.{arith}
 use lib.ListN.{length-set}
-use Rattle.plays.proofs.Memos.{note-written}
+use Rattle.memos.proofs.Rows.{note-written}
 use borrow.Author.Needs.{needs}
-use Rattle.plays.proofs.note.Statement.{statement}
-use Rattle.plays.proofs.note.Tie as tie
+use Rattle.memos.proofs.note.Statement.{statement}
+use Rattle.memos.proofs.note.Tie as tie
 
 mul-memo : tie.Need-mul-memo
 mul-memo c = search needs

@@ -1,0 +1,29 @@
+-- Place and table, modulo the number of rows.
+use Prim.Native.Nat.{_+_, _*_, _%_}
+use native.Mathlib.Omega.{arith}
+use mathlib.Core.Path.{refl}
+use Rattle.memos.proofs.Rows.{some, row-within}
+use borrow.Author.Needs.{needs}
+use Rattle.memos.proofs.memo_row.Statement.{statement}
+use Rattle.memos.proofs.memo_row.Tie as tie
+
+returns : tie.Need-returns
+returns c = (0, refl, omega arith)
+
+mul-n : tie.Need-mul-n
+mul-n c = search needs
+
+add-n : tie.Need-add-n
+add-n c = search needs
+
+rem-result : tie.Need-rem-result
+rem-result c = search needs
+
+mul-result : tie.Need-mul-result
+mul-result c = omega (arith, row-within (c .before .args .long) ((c .before .args .at) % 65_536 * 9 + (c .before .args .table) % 9) (some _ (c .if1 .left)))
+
+returns-2 : tie.Need-returns-2
+returns-2 c = (_, refl, row-within (c .before .args .long) _ (some _ (c .if1 .left)))
+
+pub memo-row-spec : {M : Type 1} → statement M
+memo-row-spec = tie.close (tie.spec returns mul-n add-n rem-result mul-result returns-2)
