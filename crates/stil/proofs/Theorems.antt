@@ -23,6 +23,10 @@ use Rattle.stil.specs.Waveforms.{Shapes}
 use Rattle.stil.specs.Charts.{chartedOf, Plots, Sketches}
 use Rattle.index.specs.Index.{Rebuilt as Bytes}
 use Rattle.stil.specs.Indexes.{indexedOf, belongingOf, holdingOf, Indexes, Writes}
+use Rattle.saving.specs.Saving.{Restored}
+use Rattle.stil.specs.Saves.{savedOf, Saves, Restores}
+use Rattle.stil.specs.declared.Saved.{Saved}
+use Rattle.stil.specs.declared.Saved.the-variants.{Spans, Refused as SaveRefused}
 use Rattle.stil.specs.declared.Indexed.{Indexed}
 use Rattle.stil.specs.declared.Indexed.the-variants.{Written, Refused as IndexRefused}
 use Rattle.stil.specs.declared.Belonging.{Belonging}
@@ -173,7 +177,19 @@ holds-determined {a} r s h k = told r h ∙ sym (told s k)
     told NoPattern e = ap back e
     told (HoldsRefused n p) e = ap back e
 
--- for callers in C: Check, Name, the next token and the holder of a cycle; Window; the index; Waveform; waveforms by the list
+pub save-determined : {a : Answer Restored} {text t u spans n m : List ℕ} {r s : Saved} → Saves a text t spans n r → Saves a text u spans m s → (r ≡ s) × (t ≡ u) × (n ≡ m)
+save-determined {a} {text} {t} {u} {spans} {n} {m} {r} {s} h k =
+    (told r t n (h .answers) ∙ sym (told s u m (k .answers)), h .text-is ∙ sym (k .text-is), h .spans-are ∙ sym (k .spans-are))
+  where
+    back : Answer Restored → Saved
+    back (given x) = Spans (x .count)
+    back (refused n p) = SaveRefused n p
+
+    told : (r : Saved) (text spans : List ℕ) → savedOf r text spans ≡ a → r ≡ back a
+    told (Spans n) text spans e = ap back e
+    told (SaveRefused n p) text spans e = ap back e
+
+-- for callers in C: Check, Name, the next token and the holder of a cycle; Window; the index; a saved text; Waveform; waveforms by the list
 pub hands-determined : {A : Type 0} {k : ℕ} {f : A → List ℕ} {a : Answer A} {before x y : List ℕ} {r s : ℕ}
     → Hands k f a before r x → Hands k f a before s y → (r ≡ s) × (x ≡ y)
 hands-determined h j = (h .number ∙ sym (j .number), h .buffer ∙ sym (j .buffer))
@@ -195,7 +211,18 @@ pub writes-determined : {a : Answer Bytes} {buffer x y numbers n m : List ℕ} {
     → Writes a buffer x numbers r n → Writes a buffer y numbers s m → ((r ≡ s) × (n ≡ m)) × (x ≡ y)
 writes-determined h j = (hands-determined (h .counted) (j .counted), h .index-is ∙ sym (j .index-is))
 
+pub restores-determined : {a : Answer Restored} {text t u spans b c numbers n m : List ℕ} {r s : ℕ}
+    → Restores a text t spans b numbers r n → Restores a text u spans c numbers s m → ((r ≡ s) × (n ≡ m)) × (t ≡ u) × (b ≡ c)
+restores-determined h j = (hands-determined (h .counted) (j .counted), h .text-is ∙ sym (j .text-is), h .spans-are ∙ sym (j .spans-are))
+
 -- ---- a refused call leaves every buffer as it was
+
+pub save-untouched : {a : Answer Restored} {text t spans b : List ℕ} {n p : ℕ} → Saves a text t spans b (SaveRefused n p) → (t ≡ text) × (b ≡ spans)
+unfolding afterwards
+save-untouched {a} {text} {t} {spans} h = (
+  h .text-is ∙ ap (λ (x : Answer Restored). afterwards (λ w. w .text) x text) (sym (h .answers)),
+  h .spans-are ∙ ap (λ (x : Answer Restored). afterwards (λ w. w .spans) x spans) (sym (h .answers)),
+)
 
 pub index-untouched : {a : Answer Bytes} {before after : List ℕ} {n p : ℕ} → Indexes a before after (IndexRefused n p) → after ≡ before
 unfolding afterwards
@@ -249,3 +276,9 @@ pub draws-untouched : {a : Answer Waveform} {times t letters l count n : List �
 draws-untouched {a} {times} {t} {letters} {l} {count} h z =
     let off = not-given (withRoom 1 count a) in
     (hands-untouched (h .counted) z, h .times-are ∙ off _ times (λ e. z (h .counted .number ∙ e)), h .letters-are ∙ off _ letters (λ e. z (h .counted .number ∙ e)))
+
+pub restores-untouched : {a : Answer Restored} {text t spans b numbers n : List ℕ} {r : ℕ} → Restores a text t spans b numbers r n → (r ≡ 0 → ⊥)
+    → (n ≡ numbers) × (t ≡ text) × (b ≡ spans)
+restores-untouched {a} {text} {t} {spans} {b} {numbers} h z =
+    let off = not-given (withRoom 1 numbers a) in
+    (hands-untouched (h .counted) z, h .text-is ∙ off _ text (λ e. z (h .counted .number ∙ e)), h .spans-are ∙ off _ spans (λ e. z (h .counted .number ∙ e)))

@@ -1,0 +1,141 @@
+-- THE LISTED NAME: where a text reads and a listed pattern is not defined, the refusal's place is that of a name in the list, and its `;` stands right behind it.
+use Prim.Native.Nat.{ℕ, _+_}
+use native.Mathlib.Omega.{arith}
+use mathlib.Core.Path.{_≡_, refl, sym, ap, _∙_, subst}
+use mathlib.Core.Bool.{Bool, true, false}
+use mathlib.Core.Option.{Option, none, some}
+use mathlib.Core.List.{List, [], _∷_, _++_}
+use lib.Dec.{leb}
+use Rattle.tokens.specs.Written.{bytes, same}
+use Rattle.tokens.specs.Tokens.{Tok, Toks, stop, tok, toks}
+use Rattle.meaning.specs.Refusals.{notDefined, tooMany}
+use Rattle.meaning.specs.Reader.{ok, _>>_, due}
+use Rattle.meaning.specs.Names.{find, name}
+use Rattle.meaning.specs.Groups.{groups}
+use Rattle.meaning.specs.Body.{listed, entered, Body, inner}
+use Rattle.meaning.specs.Statements.{Decl, Decls}
+use Rattle.meaning.specs.Document.{listEntry, burst, Read, document}
+use Rattle.meaning.specs.Meaning.{Answer, given, refused, answering, runOf}
+use Rattle.meaning.proofs.SameTokens.{Stands, stands-on, stands-there}
+use Rattle.held.proofs.Rest.{Rest, all, behind, rest-rest, Moves, moving, moves-leaves, moves-bind, moves-due, leaves-option}
+use Rattle.held.proofs.Grammar.{moves-signals, moves-groups, moves-timing, moves-macro, moves-procedure}
+use Rattle.held.proofs.Bodies.{leads-bodies}
+use Rattle.held.proofs.Leads.{Leads, leads-bind, leads-give, leads-if, leads-until}
+use Rattle.held.proofs.Due.{name-is, due-is}
+use Rattle.held.proofs.Parts.{Parts, parts}
+use Rattle.saving.specs.Saving.{semicolon, upTo, entry}
+
+-- a name with its `;` behind it
+abbrev ending : Tok → ℕ → Toks → Toks
+ending t q us = tok t (tok (record { at = q; word = bytes ";" }) us)
+
+-- it stands among the tokens ts
+record Entry (ts : Toks) (t : Tok) : Type 0 where
+  pub end : ℕ
+  pub more : Toks
+  pub stands : Rest (ending t end more) ts
+
+unfoldable Entries : Toks → List Tok → Type 0
+Entries ts [] = Unit {0}
+Entries ts (t ∷ l) = Entry ts t × Entries ts l
+
+entries-more : (ts : Toks) (l : List Tok) (t : Tok) → Entries ts l → Entry ts t → Entries ts (l ++ t ∷ [])
+unfolding Entries
+entries-more ts [] t e h = (h, tt)
+entries-more ts (u ∷ l) t e h = (e .0, entries-more ts l t (e .1) h)
+
+entries-rest : (l : List Tok) {us ts : Toks} → Rest us ts → Entries us l → Entries ts l
+unfolding Entries
+entries-rest [] r e = tt
+entries-rest (t ∷ l) r e = (record { end = e .0 .end; more = e .0 .more; stands = rest-rest (e .0 .stands) r }, entries-rest l r (e .1))
+
+-- ---- the list is read
+
+abbrev Reading : Toks → List Tok → Toks → Type 0
+Reading ts l us = Entries ts l × Rest us ts
+
+one-entry : (ts : Toks) (l : List Tok) (us : Toks) → Reading ts l us → Leads (listEntry l) us (Reading ts)
+unfolding listEntry
+one-entry ts l us r =
+    leads-bind _ _ λ t vs q. leads-if _ _ _ _ λ c. leads-bind _ _ λ p ws w. leads-give _
+    (let n = name-is us .all t vs q in
+    let d = due-is (bytes ";") vs .all p ws w in
+    let s : us ≡ ending t p ws = n ∙ ap (tok t) d in
+    let there : Rest (ending t p ws) ts = subst (λ (x : Toks). Rest x ts) s (r .1) in
+    (entries-more ts l t (r .0) (record { end = p; more = ws; stands = there }), rest-rest (behind (behind all)) there))
+
+burst-lists : (ts : Toks) → Leads burst ts (λ x us. Entries ts (x .1))
+unfolding burst Entries
+burst-lists ts =
+    leads-bind _ _ λ a as′ h. leads-bind _ _ λ t bs i. leads-bind _ _ λ b cs j. leads-bind _ _ λ c ds k. leads-bind _ _ λ d es m.
+    leads-bind _ _ λ l fs n. leads-bind _ _ λ e gs o. leads-give _
+    (let r0 = moves-leaves (moves-due _) .rest ts a as′ h in
+    let r1 = rest-rest (subst (λ (x : Toks). Rest bs x) (sym (name-is as′ .all t bs i)) (behind all)) r0 in
+    let r2 = rest-rest (moves-leaves (moves-due _) .rest bs b cs j) r1 in
+    let r3 = rest-rest (moves-leaves (moves-due _) .rest cs c ds k) r2 in
+    let r4 = rest-rest (moves-leaves (moves-due _) .rest ds d es m) r3 in
+    entries-rest l r4 (leads-until (Reading es) listEntry (one-entry es) (λ s us ts q i. (i .0, rest-rest q (i .1))) "}" [] es (tt, all) .all l fs n .0))
+
+opening-moves : Moves (do due "STIL"; due "1.0"; due ";")
+opening-moves = moves-bind _ _ (moves-due _) λ x. search moving
+
+burst-at : (ts : Toks) (d : Read) (us : Toks) (p : Parts ts d us) → Rest (p .burst-at) ts
+burst-at ts d us p =
+    let a : Rest (p .signals-at) ts = moves-leaves opening-moves .rest _ _ _ (p .opening-read) in
+    let b = rest-rest (moves-leaves moves-signals .rest _ _ _ (p .signals-read)) a in
+    let c = rest-rest (leaves-option "SignalGroups" groups (λ ns. moves-leaves (moves-groups ns)) _ .rest _ _ _ (p .groups-read)) b in
+    let f = rest-rest (moves-leaves (moves-timing _) .rest _ _ _ (p .timing-read)) c in
+    leads-bodies (λ e vs. Rest vs ts) (λ e us vs r h. rest-rest r h)
+    (λ e vs h. record { all = λ a us q. rest-rest (moves-leaves (moves-macro e) .rest vs a us q) h })
+    (λ e vs h. record { all = λ a us q. rest-rest (moves-leaves (moves-procedure e) .rest vs a us q) h }) _ _ f .all _ _ (p .bodies-read)
+
+-- ---- and one of its names has no pattern
+
+-- the token that the refusal names
+not-found : (ts : Toks) (ps : Decls) (l : List Tok) {n p : ℕ} → Entries ts l → runOf ps l ≡ refused n p → (t : Tok) × Entry ts t × (t .at ≡ p) × (n ≡ notDefined)
+unfolding runOf answering Entries
+not-found ts ps [] e h = let z : _≡_ {A = ℕ} 0 1 = cc in absurd (omega arith)
+not-found ts ps (t ∷ l) {n} {p} e h = by (find ps (t .word)) h (not-found ts ps l (e .1))
+  where
+    Found : Type 0
+    Found = (t : Tok) × Entry ts t × (t .at ≡ p) × (n ≡ notDefined)
+
+    later : {f : Body → Answer Body} → ((b : Body) → (c : Body) × (f b ≡ given c)) → (a : Answer Body) → answering a f ≡ refused n p → a ≡ refused n p
+    later g (given b) q = let c = g b in let z : _≡_ {A = ℕ} 0 1 = cc in absurd (omega arith)
+    later g (refused m r) q = q
+
+    by : (o : Option Decl) → _≡_ {A = Answer Body} (elim o [ none ↦ refused notDefined (t .at) | some d ↦ answering (runOf ps l) λ r. given (inner (entered listed 0 []) (d .body) r) ]) (refused n p)
+        → (runOf ps l ≡ refused n p → Found) → Found
+    by none q ih = (t, e .0, cc, cc)
+    by (some d) q ih = ih (later (λ b. (inner (entered listed 0 []) (d .body) b, refl)) (runOf ps l) q)
+
+stands-rest : {text : List ℕ} {us ts : Toks} → Rest us ts → Stands text ts → Stands text us
+stands-rest all h = h
+stands-rest {text} (behind {t} {us} {ts} r) h = stands-rest r (stands-on text t ts h)
+
+-- THE LAW
+pub record ListedAt (text : List ℕ) (p : ℕ) : Type 0 where
+  pub listed : Tok
+  pub end : ℕ
+  pub more : Toks
+  pub stands : toks text p ≡ tok listed (tok (record { at = end; word = bytes ";" }) more)
+  pub place : listed .at ≡ p
+  pub overwritten : entry (toks text p) ≡ some (record { first = p; behind = end + 1 })
+
+pub listed-at : (text : List ℕ) (d : Read) (us : Toks) {n p : ℕ} → document (toks text 0) ≡ ok d us → runOf (d .patterns) (d .listed) ≡ refused n p → ListedAt text p
+unfolding entry upTo semicolon same bytes
+listed-at text d us {n} {p} e h =
+    let q = parts (toks text 0) .all d us e in
+    let l = entries-rest (d .listed) (burst-at _ _ _ q) (burst-lists (q .burst-at) .all _ _ (q .burst-read)) in
+    let f = not-found (toks text 0) (d .patterns) (d .listed) l h in
+    let t = f .0 in
+    let s = stands-there text t _ (stands-rest (f .1 .stands) (record { at = 0; is = refl })) in
+    let there : toks text p ≡ ending t (f .1 .end) (f .1 .more) = ap (toks text) (sym (f .2)) ∙ s in
+    record {
+      listed = t;
+      end = f .1 .end;
+      more = f .1 .more;
+      stands = there;
+      place = f .2;
+      overwritten = rw there (ap (λ (x : ℕ). some (record { first = x; behind = f .1 .end + 1 })) (f .2));
+    }
