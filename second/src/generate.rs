@@ -1,6 +1,7 @@
 //! Seeded texts to compare readers on: valid, at the bounds, with one slip, or damaged.
 
 mod blocks;
+mod contrived;
 mod damage;
 mod hurt;
 mod large;
@@ -11,6 +12,7 @@ mod runs;
 mod statements;
 mod tokens;
 
+pub use contrived::{contrived, CONTRIVED_KINDS};
 pub use hurt::hurt;
 pub use large::{large, sized, LARGE_KINDS, SIZED_KINDS};
 pub use nested::nested;

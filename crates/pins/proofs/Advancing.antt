@@ -4,15 +4,15 @@ use Prim.Native.Nat.{ℕ, _+_, _*_, _-_, _≤_, _<_}
 use native.Mathlib.Omega.{arith}
 use mathlib.Core.Path.{_≡_, refl, sym, ap, _∙_, subst}
 use mathlib.Core.Bool.{Bool, true, false, _||_}
-use mathlib.Core.List.{List}
+use mathlib.Core.List.{List, [], _∷_}
 use lib.Dec.{ltb, eqb}
 use lib.ListN.{length, getD, take, drop, length-take}
-use lib.Seq.{getD-take, getD-drop}
+use lib.Seq.{getD-take, getD-drop, drop-drop}
 use borrow.Author.Tests.{eq-eqb, eqb-true, eqb-false, ltb-true, ltb-false}
 use Rattle.meaning.specs.Bounds.{signalsMost, tablesMost}
 use Rattle.meaning.specs.Body.{Assigns, mark, argOf, supplied}
 use Rattle.meaning.specs.Timing.{Tables}
-use Rattle.meaning.specs.Run.{State, unassigned, next, puts, cycleAt, again}
+use Rattle.meaning.specs.Run.{State, unassigned, next, behind, puts, cycleAt, again}
 use Rattle.meaning.specs.Meaning.{hasWave, allWaves, tableAt, playable}
 use Rattle.walks.specs.Turns.{skipped}
 use Rattle.walks.proofs.Shifts.{turn-skipped, shift-last, skipped-arg, skipped-supplied}
@@ -20,7 +20,8 @@ use Rattle.timing.specs.Marks.{charsMost}
 use Rattle.timing.specs.Held.{Held}
 use Rattle.assigns.specs.Given.{charOf}
 use Rattle.feeds.specs.declared.Feed.{Feed}
-use Rattle.feeds.specs.Feeds.{Feeds, Fine}
+use Rattle.feeds.specs.declared.Fed.{Fed}
+use Rattle.feeds.specs.Feeds.{Feeds, Takes, Skips as Passed, Fine}
 use Rattle.feeds.proofs.Front.{getD-past, fine-each}
 use Rattle.measures.specs.Uses.{Given}
 use Rattle.arguments.proofs.Lists.{inside-each}
@@ -52,6 +53,54 @@ having-row {text} {waves} {f} {table} {s} x =
           let r = row-mark waves at (at + charsMost - at) _ (fine-each x cs y i l) in
           (omega (arith, r .0), r .1));
     }
+
+behind-one : (cs : List ℕ) → behind cs ≡ drop 1 cs
+unfolding behind
+behind-one [] = refl
+behind-one (c ∷ cs) = refl
+
+-- n characters of the feed f have waveforms, and r is behind them
+pub record Far (text : List ℕ) (f : Feed) (waves : List ℕ) (table s most n : ℕ) (r : Feed) : Type 0 where
+  pub having : Having text f waves table s most n
+  pub skipped : Passed text f n r
+
+pub far-none : {text waves : List ℕ} {f : Feed} {table s most : ℕ} → Far text f waves table s most 0 f
+far-none = record { having = record { few = omega arith; each = λ cs g i l. absurd (omega arith) }; skipped = record { left = λ cs g. g } }
+
+-- behind n of them, as many more
+pub having-then : {text waves : List ℕ} {f r : Feed} {table s most n k m : ℕ} → Having text f waves table s most n → Passed text f n r → Having text r waves table s m k → n + m ≤ most
+    → Having text f waves table s most (n + k)
+having-then {text} {waves} {f} {r} {table} {s} {most} {n} {k} a z y l = record { few = omega (arith, y .few); each = λ cs g i h. by cs g i h (ltb i n) refl }
+  where
+    by : (cs : List ℕ) → Feeds text f cs → (i : ℕ) → i < n + k → (b : Bool) → ltb i n ≡ b → HasMark waves table s (next (drop i cs))
+    by cs g i h true e = a .each cs g i (ltb-true i n e)
+    by cs g i h false e =
+        let o = ltb-false i n e in
+        let at : n + (i - n) ≡ i = omega arith in
+        subst (HasMark waves table s) (ap next (drop-drop (i - n) n cs ∙ ap (λ (u : ℕ). drop u cs) at)) (y .each _ (z .left cs g) (i - n) (omega arith))
+
+-- one character more, and those of its word
+pub far-on : {text waves : List ℕ} {f r r′ : Feed} {x : Fed} {table s most n m k : ℕ} → Far text f waves table s most n r → n < most → Takes text r x → HasMark waves table s (x .char)
+    → Having text (x .feed) waves table s m k → m ≤ most - n - 1 → Passed text (x .feed) k r′ → Far text f waves table s most (n + (1 + k)) r′
+far-on {text} {waves} {f} {r} {r′} {x} {table} {s} {most} {n} {m} {k} a h t w y few z = record {
+  having = record { few = omega (arith, y .few); each = λ cs g i l. by cs g i l (ltb i n) refl (eqb i n) refl };
+  skipped = record {
+    left = λ cs g. subst (Feeds text r′) (ap (drop k) (behind-one (drop n cs)) ∙ drop-drop k 1 (drop n cs) ∙ drop-drop (1 + k) n cs) (z .left _ (t .left _ (a .skipped .left cs g)));
+  };
+}
+  where
+    by : (cs : List ℕ) → Feeds text f cs → (i : ℕ) → i < n + (1 + k) → (b : Bool) → ltb i n ≡ b → (c : Bool) → eqb i n ≡ c → HasMark waves table s (next (drop i cs))
+    by cs g i l true e c q = a .having .each cs g i (ltb-true i n e)
+    by cs g i l false e true q = subst (HasMark waves table s) (t .char _ (a .skipped .left cs g) ∙ ap (λ (j : ℕ). next (drop j cs)) (sym (eqb-true i n q))) w
+    by cs g i l false e false q =
+        let o = ltb-false i n e in
+        let d = eqb-false i n q in
+        let j = i - n - 1 in
+        let at : n + (1 + j) ≡ i = omega arith in
+        let same : drop j (behind (drop n cs)) ≡ drop i cs =
+        ap (drop j) (behind-one (drop n cs)) ∙ drop-drop j 1 (drop n cs) ∙ drop-drop (1 + j) n cs ∙ ap (λ (u : ℕ). drop u cs) at
+        in
+        subst (HasMark waves table s) (ap next same) (y .each _ (t .left _ (a .skipped .left cs g)) j (omega arith))
 
 -- k turns, as far as the signals from s on tell
 pub record Least (text given feeds waves : List ℕ) (level signals table most s k : ℕ) : Type 0 where

@@ -1,6 +1,6 @@
 // The pins and what a V does to them: characters assigned, `#` fed from arguments, and the search for a missing waveform.
 ghost use mathlib.Core.Path.{_≡_};
-ghost use mathlib.Core.Bool.{not, _||_};
+ghost use mathlib.Core.Bool.{true, not, _||_};
 ghost use mathlib.Core.List.{List};
 ghost use Prim.Native.Nat.{ℕ, _+_, _*_, _≤_, _<_};
 ghost use lib.ListN.{length, getD};
@@ -14,7 +14,7 @@ ghost use Rattle.timing.specs.Marks.{tableSize};
 ghost use Rattle.timing.specs.Held.{Held};
 ghost use Rattle.measures.specs.Uses.{Given};
 ghost use Rattle.arguments.specs.Supplied.{Supplied};
-ghost use Rattle.pins.specs.Shown.{Shows, Roomy, Playable, Others, Feeding, Fills, Told, Skips, Having, Ahead, Advances, Leaves, Returns, vector, feedAt, valuesLength, feedsLength, levels};
+ghost use Rattle.pins.specs.Shown.{Shows, Roomy, Playable, Others, Feeding, Fills, Told, Skips, HasMark, Having, Ahead, Advances, Leaves, Returns, vector, feedAt, valuesLength, feedsLength, levels};
 use feeds::Feed;
 
 const MARK: u8 = 35;
@@ -142,8 +142,20 @@ fn lacks(values: &[u8], waves: &[u8], table: usize, s: usize) -> bool
     waves[(table * sets::MOST + s) * CHARS + b] != 1
 }
 
+// Has the character a waveform in the table for signal s?
+fn has_mark(waves: &[u8], table: usize, s: usize, b: u8) -> bool
+    requires { ⌜ (length (now waves) ≡ tablesMost * tableSize) × (table < tablesMost) × (s < signalsMost) ⌝ }
+    ensures { λ r. ⌜ (r ≡ true → HasMark (now (waves .entry)) table s b) ⌝ }
+{
+    let c = b as usize;
+    if CHARS <= c {
+        return false;
+    }
+    waves[(table * sets::MOST + s) * CHARS + c] == 1
+}
+
 // How many of the next characters of signal s's argument have a waveform in the table, as far as its word says them, at most so many.
-fn having(text: &[u8], feed: Feed, waves: &[u8], table: usize, s: usize, most: usize) -> usize
+fn in_word(text: &[u8], feed: Feed, waves: &[u8], table: usize, s: usize, most: usize) -> usize
     requires { ⌜ (length (now waves) ≡ tablesMost * tableSize) × (table < tablesMost) × (s < signalsMost) ⌝ }
     ensures { λ r. ⌜ Having (now (text .entry)) feed (now (waves .entry)) table s most r ⌝ }
 {
@@ -152,23 +164,24 @@ fn having(text: &[u8], feed: Feed, waves: &[u8], table: usize, s: usize, most: u
     feeds::fine(text, feed, &waves[at..end], most)
 }
 
-// How many turns the words at every `#` have characters for, at most so many. No more characters are looked at, so that none is looked at again and again.
-fn reach(given: &[u8], feeds: &[usize], level: usize, signals: usize, most: usize) -> usize
-    requires { ⌜ (signals ≤ signalsMost) × (length (now feeds) ≡ feedsLength) × (level < levels) × (length (now given) ≡ signalsMost) ⌝ }
-    ensures { λ r. ⌜ r ≤ most ⌝ }
+// The same in all its words, one after the other. A V that takes the next character fails, so that none is looked at again and again.
+fn having(text: &[u8], feed: Feed, waves: &[u8], table: usize, s: usize, most: usize) -> usize
+    requires { ⌜ (length (now waves) ≡ tablesMost * tableSize) × (table < tablesMost) × (s < signalsMost) ⌝ }
+    ensures { λ r. ⌜ Having (now (text .entry)) feed (now (waves .entry)) table s most r ⌝ }
 {
-    let mut k = most;
-    let mut s = signals;
-    while s > 0 {
-        if k == 0 {
-            return k;
+    let mut n = in_word(text, feed, waves, table, s, most);
+    let mut here = feeds::skip(text, feed, n);
+    while n < most {
+        let x = feeds::next(text, here);
+        if !has_mark(waves, table, s, x.char) {
+            return n;
         }
-        s -= 1;
-        if given[s] == MARK {
-            k = feeds::said(feed_at(feeds, level, s), k);
-        }
+        let behind = x.feed;
+        let k = in_word(text, behind, waves, table, s, most - n - 1);
+        here = feeds::skip(text, behind, k);
+        n += 1 + k;
     }
-    k
+    n
 }
 
 // How many of the turns to come, at most so many, take characters that have a waveform in the table at every `#`.
@@ -185,7 +198,7 @@ fn ahead(
     requires { ⌜ (signals ≤ signalsMost) × (length (now feeds) ≡ feedsLength) × (level < levels) × (length (now given) ≡ signalsMost) × (length (now waves) ≡ tablesMost * tableSize) × (table < tablesMost) ⌝ }
     ensures { λ r. ⌜ Ahead (now (text .entry)) (now (given .entry)) (now (feeds .entry)) (now (waves .entry)) level signals table most r ⌝ }
 {
-    let mut k = reach(given, feeds, level, signals, most);
+    let mut k = most;
     let mut s = signals;
     while 0 < s {
         // At once for a V that is played once.

@@ -1,7 +1,7 @@
 //! Writes generated texts: `generate SEED`, `generate nested SEED`, `generate hurt SEED`, `generate DIR FIRST COUNT`, `generate big KIND`, `generate big KIND BYTES SIGNALS`,
 //! `generate run KIND SIGNALS`.
 
-use second::generate::{hurt, large, nested, run, sized, text, LARGE_KINDS, RUN_KINDS, SIZED_KINDS};
+use second::generate::{contrived, hurt, large, nested, run, sized, text, CONTRIVED_KINDS, LARGE_KINDS, RUN_KINDS, SIZED_KINDS};
 use std::io::{self, Write};
 use std::path::Path;
 use std::process::ExitCode;
@@ -20,7 +20,7 @@ fn main() -> ExitCode {
 
 const USAGE: &str =
     "generate SEED | generate nested SEED | generate hurt SEED | generate DIR FIRST COUNT | generate big KIND
-generate big KIND BYTES SIGNALS | generate run KIND SIGNALS";
+generate big KIND BYTES SIGNALS | generate run KIND SIGNALS | generate contrived KIND";
 
 fn answer(words: &[&str]) -> Result<(), String> {
     match *words {
@@ -40,6 +40,10 @@ fn answer(words: &[&str]) -> Result<(), String> {
             write_out(&made.ok_or_else(|| format!("no such kind: {kind}; there are {}", RUN_KINDS.join(" ")))?)
         }
         ["hurt", seed] => write_out(&hurt(number(seed)?)),
+        ["contrived", kind] => {
+            let made = contrived(kind);
+            write_out(&made.ok_or_else(|| format!("no such kind: {kind}; there are {}", CONTRIVED_KINDS.join(" ")))?)
+        }
         ["nested", seed] => write_out(&nested(number(seed)?)),
         [seed] => write_out(&text(number(seed)?)),
         [dir, first, count] => write_files(Path::new(dir), number(first)?, number(count)?),

@@ -12,11 +12,8 @@ Inv-loop text given feeds waves level signals table most k₀ s₀ k s = (s ≤ 
 abbrev μ-loop : tie.MeasureT-loop
 μ-loop text given feeds waves level signals table most k₀ s₀ k s = s
 
-reach-requires : tie.Need-reach-requires Inv-loop μ-loop
-reach-requires c κs = search needs
-
 loop-holds : tie.Need-loop-holds Inv-loop μ-loop
-loop-holds c = (omega arith, least-none (c .reach .ensures))
+loop-holds c = (omega arith, least-none (omega arith))
 
 returns : tie.Need-returns Inv-loop μ-loop
 returns c = ahead-none
@@ -31,7 +28,7 @@ feed-at-requires : tie.Need-feed-at-requires Inv-loop μ-loop
 feed-at-requires c κs = omega arith
 
 having-requires : tie.Need-having-requires Inv-loop μ-loop
-having-requires c κs = (let pre = c .before .before .before .before .before .before .before .before .before .before .before .pre in (pre .4, pre .5, omega arith))
+having-requires c κs = (let pre = c .before .before .before .before .before .before .before .before .before .before .pre in (pre .4, pre .5, omega arith))
 
 loop-less : tie.Need-loop-less Inv-loop μ-loop
 loop-less c = omega arith
@@ -54,7 +51,6 @@ ahead-spec =
     (tie.spec
     Inv-loop
     μ-loop
-    reach-requires
     loop-holds
     returns
     sub-s
