@@ -22,8 +22,7 @@ pub mod GoodRows
 pub mod FlatGood
 pub mod Sizes
 pub mod Source
-pub mod Folding
-pub mod Theorem
-
 pub mod Directions
 pub mod Again
+pub mod Folding
+pub mod Theorem
