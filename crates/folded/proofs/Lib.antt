@@ -14,6 +14,7 @@ pub mod Charts
 pub mod Sheets
 pub mod Stretches
 pub mod Shapes
+pub mod Walk
 pub mod PlayBack
 pub mod GoodPieces
 pub mod RunBack
