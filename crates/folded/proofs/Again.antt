@@ -30,7 +30,7 @@ entries-alike s ws vs h [] = refl
 entries-alike s ws vs h (c ∷ cs) =
     ap₂ (λ (o : Option (List Event)) (l : Entries). elim o as (λ x. Entries) [ none ↦ l | some es ↦ (c, es) ∷ l ]) (h s c) (entries-alike s ws vs h cs)
 
-charts-alike : (s : ℕ) (ts us : List Tok) (ws vs : List Wave) → wordsOf ts ≡ wordsOf us → ((s c : ℕ) → waveOf s c ws ≡ waveOf s c vs) → chartsFrom s ts ws ≡ chartsFrom s us vs
+pub charts-alike : (s : ℕ) (ts us : List Tok) (ws vs : List Wave) → wordsOf ts ≡ wordsOf us → ((s c : ℕ) → waveOf s c ws ≡ waveOf s c vs) → chartsFrom s ts ws ≡ chartsFrom s us vs
 unfolding chartsFrom wordsOf
 charts-alike s [] [] ws vs e h = refl
 charts-alike s [] (u ∷ us) ws vs e h = absurd (let z : _≡_ {A = ℕ} 0 1 = cc in omega arith)

@@ -17,9 +17,9 @@ use Rattle.held.proofs.Grammar.{moves-signal}
 use Rattle.held.proofs.Leads.{Leads, leads-bind, leads-give, leads-if, leads-while}
 use Rattle.held.proofs.Due.{any-is, new-is, due-is}
 use Rattle.held.proofs.Places.{Stream, rest-stream}
-use Rattle.folded.specs.Pieces.{Piece, each}
+use Rattle.folded.specs.Pieces.{Piece, each, only, closing, lf}
 use Rattle.folded.specs.Flat.{firstWord, direction, directed}
-use Rattle.folded.specs.Layout.{signalPut}
+use Rattle.folded.specs.Layout.{signalPut, signalsPut}
 use Rattle.folded.proofs.Words.{words, sign, Before}
 use Rattle.folded.proofs.SignalsBack.{Directed}
 use Rattle.folded.proofs.Sources.{new-reads, directed-more}
@@ -129,3 +129,22 @@ written-took T (y ∷ ys) (x ∷ xs) ts us k h b l =
     let e = next-token (59 ∷ []) more (tok (h .2) (h .3)) us (d .1) (h .2) (h .3) refl in
     let same : y ≡ x = ap₂ (λ (a b : List ℕ). (a, b)) (sym (h .5) ∙ n .0) (sym (h .6) ∙ d .0) in
     ap₂ (λ (a : Directed) (b : List Directed). a ∷ b) same (written-took (h .3) ys xs ts us k (h .7) (e .1) (omega arith))
+
+-- THE LAW: the signals that were written are read back with their directions
+pub directions-read : (text : List ℕ) (xs : List Directed) (k : List Piece) (ns : Names) (ts us : Toks) → Before (words (signalsPut xs k)) ts us → Whole text ns ts
+    → length (directed text (firsts ns)) ≡ length xs → directed text (firsts ns) ≡ xs
+unfolding signalsPut words sign blank bytes
+directions-read text xs k ns ts us b w l =
+    let inner = words (each signalPut xs (only closing ∷ only lf ∷ k)) in
+    let x = next-token (bytes "Signals") (bytes "{" ∷ inner) ts us b (w .word) (tok (w .brace) (w .inside)) (w .opens) in
+    let y = next-token (bytes "{") inner (tok (w .brace) (w .inside)) us (x .1) (w .brace) (w .inside) refl in
+    written-took (w .inside) (directed text (firsts ns)) xs (w .end) us (only closing ∷ only lf ∷ k) (w .took) (y .1) l
+
+-- what stands behind `STIL 1.0;`
+pub behind-version : (ts : Toks) → Leads (do due "STIL"; due "1.0"; due ";") ts (λ n us. (ws : List (List ℕ)) (vs : Toks) → Before (bytes "STIL" ∷ bytes "1.0" ∷ bytes ";" ∷ ws) ts vs → Before ws us vs)
+behind-version ts = leads-bind _ _ λ p vs v. leads-bind _ _ λ q ws w. record {
+  all = λ n us u ks end b. (
+      let x = next-token _ (bytes "1.0" ∷ bytes ";" ∷ ks) ts end b _ vs (due-is (bytes "STIL") ts .all p vs v) in
+      let y = next-token _ (bytes ";" ∷ ks) vs end (x .1) _ ws (due-is (bytes "1.0") vs .all q ws w) in
+      next-token _ ks ws end (y .1) _ us (due-is (bytes ";") ws .all n us u) .1);
+}

@@ -51,13 +51,13 @@ reads-no-bodies : (e : Env) (ws : List (List ℕ)) → Unlike (bytes "MacroDefs"
 reads-no-bodies e ws m p = record { all = λ ts us h. (e, ts, no-bodies e ts (not-ahead _ ws ts us h m) (not-ahead _ ws ts us h p), h, refl) }
 
 -- what stands behind each part
-abbrev behindExec : Flat → List Piece
+abbrev pub behindExec : Flat → List Piece
 behindExec f = each (patternPut (namesOf (f .signals)) (sheetNames (f .tables))) (namedFrom 0 (orOne (f .patterns))) []
 
-abbrev behindTiming : Flat → List Piece
+abbrev pub behindTiming : Flat → List Piece
 behindTiming f = burstPut (namesFrom 0 (length (f .patterns))) (execPut (behindExec f))
 
-abbrev behindSignals : Flat → List Piece
+abbrev pub behindSignals : Flat → List Piece
 behindSignals f = timingPut (f .tables) (behindTiming f)
 
 -- the parts that have at least one of their kind

@@ -8,10 +8,12 @@ use mathlib.Core.List.{List, [], _∷_, _++_}
 use lib.Dec.{leb, eqb}
 use lib.ListN.{length}
 use borrow.Author.Tests.{leb-true, le-leb}
+use Rattle.tokens.specs.Written as Written
+use Rattle.tokens.specs.Bytes.{blank}
 use Rattle.tokens.specs.Refusals.{textMost, notHere}
-use Rattle.tokens.specs.Tokens.{Tok, Toks, stop, plain, lex, toks, faultIn, faultOf}
+use Rattle.tokens.specs.Tokens.{Tok, Toks, stop, tok, plain, lex, toks, faultIn, faultOf}
 use Rattle.meaning.specs.Bounds.{patternsMost, listMost, loopMost, sizeMost, cyclesMost}
-use Rattle.meaning.specs.Reader.{ok}
+use Rattle.meaning.specs.Reader.{ok, due, _>>=_, _>>_}
 use Rattle.meaning.specs.Signals.{Names}
 use Rattle.meaning.specs.Timing.{Event, Wave, Table, Tables}
 use Rattle.meaning.specs.Body.{Body}
@@ -20,18 +22,21 @@ use Rattle.meaning.specs.Run.{Cycle, unassigned, size, cycles, cyclesOf}
 use Rattle.meaning.specs.Refusals.{tooLarge, notPlayable}
 use Rattle.meaning.specs.Meaning.{Answer, given, refused, answering, runOf, hasWave, allWaves, tableAt, playable, firstFailing, firsts, fitting, judged, accept, Meaning, meaning}
 use Rattle.meaning.specs.Services.{waveOf}
+use Rattle.meaning.proofs.Gives.{bind-ok}
 use Rattle.meaning.proofs.Unplaced.{unplaced}
+use Rattle.held.proofs.Due.{due-is}
+use Rattle.held.proofs.Parts.{Parts, parts as doc-parts}
 use Rattle.meaning.proofs.Rows.{rows-are-cycles}
-use Rattle.folded.specs.Flat.{Row, rowOf, rowsOf, directed, Sheet, sheets, chartsFrom, listedRows, partedAll, linesOf, patternsOf, flat, Flat}
-use Rattle.folded.specs.Layout.{namesOf, sheetNames, namesFrom, pieces, written}
+use Rattle.folded.specs.Flat.{Row, rowOf, rowsOf, directed, Chart, Sheet, sheets, chartsFrom, listedRows, partedAll, linesOf, patternsOf, flat, Flat}
+use Rattle.folded.specs.Layout.{namesOf, sheetNames, namesFrom, signalPut, signalsPut, pieces, written}
 use Rattle.folded.specs.Fold.{foldedMost}
 use Rattle.folded.specs.Same.{wordsOf, periodsOf, placeless}
-use Rattle.folded.proofs.Words.{words, Spells, spells, no-fault}
+use Rattle.folded.proofs.Words.{words, sign, Before, Spells, spells, no-fault}
 use Rattle.folded.proofs.Reading.{AllFit, SomeFit, worded, worded-length}
 use Rattle.folded.proofs.SignalsBack.{Directed, singles, singles-length, NewSignal}
 use Rattle.folded.proofs.TimingBack.{wavesAll, tablesIn, NewSheet}
 use Rattle.folded.proofs.BurstBack.{words-length}
-use Rattle.folded.proofs.DocumentBack.{GoodFlat, ReadBack, reads-document}
+use Rattle.folded.proofs.DocumentBack.{behindSignals, GoodFlat, ReadBack, reads-document}
 use Rattle.folded.proofs.GoodPieces.{each-fits, good-pieces}
 use Rattle.folded.proofs.SourceTiming.{AllSound, TableFits}
 use Rattle.folded.proofs.Charts.{Knowns, isIt, has-wave, charts-same}
@@ -43,7 +48,9 @@ use Rattle.folded.proofs.RunBack.{RunIs, run-back, placeless-rows, plac
 use Rattle.folded.proofs.GoodRows.{GoodRow, SoundTables, tables-sound, table-sound, rows-fair}
 use Rattle.folded.proofs.FlatGood.{listed-new, patterns-good, all-lines, lines-length}
 use Rattle.folded.proofs.Sizes.{run-fits}
-use Rattle.folded.proofs.Source.{Source, source, length-firsts}
+use Rattle.folded.proofs.Source.{Source, source, length-firsts, at-signals}
+use Rattle.folded.proofs.Directions.{signals-took, directions-read, behind-version}
+use Rattle.folded.proofs.Again.{charts-alike, parted-again, run-listed}
 
 -- ---- lengths
 
@@ -122,6 +129,21 @@ signals-same text i (t ∷ ts) [] e = absurd (let z : _≡_ {A = ℕ} 0 1 = cc i
 signals-same text i (t ∷ ts) (x ∷ ns) e =
     let p = parts e in
     ap₂ (λ (h : List ℕ × List ℕ) (t : List (List ℕ)). h .0 ∷ t) (p .0) (signals-same text (suc i) ts ns (p .1))
+
+-- the sheets that would be written of them
+sheets-again : (n : ℕ) (signals again : List Tok) (tabs back : Tables) → wordsOf again ≡ wordsOf signals → length signals ≡ n → SoundTables n tabs → worded back ≡ tablesIn (sheets signals tabs)
+    → sheets again back ≡ sheets signals tabs
+unfolding worded tablesIn sheets
+sheets-again n signals again [] [] w l g e = refl
+sheets-again n signals again [] (y ∷ back) w l g e = absurd (let z : _≡_ {A = ℕ} 0 1 = cc in omega arith)
+sheets-again n signals again (x ∷ tabs) [] w l g e = absurd (let z : _≡_ {A = ℕ} 0 1 = cc in omega arith)
+sheets-again n signals again (x ∷ tabs) (y ∷ back) w l g e =
+    let p = parts e in
+    let c : chartsFrom 0 again (y .1 .waves) ≡ chartsFrom 0 signals (x .1 .waves) =
+    charts-alike 0 again signals (y .1 .waves) (x .1 .waves) w λ s c. ap (λ (t : List ℕ × Table). waveOf s c (t .1 .waves)) (p .0) ∙ charts-same n (x .1 .waves) (g .0) signals l s c in
+    ap₂ (λ (h : Sheet) (t : List Sheet). h ∷ t)
+    (ap₂ (λ (t : List ℕ × Table) (c : List Chart). record { name = t .0; period = t .1 .period; charts = c }) (p .0) c)
+    (sheets-again n signals again tabs back w l (g .1) (p .1))
 
 -- ---- cycles that show rows which can be played
 
@@ -253,6 +275,34 @@ module _ (text : List ℕ) (m : Meaning) (s : Source text m) (few : length (patt
   pub same-tables : (k s c : ℕ) → waveOf s c (tableAt (back .doc .tables) k) ≡ waveOf s c (tableAt (m .tables) k)
   unfolding flat
   same-tables = tables-same n (m .signals) (m .tables) (back .doc .tables) refl sound (back .is .tables)
+
+  -- ---- and would be folded to the same
+
+  pub directions-back : directed bytes (firsts (back .doc .signals)) ≡ directed text (m .signals)
+  unfolding flat pieces words sign blank Written.bytes
+  directions-back =
+      let p = doc-parts (toks bytes 0) .all (back .doc) (back .rest) (back .read) in
+      let w = signals-took bytes (p .signals-at) (at-signals bytes (back .doc) (back .rest) p) .all (back .doc .signals) (p .groups-at) (p .signals-read) in
+      let b = behind-version (toks bytes 0) .all (p .opening-end) (p .signals-at) (p .opening-read) (words (signalsPut (directed text (m .signals)) (behindSignals (flat text m)))) (stop notHere (spelled .0)) (spelled .1) in
+      let l : length (directed bytes (firsts (back .doc .signals))) ≡ length (directed text (m .signals)) =
+      directed-length bytes (firsts (back .doc .signals)) ∙ length-firsts (back .doc .signals) ∙ as-many ∙ sym (directed-length text (m .signals)) in
+      directions-read bytes (directed text (m .signals)) (behindSignals (flat text m)) (back .doc .signals) (p .signals-at) (stop notHere (spelled .0)) b w l
+
+  pub patterns-back : patternsOf (meaningOf (back .doc) (run-is .run)) ≡ patternsOf m
+  unfolding patternsOf
+  patterns-back =
+      let fair = rows-fair n (m .tables) sound (concat (patternsOf m)) (subst (All (GoodRow n (m .tables))) (sym rows-are) (s .rows)) in
+      ap (λ (k : ℕ). partedAll (listedRows k (run-is .run))) (length-firsts (back .doc .signals) ∙ as-many)
+      ∙ ap partedAll (run-listed n (run-is .run) (patternsOf m) (run-is .twins) steady fair) ∙ parted-again (patternsOf m) steady
+
+  -- THE LAW
+  pub flat-again : flat bytes (meaningOf (back .doc) (run-is .run)) ≡ flat text m
+  unfolding flat
+  flat-again =
+      let names = signals-same text 0 (m .signals) (back .doc .signals) (back .is .signals) in
+      let t = sheets-again n (m .signals) (firsts (back .doc .signals)) (m .tables) (back .doc .tables) names refl sound (back .is .tables) in
+      ap (λ (x : List Directed). record { signals = x; tables = sheets (firsts (back .doc .signals)) (back .doc .tables); patterns = linesOf (patternsOf (meaningOf (back .doc) (run-is .run))) }) directions-back
+      ∙ ap₂ (λ (x : List Sheet) (y : List (List Row)). record { signals = directed text (m .signals); tables = x; patterns = linesOf y }) t patterns-back
 
   -- ---- so it is accepted
 

@@ -14,6 +14,7 @@ pub mod Charts
 pub mod Sheets
 pub mod Stretches
 pub mod Shapes
+pub mod Walk
 pub mod PlayBack
 pub mod GoodPieces
 pub mod RunBack
@@ -22,8 +23,7 @@ pub mod GoodRows
 pub mod FlatGood
 pub mod Sizes
 pub mod Source
-pub mod Folding
-pub mod Theorem
-
 pub mod Directions
 pub mod Again
+pub mod Folding
+pub mod Theorem

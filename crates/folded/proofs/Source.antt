@@ -75,7 +75,7 @@ pub record Source (text : List ℕ) (m : Meaning) : Type 0 where
 
 module _ (text : List ℕ) (d : Read) (us : Toks) (p : Parts (toks text 0) d us) where
   -- where Signals and Timing begin in the text
-  at-signals : Stream text (p .signals-at)
+  pub at-signals : Stream text (p .signals-at)
   at-signals = rest-stream text (moves-leaves (moves-bind _ _ (moves-due _) λ x. search moving) .rest _ _ _ (p .opening-read)) (0, refl)
 
   at-timing : Stream text (p .timing-at)

@@ -9,7 +9,7 @@ use mathlib.Core.List.{List, [], _∷_, _++_}
 use lib.Dec.{leb, eqb}
 use lib.ListN.{length, take, drop}
 use lib.Seq.{take-at}
-use borrow.Author.Tests.{leb-true}
+use borrow.Author.Tests.{leb-true, le-leb}
 use Rattle.tokens.specs.Refusals.{textMost}
 use Rattle.meaning.specs.Bounds.{patternsMost}
 use Rattle.meaning.specs.Refusals.{badData, noSuch, noRoom}
@@ -18,13 +18,13 @@ use Rattle.meaning.specs.Run.{Cycle, cycles, cyclesOf, visits}
 use Rattle.meaning.specs.Meaning.{Answer, given, refused, answering, tableAt, firsts, Meaning, meaning}
 use Rattle.meaning.specs.Services.{Window, window, windowOf, rowsOut, rowsDue, widthOf, rowWidth, windowRows, badMark, row, rows, Waveform, waveform, waveOf, eventsOut}
 use Rattle.meaning.proofs.Rows.{rows-are-cycles}
-use Rattle.folded.specs.Flat.{rowsOf, patternsOf, flat}
+use Rattle.folded.specs.Flat.{Flat, patternsOf, flat}
 use Rattle.folded.specs.Layout.{written}
 use Rattle.folded.specs.Fold.{foldedMost, manyPatterns, manyCycles, Folded, foldedIn, folded, fold}
 use Rattle.folded.specs.Same.{wordsOf, periodsOf, placeless, shown, Same}
 use Rattle.folded.proofs.BurstBack.{words-length}
 use Rattle.folded.proofs.Source.{Source, source, length-firsts}
-use Rattle.folded.proofs.Folding.{meaningOf, back, run-is, cycles-same, cycles-count, rows-length, as-many, same-tables, names-same, signals-same, folded-accepted}
+use Rattle.folded.proofs.Folding.{meaningOf, back, run-is, cycles-same, cycles-count, rows-length, as-many, same-tables, names-same, signals-same, directions-back, patterns-back, flat-again, folded-accepted}
 
 -- ---- windows show no places
 
@@ -112,6 +112,14 @@ waveform-of : (text : List ℕ) (m : Meaning) → meaning text ≡ given m → (
 unfolding waveform answering
 waveform-of text m e k s c times letters =
     ap (λ (a : Answer Meaning). answering a λ m. elim (waveOf s c (tableAt (m .tables) k)) [ none ↦ refused noSuch 0 | some es ↦ eventsOut es times letters ]) e
+
+fold-of : (text : List ℕ) (m : Meaning) → meaning text ≡ given m → (buffer : List ℕ) → fold text buffer ≡ folded text m buffer
+unfolding fold answering
+fold-of text m e buffer = ap (λ (a : Answer Meaning). answering a λ m. folded text m buffer) e
+
+folded-of : (text : List ℕ) (m : Meaning) (buffer : List ℕ) → cycles 0 (m .run) ≤ foldedMost → length (patternsOf m) ≤ patternsMost → folded text m buffer ≡ foldedIn (written (flat text m)) buffer
+unfolding folded
+folded-of text m buffer short few = rw (le-leb (cycles 0 (m .run)) foldedMost short, folded) (rw (le-leb (length (patternsOf m)) patternsMost few))
 
 -- ---- what it takes to be folded
 
@@ -214,6 +222,7 @@ module _ (text : List ℕ) (m : Meaning) (was : meaning text ≡ given m) (short
         was = was;
         is = accepted-so;
         signals = signals-same text 0 (m .signals) (b .doc .signals) (b .is .signals);
+        directions = directions-back text m src few short;
         tables = names .0;
         periods = names .1;
         cycles = cycles-are;
@@ -221,8 +230,21 @@ module _ (text : List ℕ) (m : Meaning) (was : meaning text ≡ given m) (short
         windows = windows-are;
       }
 
+  -- folded again
+  again-so : (other : List ℕ) → fold (written (flat text m)) other ≡ foldedIn (written (flat text m)) other
+  again-so other =
+      fold-of (written (flat text m)) to accepted-so other
+      ∙ folded-of (written (flat text m)) to other (omega (arith, count)) (omega (arith, ap length (patterns-back text m src few short)))
+      ∙ ap (λ (f : Flat). foldedIn (written f) other) (flat-again text m src few short)
+
 -- THE THEOREM
 pub folded-same : (text buffer : List ℕ) (x : Folded) → fold text buffer ≡ given x → Same text (take (x .size) (x .buffer))
 folded-same text buffer x e =
     let f = folds text buffer x e in
     subst (Same text) (sym (f .is)) (same-so text (f .from) (f .was) (f .short) (f .few) (f .fits))
+
+-- folding again writes the same bytes, wherever there is room for them
+pub folded-again : (text buffer : List ℕ) (x : Folded) → fold text buffer ≡ given x → (other : List ℕ) → fold (take (x .size) (x .buffer)) other ≡ foldedIn (take (x .size) (x .buffer)) other
+folded-again text buffer x e other =
+    let f = folds text buffer x e in
+    subst (λ (w : List ℕ). fold w other ≡ foldedIn w other) (sym (f .is)) (again-so text (f .from) (f .was) (f .short) (f .few) (f .fits) other)

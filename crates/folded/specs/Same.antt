@@ -8,6 +8,7 @@ use Rattle.meaning.specs.Timing.{Tables}
 use Rattle.meaning.specs.Run.{Cycle, cyclesOf}
 use Rattle.meaning.specs.Meaning.{Answer, given, refused, answering, Meaning, meaning, firsts}
 use Rattle.meaning.specs.Services.{Window, window, waveform}
+use Rattle.folded.specs.Flat.{directed}
 
 -- the names of some tokens, without their places
 unfoldable pub wordsOf : List Tok → List (List ℕ)
@@ -34,8 +35,9 @@ pub record Same (text folded : List ℕ) : Type 0 where
   -- both are accepted
   pub was : meaning text ≡ given from
   pub is : meaning folded ≡ given to
-  -- the same signals and tables, and their periods
+  -- the same signals and tables, with their directions and periods
   pub signals : wordsOf (to .signals) ≡ wordsOf (from .signals)
+  pub directions : directed folded (to .signals) ≡ directed text (from .signals)
   pub tables : wordsOf (firsts (to .tables)) ≡ wordsOf (firsts (from .tables))
   pub periods : periodsOf (to .tables) ≡ periodsOf (from .tables)
   -- the same cycles in run order
