@@ -1,7 +1,9 @@
 //! Writes generated texts: `generate SEED`, `generate nested SEED`, `generate hurt SEED`, `generate DIR FIRST COUNT`, `generate big KIND`, `generate big KIND BYTES SIGNALS`,
-//! `generate run KIND SIGNALS`.
+//! `generate run KIND SIGNALS`, `generate contrived KIND SIGNALS`.
 
-use second::generate::{contrived, hurt, large, nested, run, sized, text, CONTRIVED_KINDS, LARGE_KINDS, RUN_KINDS, SIZED_KINDS};
+use second::generate::{
+    contrived, hurt, large, nested, run, sized, text, CONTRIVED_KINDS, LARGE_KINDS, RUN_KINDS, SIZED_KINDS,
+};
 use std::io::{self, Write};
 use std::path::Path;
 use std::process::ExitCode;
@@ -20,7 +22,7 @@ fn main() -> ExitCode {
 
 const USAGE: &str =
     "generate SEED | generate nested SEED | generate hurt SEED | generate DIR FIRST COUNT | generate big KIND
-generate big KIND BYTES SIGNALS | generate run KIND SIGNALS | generate contrived KIND";
+generate big KIND BYTES SIGNALS | generate run KIND SIGNALS | generate contrived KIND SIGNALS";
 
 fn answer(words: &[&str]) -> Result<(), String> {
     match *words {
@@ -40,9 +42,11 @@ fn answer(words: &[&str]) -> Result<(), String> {
             write_out(&made.ok_or_else(|| format!("no such kind: {kind}; there are {}", RUN_KINDS.join(" ")))?)
         }
         ["hurt", seed] => write_out(&hurt(number(seed)?)),
-        ["contrived", kind] => {
-            let made = contrived(kind);
-            write_out(&made.ok_or_else(|| format!("no such kind: {kind}; there are {}", CONTRIVED_KINDS.join(" ")))?)
+        ["contrived", kind, signals] => {
+            let made = contrived(kind, number(signals)? as usize);
+            write_out(&made.ok_or_else(|| {
+                format!("no such kind, or not 2 to 64 signals; there are {}", CONTRIVED_KINDS.join(" "))
+            })?)
         }
         ["nested", seed] => write_out(&nested(number(seed)?)),
         [seed] => write_out(&text(number(seed)?)),

@@ -1,34 +1,36 @@
 //! Texts refused 17 behind a long search, each made to defeat a way in which the proved reader spares itself the playing of bodies.
 
-/// Behind eight Loops in each other around as many V's as there is room for; behind uses of a macro that uses 30 others, in five Loops. Those others have a Shift
+/// Behind eight Loops in each other around as many V's as there is room for; behind uses of a macro that uses others, in five Loops. Those others have a Shift
 /// that plays no turn; or arguments with a character that only one of their two tables has: repeated, spelled out, with another V between the uses, with each
 /// character a word, or in a procedure.
 pub const CONTRIVED_KINDS: [&str; 7] = ["loops", "empty", "repeated", "spelled", "between", "words", "calls"];
 
-pub fn contrived(kind: &str) -> Option<Vec<u8>> {
+pub fn contrived(kind: &str, signals: usize) -> Option<Vec<u8>> {
     let spelled = format!("{}2", "1".repeat(1000));
     let words = format!("{}2", "1 ".repeat(800));
-    Some(match kind {
-        "loops" => text("", &nested(8, &"V { A = 1; }\n".repeat(4800))),
-        "empty" => text(&uses("m { Shift { V { A = #; } } V { A = 1; } }", "Macro m { A = ; } ", 30), &nested(5, &"Macro k;\n".repeat(260))),
-        "repeated" => text(&uses(SHOWN, "Macro m { A = \\r4095 1 2; } ", 30), &nested(5, &"Macro k;\n".repeat(300))),
-        "spelled" => text(&uses(SHOWN, &format!("Macro m {{ A = {spelled}; }} "), 30), &nested(5, &"Macro k;\n".repeat(300))),
-        "between" => text(&uses(SHOWN, &format!("Macro m {{ A = {spelled}; }} "), 30), &nested(5, &between("Macro k; ", 300))),
-        "words" => text(&uses(SHOWN, &format!("Macro m {{ A = {words}; }} "), 15), &nested(5, &between("Macro k; ", 300))),
-        "calls" => text(&called(SHOWN, &format!("Call m {{ A = {spelled}; }} "), 30), &nested(5, &between("Call k; ", 300))),
+    let (bodies, statements) = match kind {
+        "loops" => (String::new(), nested(8, &"V { A = 1; }\n".repeat(4800))),
+        "empty" => (macros("m { Shift { V { A = #; } } V { A = 1; } }", "", 30), nested(5, &"Macro k;\n".repeat(260))),
+        "repeated" => (macros(SHOWN, "\\r4095 1 2", 30), nested(5, &"Macro k;\n".repeat(300))),
+        "spelled" => (macros(SHOWN, &spelled, 30), nested(5, &"Macro k;\n".repeat(300))),
+        "between" => (macros(SHOWN, &spelled, 30), nested(5, &between("Macro k;", 300))),
+        "words" => (macros(SHOWN, &words, 15), nested(5, &between("Macro k;", 300))),
+        "calls" => (bodies("Procedures", "Call", SHOWN, &spelled, 30), nested(5, &between("Call k;", 300))),
         _ => return None,
-    })
+    };
+    (2..=64).contains(&signals).then(|| text(signals, &bodies, &statements))
 }
 
 /// Of its argument the first character is shown under one table and the others under another, which alone has `2`.
 const SHOWN: &str = "m { W s; V { A = #; } W t; Shift { V { A = #; } } C { A = 1; } }";
 
-fn uses(body: &str, one: &str, count: usize) -> String {
-    format!("MacroDefs {{ {body}\nk {{ {} }} }}\n", one.repeat(count))
+fn macros(body: &str, argument: &str, count: usize) -> String {
+    bodies("MacroDefs", "Macro", body, argument, count)
 }
 
-fn called(body: &str, one: &str, count: usize) -> String {
-    format!("Procedures {{ {body}\nk {{ {} }} }}\n", one.repeat(count))
+fn bodies(block: &str, word: &str, body: &str, argument: &str, count: usize) -> String {
+    let one = format!("{word} m {{ A = {argument}; }} ");
+    format!("{block} {{ {body}\nk {{ {} }} }}\n", one.repeat(count))
 }
 
 /// Each use behind a V that shows another character than the one before it.
@@ -40,12 +42,22 @@ fn nested(depth: usize, inner: &str) -> String {
     format!("{}\n{inner}{}", "Loop 2 { ".repeat(depth), "} ".repeat(depth))
 }
 
-fn text(bodies: &str, statements: &str) -> Vec<u8> {
-    let digits = "B { 0123456789 { '0ns' D; } }";
+/// All signals but the first, which is shown under two tables, have all digits.
+fn text(signals: usize, bodies: &str, statements: &str) -> Vec<u8> {
+    let others: Vec<String> = (1..signals).map(|i| if i == 1 { "B".into() } else { format!("B{i}") }).collect();
+    let table = |name: &str, chars: &str| {
+        format!(
+            "WaveformTable {name} {{ Period '1ns'; Waveforms {{ A {{ {chars} {{ '0ns' D; }} }} others {{ 0123456789 {{ '0ns' D; }} }} }} }}\n"
+        )
+    };
     format!(
-        "STIL 1.0;\nSignals {{ A In; B In; }}\nTiming {{\nWaveformTable s {{ Period '1ns'; Waveforms {{ A {{ 1 {{ '0ns' D; }} }} {digits} }} }}\n\
-         WaveformTable t {{ Period '1ns'; Waveforms {{ A {{ 12 {{ '0ns' D; }} }} {digits} }} }} }}\n{bodies}\
-         PatternBurst b {{ PatList {{ p; }} }}\nPatternExec {{ PatternBurst b; }}\nPattern p {{ W t;\n{statements}\nV {{ A = 3; }} }}\n"
+        "STIL 1.0;\nSignals {{ A In; {} In; }}\nSignalGroups {{ others = '{}'; }}\nTiming {{\n{}{}}}\n{bodies}PatternBurst b {{ PatList {{ p; }} }}\n\
+         PatternExec {{ PatternBurst b; }}\nPattern p {{ W t; C {{ others = \\r{} 1; }}\n{statements}\nV {{ A = 3; }} }}\n",
+        others.join(" In; "),
+        others.join("+"),
+        table("s", "1"),
+        table("t", "12"),
+        signals - 1
     )
     .into_bytes()
 }
