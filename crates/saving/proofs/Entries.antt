@@ -1,21 +1,22 @@
--- THE LISTED NAME: where a text reads and a listed pattern is not defined, the refusal's place is that of a name in the list, and its `;` stands right behind it.
+-- THE LISTED NAME: where a text is refused with 15, the place is that of a name in the list, and its `;` stands right behind it.
 use Prim.Native.Nat.{ℕ, _+_}
 use native.Mathlib.Omega.{arith}
 use mathlib.Core.Path.{_≡_, refl, sym, ap, _∙_, subst}
 use mathlib.Core.Bool.{Bool, true, false}
 use mathlib.Core.Option.{Option, none, some}
 use mathlib.Core.List.{List, [], _∷_, _++_}
-use lib.Dec.{leb}
+use lib.ListN.{length}
 use Rattle.tokens.specs.Written.{bytes, same}
-use Rattle.tokens.specs.Tokens.{Tok, Toks, stop, tok, toks}
-use Rattle.meaning.specs.Refusals.{notDefined, tooMany}
-use Rattle.meaning.specs.Reader.{ok, _>>_, due}
+use Rattle.tokens.specs.Tokens.{Tok, Toks, stop, tok, toks, faultOf}
+use Rattle.meaning.specs.Refusals.{notDefined, tooLarge, notPlayable}
+use Rattle.meaning.specs.Reader.{Res, ok, refuse, _>>_, due}
 use Rattle.meaning.specs.Names.{find, name}
 use Rattle.meaning.specs.Groups.{groups}
 use Rattle.meaning.specs.Body.{listed, entered, Body, inner}
 use Rattle.meaning.specs.Statements.{Decl, Decls}
 use Rattle.meaning.specs.Document.{listEntry, burst, Read, document}
-use Rattle.meaning.specs.Meaning.{Answer, given, refused, answering, runOf}
+use Rattle.meaning.specs.Run.{cyclesOf}
+use Rattle.meaning.specs.Meaning.{Answer, given, refused, answering, runOf, firstFailing, Meaning, fitting, judged, accept, meaning}
 use Rattle.meaning.proofs.SameTokens.{Stands, stands-on, stands-there}
 use Rattle.held.proofs.Rest.{Rest, all, behind, rest-rest, Moves, moving, moves-leaves, moves-bind, moves-due, leaves-option}
 use Rattle.held.proofs.Grammar.{moves-signals, moves-groups, moves-timing, moves-macro, moves-procedure}
@@ -24,6 +25,7 @@ use Rattle.held.proofs.Leads.{Leads, leads-bind, leads-give, leads-if, leads-un
 use Rattle.held.proofs.Due.{name-is, due-is}
 use Rattle.held.proofs.Parts.{Parts, parts}
 use Rattle.saving.specs.Saving.{semicolon, upTo, entry}
+use Rattle.saving.proofs.Numbers.{document-low, fault-low}
 
 -- a name with its `;` behind it
 abbrev ending : Tok → ℕ → Toks → Toks
@@ -139,3 +141,26 @@ listed-at text d us {n} {p} e h =
       place = f .2;
       overwritten = rw there (ap (λ (x : ℕ). some (record { first = x; behind = f .1 .end + 1 })) (f .2));
     }
+
+-- ---- whatever the text: only the run refuses with 15
+
+pub listed-place : (text : List ℕ) (p : ℕ) → meaning text ≡ refused notDefined p → ListedAt text p
+unfolding meaning accept answering judged
+listed-place text p e = by (faultOf text) refl e
+  where
+    fitted : {A : Type 0} (x : Bool) (o : Option ℕ) (m : Meaning) → _≡_ {A = Answer Meaning} (elim x [ false ↦ refused tooLarge 0 | true ↦ elim o [ some q ↦ refused notPlayable q | none ↦ given m ] ]) (refused notDefined p) → A
+    fitted false o m e = let z : _≡_ {A = ℕ} 16 15 = cc in absurd (omega arith)
+    fitted true (some q) m e = let z : _≡_ {A = ℕ} 17 15 = cc in absurd (omega arith)
+    fitted true none m e = let z : _≡_ {A = ℕ} 0 1 = cc in absurd (omega arith)
+
+    ran : (d : Read) (us : Toks) → document (toks text 0) ≡ ok d us → (a : Answer Body) → runOf (d .patterns) (d .listed) ≡ a → answering a (judged d) ≡ refused notDefined p → ListedAt text p
+    ran d us q (given r) f e = fitted (fitting r) (firstFailing (d .tables) (cyclesOf (length (d .signals)) r)) _ e
+    ran d us q (refused n s) f e = let k : s ≡ p = cc in subst (ListedAt text) k (listed-at text d us q f)
+
+    read : (r : Res Read) → document (toks text 0) ≡ r → accept r ≡ refused notDefined p → ListedAt text p
+    read (ok d us) q e = ran d us q (runOf (d .patterns) (d .listed)) refl e
+    read (refuse n s) q e = let k : n ≡ 15 = cc in absurd (omega (arith, document-low text n s q))
+
+    by : (o : Option (ℕ × ℕ)) → faultOf text ≡ o → _≡_ {A = Answer Meaning} (elim o [ some f ↦ refused (f .0) (f .1) | none ↦ accept (document (toks text 0)) ]) (refused notDefined p) → ListedAt text p
+    by (some f) q e = let k : f .0 ≡ 15 = cc in absurd (omega (arith, fault-low text f q))
+    by none q e = read (document (toks text 0)) refl e

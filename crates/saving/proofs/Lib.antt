@@ -2,6 +2,7 @@ pub mod Spaces
 pub mod Marks
 pub mod Repeating
 pub mod Saved
+pub mod Numbers
 pub mod Entries
 pub mod Noting
 pub mod Mending

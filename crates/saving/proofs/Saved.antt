@@ -16,6 +16,7 @@ use Rattle.saving.specs.Saving.{Span, Block, blocks, inBlock, blockAt, e
 use Rattle.saving.specs.Steps.{Steps, still, step}
 use Rattle.saving.proofs.Spaces.{spaced-inside, spaced-before, spaced-behind, inked, inked-most}
 use Rattle.saving.proofs.Marks.{Marked}
+use Rattle.saving.proofs.Entries.{ListedAt, listed-place}
 use Rattle.saving.proofs.Repeating.{hurt-refuses, accepts-verdict, accepted-means, beyond-refuses, hurt-span, turn-fewer, turn-length, saving-accepted, saving-beyond, saving-hurt, steps-length, steps-fewer}
 
 -- ---- the repetition ends with an accepted text, or beyond help
@@ -166,8 +167,8 @@ pub data Member (b : Block) : List Block → Type 0 where
 pub data Why (text : List ℕ) (s : Span) : Type 0 where
   -- 4 to 14, 17 or 25 at a place in a block
   in-block : (n p : ℕ) (b : Block) → meaning text ≡ refused n p → ofBlock n ≡ true → Member b (blocks text) → inBlock p b ≡ true → b .span ≡ s → Why text s
-  -- 15 at a listed name
-  in-list : (p : ℕ) → meaning text ≡ refused notDefined p → entry (toks text p) ≡ some s → Why text s
+  -- 15 at a listed name, whose `;` stands right behind it
+  in-list : (p : ℕ) → meaning text ≡ refused notDefined p → ListedAt text p → entry (toks text p) ≡ some s → Why text s
 
 found-member : (p : ℕ) (bs : List Block) (s : Span) → blockAt p bs ≡ some s → (b : Block) × Member b bs × (inBlock p b ≡ true) × (b .span ≡ s)
 unfolding blockAt
@@ -186,5 +187,5 @@ why-hurt text s v = let r = hurt-refuses text s v in by (r .number) (r .place) (
     by : (n p : ℕ) → meaning text ≡ refused n p → (x : Bool) → ofBlock n ≡ x → (y : Bool) → eqb n notDefined ≡ y
         → _≡_ {A = Option Span} (elim x [ true ↦ blockAt p (blocks text) | false ↦ elim y [ true ↦ entry (toks text p) | false ↦ none ] ]) (some s) → Why text s
     by n p m true f y g e = let i = found-member p (blocks text) s e in in-block n p (i .0) m f (i .1) (i .2) (i .3)
-    by n p m false f true g e = in-list p (rw (eqb-true n notDefined g) at m) e
+    by n p m false f true g e = let k : meaning text ≡ refused notDefined p = rw (eqb-true n notDefined g) at m in in-list p k (listed-place text p k) e
     by n p m false f false g e = let z : _≡_ {A = ℕ} 0 1 = cc in absurd (omega arith)
