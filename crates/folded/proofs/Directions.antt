@@ -10,7 +10,7 @@ use Rattle.tokens.specs.Bytes.{blank}
 use Rattle.tokens.specs.Tokens.{Tok, Toks, stop, tok, toks}
 use Rattle.meaning.specs.Reader.{_>>=_, _>>_, dueOf, due, any, while, closed, until}
 use Rattle.meaning.specs.Names.{dueAmong}
-use Rattle.meaning.specs.Signals.{Names, directions, signal, signals}
+use Rattle.meaning.specs.Signals.{Names, directions, signal, signals, signalUpTo, signalsUpTo}
 use Rattle.meaning.specs.Meaning.{firsts}
 use Rattle.held.proofs.Rest.{moves-leaves, moves-due}
 use Rattle.held.proofs.Grammar.{moves-signal}
@@ -46,7 +46,7 @@ module _ (text : List ℕ) where
     pub directs : direction text name ≡ way .word
 
   signal-one : (ns : Names) (ts : Toks) → Stream text ts → Leads (signal ns) ts (λ ms us. One ns ms ts us)
-  unfolding signal dueAmong direction firstWord
+  unfolding signalUpTo dueAmong direction firstWord
   signal-one ns ts s =
       leads-bind _ _ λ t vs v. leads-if _ _ _ _ λ c. leads-bind _ _ λ p ws w. leads-bind _ _ λ q xs x.
       let a = new-is ns ts .all t vs v in
@@ -93,7 +93,7 @@ module _ (text : List ℕ) where
   closed-took T ns xs i = leads-bind _ _ λ z zs z-is. leads-bind _ _ λ p us u. leads-give _ (zs, leads-while (Along T) signal (signal-took T) _ ns xs i .all z zs z-is .1)
 
   pub signals-took : (ts : Toks) → Stream text ts → Leads signals ts (λ ns us. Whole ns ts)
-  unfolding signals until directed firsts
+  unfolding signalsUpTo until directed firsts
   signals-took ts s =
       leads-bind _ _ λ p vs v. leads-bind _ _ λ q ws w. leads-bind _ _ λ ns xs x. leads-bind _ _ λ y ys y-is.
       let a = rest-stream text (moves-leaves (moves-due _) .rest _ _ _ v) s in

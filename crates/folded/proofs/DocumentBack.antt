@@ -12,7 +12,7 @@ use Rattle.meaning.specs.Signals.{Names, signals}
 use Rattle.meaning.specs.Timing.{Table, Tables, timing}
 use Rattle.meaning.specs.Groups.{groups}
 use Rattle.meaning.specs.Statements.{Env}
-use Rattle.meaning.specs.Document.{macroDefs, procedures, bodies, patterns, Read, document}
+use Rattle.meaning.specs.Document.{macroDefs, procedures, bodies, patterns, Read, document, documentUpTo}
 use Rattle.meaning.proofs.Gives.{bind-go}
 use Rattle.held.proofs.Parts.{firstEnv}
 use Rattle.folded.specs.Pieces.{Piece, each, only, word}
@@ -87,7 +87,7 @@ no-macros ns k = (refl, refl)
 
 -- THE LAW
 pub reads-document : (f : Flat) → GoodFlat f → Reads document (words (pieces f)) [] (ReadBack f)
-unfolding document pieces words sign blank bytes
+unfolding documentUpTo pieces words sign blank bytes
 reads-document f g =
     let none = no-macros (namesFrom 0 (length (f .patterns))) (execPut (behindExec f)) in
     reads-bind (reads-due (bytes "STIL") _) λ p u. reads-bind (reads-due (bytes "1.0") _) λ p u. reads-bind (reads-due (bytes ";") _) λ p u.

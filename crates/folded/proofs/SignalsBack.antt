@@ -15,7 +15,7 @@ use Rattle.tokens.specs.Tokens.{Tok}
 use Rattle.meaning.specs.Bounds.{signalsMost}
 use Rattle.meaning.specs.Reader.{isWord}
 use Rattle.meaning.specs.Names.{among, isName}
-use Rattle.meaning.specs.Signals.{Names, directions, signal, signals}
+use Rattle.meaning.specs.Signals.{Names, directions, signal, signals, signalUpTo, signalsUpTo}
 use Rattle.held.proofs.Rest.{moves-takes}
 use Rattle.held.proofs.Grammar.{moves-signal}
 use Rattle.folded.specs.Pieces.{Piece, each, only, closing, lf}
@@ -74,7 +74,7 @@ held-more before x ns t i e l = rw (worded-++ ns ((t, length ns ∷ []) ∷ []),
 
 reads-signal : (before : List Directed) (x : Directed) (ns : Names) (k : List Piece) → NewSignal before x → Holds before ns
     → Reads (signal ns) (words (signalPut x k)) (words k) (Holds (before ++ x ∷ []))
-unfolding signal signalPut words sign blank bytes
+unfolding signalUpTo signalPut words sign blank bytes
 reads-signal before x ns k f i =
     let long : length ns ≡ length before = sym (worded-length ns) ∙ ap length i ∙ singles-length 0 before in
     reads-bind (reads-new ns (x .0) _ (proper-word (x .0) (f .proper)) (f .is-name) (find-worded ns (x .0) ∙ ap (λ l. findIn l (x .0)) i ∙ f .new)) λ t e.
@@ -88,7 +88,7 @@ signal-begins before x k f = no-sign (x .0) 125 (f .proper) refl
 -- THE LAW
 pub reads-signals : (x : Directed) (xs : List Directed) (k : List Piece) → AllFit NewSignal [] (x ∷ xs)
     → Reads signals (words (signalsPut (x ∷ xs) k)) (words k) (λ ns. worded ns ≡ singles 0 (x ∷ xs))
-unfolding signals signalsPut each words sign blank bytes worded singles
+unfolding signalsUpTo signalsPut each words sign blank bytes worded singles
 reads-signals x xs k f =
     reads-bind (reads-due (bytes "Signals") _) λ p u. reads-bind (reads-due (bytes "{") _) λ q v.
     reads-bind (reads-signal [] x [] (each signalPut xs (only closing ∷ only lf ∷ k)) (f .0) refl) λ ns i.

@@ -15,7 +15,7 @@ use Rattle.tokens.proofs.Laws.{unfolds}
 use Rattle.meaning.specs.Bounds.{signalsMost}
 use Rattle.meaning.specs.Reader.{Reader, ok, any, isWord, word}
 use Rattle.meaning.specs.Names.{among, isName, name, dueAmong, find, isSome, newName}
-use Rattle.meaning.specs.Signals.{Names, directions, signal, signals}
+use Rattle.meaning.specs.Signals.{Names, directions, signal, signals, signalUpTo, signalsUpTo}
 use Rattle.meaning.specs.Meaning.{firsts}
 use Rattle.meaning.proofs.Gives.{no-not}
 use Rattle.meaning.proofs.SameTokens.{stands-there, word-run}
@@ -106,7 +106,7 @@ module _ (text : List ℕ) where
 
   -- one more
   signal-more : (ns : Names) (ts : Toks) → SignalsRead ns ts → Leads (signal ns) ts (λ ms us. AllFit (SignalFits text) [] ms × (0 < length ms))
-  unfolding signal direction
+  unfolding signalUpTo direction
   signal-more ns ts i =
       leads-bind _ _ λ t vs v. leads-if _ _ _ _ λ c. leads-bind _ _ λ p ws w. leads-bind _ _ λ q xs x.
       let r = new-reads text ns ts (i .stream) .all t vs v in
@@ -133,7 +133,7 @@ module _ (text : List ℕ) where
 
   -- THE LAW of Signals
   pub signals-fit : (ts : Toks) → Stream text ts → Leads signals ts (λ ns us. SomeFit (SignalFits text) ns)
-  unfolding signals
+  unfolding signalsUpTo
   signals-fit ts s =
       leads-bind _ _ λ p vs v. leads-bind _ _ λ q ws w.
       let a = rest-stream text (moves-leaves (moves-due _) .rest _ _ _ v) s in

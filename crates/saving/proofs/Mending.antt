@@ -14,7 +14,7 @@ use Rattle.tokens.specs.Tokens.{faultOf}
 use Rattle.tokens.specs.Bytes.{between}
 use Rattle.tokens.proofs.Faults.{fault-too-long}
 use Rattle.meaning.specs.Refusals.{noRoom}
-use Rattle.meaning.specs.Meaning.{Answer, given, refused, answering, Meaning, meaning}
+use Rattle.meaning.specs.Meaning.{Answer, given, refused, answering, Meaning, meaningUpTo, meaning}
 use Rattle.saving.specs.Saving.{Span, ofBlock, hurt, overwritten, Verdict, accepted, hurtIn, beyondHelp, helped, verdict, Saved, saving, numbersOf, Restored, restored, save}
 use Rattle.saving.specs.Steps.{Steps, still, step}
 use Rattle.saving.specs.Found.{spanIf, hurtOf}
@@ -168,7 +168,7 @@ log-front spans log numbers {n} q h k =
 
 pub too-long-saving : (text : List ℕ) → textMost < length text → saving text ≡ refused tooLong 0
 unfolding meaning helped hurt ofBlock between
-too-long-saving text h = saving-beyond text tooLong 0 (refused-verdict text {o = none} (rw (fault-too-long text h, meaning)) refl)
+too-long-saving text h = saving-beyond text tooLong 0 (refused-verdict text {o = none} (rw (fault-too-long text h, meaningUpTo)) refl)
 
 module _ (text numbers : List ℕ) where
   pub save-refused : {n p : ℕ} → saving text ≡ refused n p → save text numbers ≡ refused n p

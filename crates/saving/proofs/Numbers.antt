@@ -17,13 +17,13 @@ use Rattle.tokens.proofs.Stream.{Stops, Closes, closes}
 use Rattle.meaning.specs.Bounds.{depthMost, entryMost, bracketsMost}
 use Rattle.meaning.specs.Reader.{Res, Reader, ok, refuse, after, _>>=_, give, refuseIf, any, ahead, dueOf, oneOf, choose, isWord, word, ifAhead, option, whileF, while, closed, until}
 use Rattle.meaning.specs.Names.{name, dueAmong, newName, known, oldName, within, numberIn}
-use Rattle.meaning.specs.Signals.{Names, signal, signals}
-use Rattle.meaning.specs.Groups.{term, sign, joined, more, terms, bracket, expression, group, groups}
+use Rattle.meaning.specs.Signals.{Names, signal, signals, signalUpTo, signalsUpTo}
+use Rattle.meaning.specs.Groups.{term, sign, joined, more, terms, bracket, expression, group, groups, groupUpTo, groupsUpTo}
 use Rattle.meaning.specs.Timing.{Wave, Tables, quoted, letterDue, alternative, letters, Events, oneEvent, event, entry, waveforms, table, timing}
 use Rattle.meaning.specs.Body.{Assigns, Args, Kind, Body}
 use Rattle.meaning.specs.Data.{charsOf, times, repeated, piece, part, dataRead, assign, assigns, argument, arguments}
 use Rattle.meaning.specs.Statements.{Decls, Env, Head, ends, vecs, sets, loops, shifts, uses, used, chosen, looping, shiftHead, head, inShift, behind, statementsF, statements, declared}
-use Rattle.meaning.specs.Document.{oneBody, oneMacro, oneProcedure, macroDefs, procedures, bodies, listEntry, burst, exec, pattern, patterns, document}
+use Rattle.meaning.specs.Document.{oneBody, oneMacro, oneProcedure, macroDefs, procedures, bodies, listEntry, burst, exec, pattern, patterns, document, documentUpTo}
 use Rattle.meaning.proofs.Choices.{_also_}
 
 -- the tokens stop with at most 14
@@ -158,11 +158,11 @@ module _ {S : Type 0} (step : S → Reader S) (h : (s : S) → Low (step s)) whe
 -- ---- signals, groups, timing
 
 low-signal : (ns : Names) → Low (signal ns)
-unfolding signal
+unfolding signalUpTo
 low-signal ns = search lowly depth 9
 
 low-signals : Low signals
-unfolding signals
+unfolding signalsUpTo
 low-signals = search (lowly, low-signal, low-until) depth 9
 
 module _ (inner : ℕ → Reader (List ℕ)) (h : (p : ℕ) → Low (inner p)) (ns : Names) where
@@ -197,11 +197,11 @@ unfolding expression
 low-expression ns = low-terms _ (low-bracket bracketsMost ns) ns
 
 low-group : (n : ℕ) (ns : Names) → Low (group n ns)
-unfolding group
+unfolding groupUpTo
 low-group n ns = search (lowly, low-expression) depth 14
 
 low-groups : (ns : Names) → Low (groups ns)
-unfolding groups
+unfolding groupsUpTo
 low-groups ns = search (lowly, low-group, low-until) depth 9
 
 low-quoted : (a : ℕ) → Low (quoted a)
@@ -385,7 +385,7 @@ unfolding patterns
 low-patterns e b = low-bind _ _ (low-pattern e b []) (low-while (pattern e b) (low-pattern e b) _)
 
 low-document : Low document
-unfolding document
+unfolding documentUpTo
 low-document =
     low-bind _ _ (low-due _) λ a. low-bind _ _ (low-due _) λ b. low-bind _ _ (low-due _) λ c.
     low-bind _ _ low-signals λ ss. low-bind _ _ (low-option "SignalGroups" groups low-groups ss) λ ns. low-bind _ _ (low-timing ns) λ tabs.
