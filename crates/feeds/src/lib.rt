@@ -50,7 +50,33 @@ fn least(a: usize, b: usize) -> usize
     if a < b { a } else { b }
 }
 
+// a less b, or 0.
+fn less(a: usize, b: usize) -> usize
+    ensures { λ r. ⌜ r ≡ a - b ⌝ }
+{
+    if a <= b { 0 } else { a - b }
+}
+
 // ---- within a word
+
+// How many characters the word still says, at most so many.
+pub fn said(feed: Feed, most: usize) -> usize
+    ensures { λ r. ⌜ r ≡ min most (feed .end - feed .at + feed .left * (feed .end - feed .from)) ⌝ }
+{
+    let this = less(feed.end, feed.at);
+    let width = less(feed.end, feed.from);
+    let times = feed.left;
+    if most <= this {
+        return most;
+    }
+    if width == 0 {
+        return this;
+    }
+    if (most - this) / width < times {
+        return most;
+    }
+    this + times * width
+}
 
 // The feed behind the next character of its word: behind its end the word is said again.
 fn behind_one(feed: Feed) -> Feed

@@ -46,6 +46,9 @@ const KEPT: usize = 65_536;
 // Tables, and none: each has a row of its own for a use.
 const STARTS: usize = 9;
 
+// Bytes of `Call`: a statement with a shorter word first uses no body, and is not looked for.
+const SHORTEST: usize = 4;
+
 // ---- numbers
 
 // Where the row of a use at this place from this table begins, in a memo of this length.
@@ -203,8 +206,14 @@ pub fn find(memo: &[u16], u: Use, table: usize, values: &[u8], signals: usize) -
     requires { ⌜ (signals < pictureSize) × (signals ≤ length (now values)) ⌝ }
     ensures { λ r. ⌜ Finds (now (memo .entry)) signals u table (now (values .entry)) r ⌝ }
 {
+    let nowhere = Found { is: false, at: 0 };
+    if u.end <= u.at {
+        return nowhere;
+    }
+    if u.end - u.at < SHORTEST {
+        return nowhere;
+    }
     let o = memo_row(memo.len(), u.at, table);
-    let nowhere = Found { is: false, at: o };
     if memo.len() < o + MEMO_ROW {
         return nowhere;
     }
