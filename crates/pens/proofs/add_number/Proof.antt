@@ -1,7 +1,5 @@
 -- `add_number` meets its contract: the digits at the front of a row of their own, and then these.
-use native.Mathlib.Omega.{arith}
 use borrow.Author.Needs.{needs}
-use Rattle.pages.proofs.Laws.{decimal-short}
 use Rattle.pens.proofs.Laws.{writes-same, put-front, put-within, put-counts}
 use Rattle.pens.proofs.add_number.Statement.{statement}
 use Rattle.pens.proofs.add_number.Tie as tie
