@@ -1,20 +1,17 @@
 -- A folded text, folded again, is the same bytes: it has the same flat text.
-use Prim.Native.Nat.{ℕ, zero, suc, _+_, _≤_}
+use Prim.Native.Nat.{ℕ, suc}
 use native.Mathlib.Omega.{arith}
 use mathlib.Core.Path.{_≡_, refl, sym, ap, ap₂, _∙_, subst}
-use mathlib.Core.Bool.{Bool, true, false}
 use mathlib.Core.Option.{Option, none, some}
 use mathlib.Core.List.{List, [], _∷_, _++_, append-nil}
-use lib.Dec.{leb}
-use lib.ListN.{length, replicate}
-use Rattle.tokens.specs.Tokens.{Tok, Toks, stop, tok, toks}
-use Rattle.meaning.specs.Timing.{Event, Wave, Table, Tables}
-use Rattle.meaning.specs.Body.{listed, entered, Body, done, vec, set′, inner}
-use Rattle.meaning.specs.Run.{Cycle, cycles, cyclesOf}
+use Rattle.tokens.specs.Tokens.{Tok}
+use Rattle.meaning.specs.Timing.{Event, Wave}
+use Rattle.meaning.specs.Body.{Body, done, vec, set′, inner}
+use Rattle.meaning.specs.Run.{Cycle, cyclesOf}
 use Rattle.meaning.specs.Services.{waveOf}
 use Rattle.meaning.specs.Edited.{alone}
 use Rattle.meaning.proofs.Unplaced.{unplaced}
-use Rattle.folded.specs.Flat.{characters, Entries, entriesOf, Chart, chart, chartsFrom, Sheet, sheets, Row, tableOf, rowOf, rowsOf, listedRows, breaks, onto, parted, partedAll, linesFrom, linesOf, stretches}
+use Rattle.folded.specs.Flat.{characters, Entries, entriesOf, chart, chartsFrom, Row, tableOf, rowOf, rowsOf, listedRows, breaks, onto, parted, partedAll, linesFrom, linesOf, stretches}
 use Rattle.folded.specs.Shapes.{concat, Steady, Begins}
 use Rattle.folded.specs.Same.{wordsOf, placeless}
 use Rattle.folded.proofs.StatementsBack.{bodyOf}

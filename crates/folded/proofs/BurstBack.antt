@@ -1,28 +1,28 @@
 -- PatternBurst and PatternExec, as written, read back.
 use Prim.Native.Nat.{ℕ, suc, _<_}
 use native.Mathlib.Omega.{arith}
-use mathlib.Core.Path.{_≡_, refl, sym, ap, _∙_}
-use mathlib.Core.Bool.{true, false}
+use mathlib.Core.Path.{_≡_, refl, ap}
+use mathlib.Core.Bool.{true}
 use mathlib.Core.Option.{some}
 use mathlib.Core.List.{List, [], _∷_, _++_}
-use lib.Dec.{leb}
 use lib.ListN.{length}
 use borrow.Author.Tests.{lt-leb}
 use Rattle.tokens.specs.Written.{bytes, same}
 use Rattle.tokens.specs.Bytes.{between, blank, digit, letter, wordy}
 use Rattle.tokens.specs.Tokens.{Tok}
-use Rattle.meaning.specs.Bounds.{nameMost, listMost}
+use Rattle.meaning.specs.Bounds.{listMost}
 use Rattle.meaning.specs.Lists.{has}
 use Rattle.meaning.specs.Reader.{isWord}
 use Rattle.meaning.specs.Names.{reserved, among, isName, find}
 use Rattle.meaning.specs.Document.{listEntry, burst, exec}
 use Rattle.held.proofs.Rest.{moves-takes}
 use Rattle.held.proofs.Grammar.{moves-listed}
-use Rattle.folded.specs.Pieces.{Piece, each, only, closing, lf}
+use Rattle.folded.specs.Pieces.{Piece, only, closing, lf}
 use Rattle.folded.specs.Layout.{burstName, listedPut, burstPut, execPut}
 use Rattle.folded.specs.Same.{wordsOf}
 use Rattle.folded.proofs.Words.{Proper, sign, words}
-use Rattle.folded.proofs.Reading.{Reads, AllFit, Unlike, same-self, reads-bind, reads-as, reads-if, reads-give, reads-due, reads-name, reads-old, reads-until}
+use Rattle.words.proofs.Words.{same-self}
+use Rattle.folded.proofs.Reading.{Reads, AllFit, Unlike, reads-bind, reads-if, reads-give, reads-due, reads-name, reads-old, reads-until}
 use Rattle.folded.proofs.SignalsBack.{proper-word, no-sign}
 
 words-more : (l : List Tok) (t : Tok) → wordsOf (l ++ t ∷ []) ≡ wordsOf l ++ t .word ∷ []

@@ -3,27 +3,25 @@ use Prim.Native.Nat.{ℕ, zero, suc, _+_, _≤_, _<_}
 use native.Mathlib.Nat.{add-suc, suc-add, add-zero}
 use native.Mathlib.Omega.{arith}
 use mathlib.Core.Path.{_≡_, refl, sym, ap, ap₂, _∙_, subst}
-use mathlib.Core.Bool.{Bool, true, false, not, _&&_, _||_}
+use mathlib.Core.Bool.{Bool, true, false, _&&_, _||_}
 use mathlib.Core.Option.{Option, none, some}
-use mathlib.Core.List.{List, [], _∷_, _++_, append-assoc, append-nil}
-use lib.Dec.{leb, ltb, eqb}
-use lib.ListN.{length, getD, length-append}
+use mathlib.Core.List.{List, [], _∷_, _++_}
+use lib.Dec.{leb, eqb}
+use lib.ListN.{length, getD}
 use borrow.Author.Tests.{leb-true, leb-false, eqb-true, eqb-false, eq-eqb, ne-eqb, le-leb, lt-leb}
-use Rattle.tokens.specs.Written.{same}
 use Rattle.tokens.specs.Bytes.{between, digit, letter}
 use Rattle.tokens.specs.Tokens.{Tok}
 use Rattle.meaning.specs.Lists.{has, repeats}
-use Rattle.meaning.specs.Names.{isName}
+use Rattle.meaning.specs.Names.{isName, isSome}
 use Rattle.meaning.specs.Timing.{Event, Wave, waveChar}
 use Rattle.meaning.specs.Meaning.{hasWave}
 use Rattle.meaning.specs.Services.{waveOf}
 use Rattle.folded.specs.Flat.{upFrom, characters, Entries, entriesOf, Chart, chart, chartsFrom}
 use Rattle.folded.proofs.Words.{Proper}
-use Rattle.folded.proofs.Reading.{AllFit, findIn, same-self}
-use Rattle.folded.proofs.SignalsBack.{Directed, singles, singles-more, NewSignal}
-use Rattle.folded.proofs.TimingBack.{FirstFits, wavesIn, wavesIn-more, NewEntry, wavesAll, wavesAll-more, NewChart, or-false}
+use Rattle.folded.proofs.Reading.{AllFit, findIn}
+use Rattle.folded.proofs.TimingBack.{FirstFits, wavesIn, NewEntry, wavesAll, NewChart, or-false}
 use Rattle.folded.specs.Same.{wordsOf}
-use Rattle.folded.proofs.SourceTiming.{SoundWave, AllSound}
+use Rattle.folded.proofs.SourceTiming.{AllSound}
 
 -- ---- numbers one behind the other
 
@@ -97,17 +95,13 @@ wave-++ s c (w ∷ ws) vs = by (eqb (w .signal) s && eqb (w .char) c) (wave-++ s
     by true ih = refl
     by false ih = ih
 
-abbrev pub isIt : {A : Type 0} → Option A → Bool
-isIt none = false
-isIt (some x) = true
-
 -- a character has a waveform where one is found
-pub has-wave : (s c : ℕ) (ws : List Wave) → hasWave s c ws ≡ isIt (waveOf s c ws)
-unfolding waveOf hasWave
+pub has-wave : (s c : ℕ) (ws : List Wave) → hasWave s c ws ≡ isSome (waveOf s c ws)
+unfolding waveOf hasWave isSome
 has-wave s c [] = refl
 has-wave s c (w ∷ ws) = by (eqb (w .signal) s && eqb (w .char) c) (has-wave s c ws)
   where
-    by : (b : Bool) → hasWave s c ws ≡ isIt (waveOf s c ws) → (b || hasWave s c ws) ≡ isIt {A = List Event} (elim b as (λ x. Option (List Event)) [ true ↦ some (w .events) | false ↦ waveOf s c ws ])
+    by : (b : Bool) → hasWave s c ws ≡ isSome (waveOf s c ws) → (b || hasWave s c ws) ≡ isSome {A = List Event} (elim b as (λ x. Option (List Event)) [ true ↦ some (w .events) | false ↦ waveOf s c ws ])
     by true ih = refl
     by false ih = ih
 
@@ -189,6 +183,7 @@ module _ (n s : ℕ) (ws base : List Wave) (sound : AllSound n ws) (free : (c : 
       lookup-more c before (d, es) ∙ rw (h c q, p)
 
   new-entry : (before : Entries) (c : ℕ) (es : List Event) → waveOf s c ws ≡ some es → lookup c before ≡ none → NewEntry base s before (c, es)
+  unfolding isSome
   new-entry before c es e h =
       let w = wave-sound n s c ws sound es e in
       let none-found : waveOf s c (base ++ wavesIn s before) ≡ none = wave-++ s c base (wavesIn s before) ∙ rw (free c, wave-in s c before) h in

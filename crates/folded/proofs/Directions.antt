@@ -1,14 +1,13 @@
 -- The directions that are read back are those that were written.
-use Prim.Native.Nat.{ℕ, zero, suc, _+_}
+use Prim.Native.Nat.{ℕ}
 use native.Mathlib.Omega.{arith}
 use mathlib.Core.Path.{_≡_, refl, sym, ap, ap₂, _∙_, subst}
-use mathlib.Core.Bool.{true, false}
 use mathlib.Core.List.{List, [], _∷_, _++_}
 use lib.ListN.{length}
 use Rattle.tokens.specs.Written.{bytes}
 use Rattle.tokens.specs.Bytes.{blank}
-use Rattle.tokens.specs.Tokens.{Tok, Toks, stop, tok, toks}
-use Rattle.meaning.specs.Reader.{_>>=_, _>>_, dueOf, due, any, while, closed, until}
+use Rattle.tokens.specs.Tokens.{Tok, Toks, tok}
+use Rattle.meaning.specs.Reader.{_>>=_, _>>_, due, closed, until}
 use Rattle.meaning.specs.Names.{dueAmong}
 use Rattle.meaning.specs.Signals.{Names, directions, signal, signals, signalUpTo, signalsUpTo}
 use Rattle.meaning.specs.Meaning.{firsts}

@@ -1,26 +1,26 @@
 -- A folded text is read: its signals, tables, listed names and Patterns are those that were written.
-use Prim.Native.Nat.{ℕ, zero, suc}
-use mathlib.Core.Path.{_≡_, refl, sym, ap, _∙_, subst}
+use Prim.Native.Nat.{ℕ}
+use mathlib.Core.Path.{_≡_, refl, ap, _∙_}
 use mathlib.Core.Bool.{Bool, true, false}
 use mathlib.Core.List.{List, [], _∷_}
 use lib.ListN.{length}
 use Rattle.tokens.specs.Written.{bytes, same}
 use Rattle.tokens.specs.Bytes.{blank}
-use Rattle.tokens.specs.Tokens.{Tok, Toks, tok}
-use Rattle.meaning.specs.Reader.{Res, Reader, ok, _>>=_, give, option, aheadOf, ahead}
+use Rattle.tokens.specs.Tokens.{Tok, Toks}
+use Rattle.meaning.specs.Reader.{Res, ok, _>>=_, option, ahead}
 use Rattle.meaning.specs.Signals.{Names, signals}
-use Rattle.meaning.specs.Timing.{Table, Tables, timing}
+use Rattle.meaning.specs.Timing.{Table, timing}
 use Rattle.meaning.specs.Groups.{groups}
 use Rattle.meaning.specs.Statements.{Env}
 use Rattle.meaning.specs.Document.{macroDefs, procedures, bodies, patterns, Read, document, documentUpTo}
 use Rattle.meaning.proofs.Gives.{bind-go}
 use Rattle.held.proofs.Parts.{firstEnv}
-use Rattle.folded.specs.Pieces.{Piece, each, only, word}
-use Rattle.folded.specs.Flat.{Line, Sheet, Flat}
+use Rattle.folded.specs.Pieces.{Piece, each, word}
+use Rattle.folded.specs.Flat.{Sheet, Flat}
 use Rattle.folded.specs.Layout.{burstName, namesFrom, namedFrom, orOne, namesOf, sheetNames, patternPut, signalsPut, timingPut, burstPut, execPut, pieces}
 use Rattle.folded.specs.Same.{wordsOf}
-use Rattle.folded.proofs.Words.{Before, sign, words}
-use Rattle.folded.proofs.Reading.{Reads, AllFit, SomeFit, Unlike, not-ahead, skipped, reads-bind, reads-by, reads-as, reads-give, reads-due, reads-without, worded}
+use Rattle.folded.proofs.Words.{sign, words}
+use Rattle.folded.proofs.Reading.{Reads, AllFit, SomeFit, Unlike, not-ahead, skipped, reads-bind, reads-give, reads-due, reads-without, worded}
 use Rattle.folded.proofs.SignalsBack.{Directed, singles, NewSignal, reads-signals}
 use Rattle.folded.proofs.TimingBack.{tablesIn, NewSheet, reads-timing}
 use Rattle.folded.proofs.BurstBack.{NewListed, reads-burst, reads-exec}

@@ -1,27 +1,21 @@
 -- What an accepted text is folded to is a flat text that a reader takes.
 use Prim.Native.Nat.{ℕ, zero, suc, _+_, _≤_, _<_, _^_}
-use native.Mathlib.Nat.{zero-add}
 use native.Mathlib.Omega.{arith}
-use mathlib.Core.Path.{_≡_, refl, sym, ap, ap₂, _∙_, subst}
-use mathlib.Core.Bool.{Bool, true, false, _&&_}
-use mathlib.Core.Option.{Option, none, some}
-use mathlib.Core.List.{List, [], _∷_, _++_, append-nil}
-use lib.Dec.{leb, eqb}
+use mathlib.Core.Path.{_≡_, refl, ap, _∙_}
+use mathlib.Core.Bool.{false}
+use mathlib.Core.Option.{none}
+use mathlib.Core.List.{List, [], _∷_, _++_}
 use lib.ListN.{length, replicate, length-append}
 use Rattle.tokens.specs.Written.{bytes, same}
-use Rattle.tokens.specs.Tokens.{Tok, Toks, toks}
 use Rattle.meaning.specs.Bounds.{patternsMost, listMost, loopMost}
-use Rattle.meaning.specs.Names.{isName}
 use Rattle.meaning.specs.Timing.{Table, Tables}
-use Rattle.meaning.specs.Body.{Body}
 use Rattle.meaning.specs.Run.{unassigned}
-use Rattle.folded.specs.Flat.{Row, Line, Stretch, stretches, linesFrom, linesOf}
+use Rattle.folded.specs.Flat.{Row, Line, stretches, linesOf}
 use Rattle.folded.specs.Layout.{burstName, patternName, namesFrom, namedFrom, orOne}
-use Rattle.folded.proofs.Words.{Proper}
 use Rattle.folded.proofs.Reading.{AllFit, SomeFit, findIn}
 use Rattle.folded.proofs.Leaves.{pattern-name, pattern-proper}
 use Rattle.folded.proofs.BurstBack.{NewListed}
-use Rattle.folded.proofs.StatementsBack.{bodyOf, numberedIn, GoodLines}
+use Rattle.folded.proofs.StatementsBack.{numberedIn, GoodLines}
 use Rattle.folded.proofs.PatternsBack.{Named, bodiesOf, NewPattern}
 use Rattle.folded.proofs.RunBack.{other-name}
 use Rattle.folded.proofs.Charts.{Along, Known, Knowns}

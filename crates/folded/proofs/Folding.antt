@@ -1,54 +1,52 @@
 -- A folded text is accepted, and its cycles and waveforms are those of the text that it was folded from.
-use Prim.Native.Nat.{ℕ, zero, suc, _+_, _≤_, _<_, _^_}
+use Prim.Native.Nat.{ℕ, zero, suc, _≤_}
 use native.Mathlib.Omega.{arith}
 use mathlib.Core.Path.{_≡_, refl, sym, ap, ap₂, _∙_, subst}
 use mathlib.Core.Bool.{Bool, true, false, _&&_, _||_}
 use mathlib.Core.Option.{Option, none, some}
-use mathlib.Core.List.{List, [], _∷_, _++_}
-use lib.Dec.{leb, eqb}
+use mathlib.Core.List.{List, [], _∷_}
+use lib.Dec.{eqb}
 use lib.ListN.{length}
-use borrow.Author.Tests.{leb-true, le-leb}
+use borrow.Author.Tests.{le-leb}
 use Rattle.tokens.specs.Written as Written
 use Rattle.tokens.specs.Bytes.{blank}
 use Rattle.tokens.specs.Refusals.{textMost, notHere}
-use Rattle.tokens.specs.Tokens.{Tok, Toks, stop, tok, plain, lex, toks, faultIn, faultOf}
-use Rattle.meaning.specs.Bounds.{patternsMost, listMost, loopMost, sizeMost, cyclesMost}
-use Rattle.meaning.specs.Reader.{ok, due, _>>=_, _>>_}
+use Rattle.tokens.specs.Tokens.{Tok, Toks, stop, toks, faultIn, faultOf}
+use Rattle.meaning.specs.Bounds.{patternsMost, sizeMost, cyclesMost}
+use Rattle.meaning.specs.Reader.{ok}
+use Rattle.meaning.specs.Names.{isSome}
 use Rattle.meaning.specs.Signals.{Names}
-use Rattle.meaning.specs.Timing.{Event, Wave, Table, Tables}
+use Rattle.meaning.specs.Timing.{Wave, Table, Tables}
 use Rattle.meaning.specs.Body.{Body}
 use Rattle.meaning.specs.Document.{Read, document}
 use Rattle.meaning.specs.Run.{Cycle, unassigned, size, cycles, cyclesOf}
 use Rattle.meaning.specs.Refusals.{tooLarge, notPlayable}
 use Rattle.meaning.specs.Meaning.{Answer, given, refused, answering, runOf, hasWave, allWaves, tableAt, playable, firstFailing, firsts, fitting, judged, accept, Meaning, meaning}
 use Rattle.meaning.specs.Services.{waveOf}
-use Rattle.meaning.proofs.Gives.{bind-ok}
-use Rattle.meaning.proofs.Unplaced.{unplaced}
-use Rattle.held.proofs.Due.{due-is}
-use Rattle.held.proofs.Parts.{Parts, parts as doc-parts}
+use Rattle.held.proofs.Parts.{parts as doc-parts}
 use Rattle.meaning.proofs.Rows.{rows-are-cycles}
-use Rattle.folded.specs.Flat.{Row, rowOf, rowsOf, directed, Chart, Sheet, sheets, chartsFrom, listedRows, partedAll, linesOf, patternsOf, flat, Flat}
-use Rattle.folded.specs.Layout.{namesOf, sheetNames, namesFrom, signalPut, signalsPut, pieces, written}
+use Rattle.folded.specs.Flat.{Row, rowsOf, directed, Chart, Sheet, sheets, chartsFrom, listedRows, partedAll, linesOf, patternsOf, flat}
+use Rattle.folded.specs.Layout.{namesOf, sheetNames, signalsPut, pieces, written}
 use Rattle.folded.specs.Fold.{foldedMost}
 use Rattle.folded.specs.Same.{wordsOf, periodsOf, placeless}
-use Rattle.folded.proofs.Words.{words, sign, Before, Spells, spells, no-fault}
-use Rattle.folded.proofs.Reading.{AllFit, SomeFit, worded, worded-length}
+use Rattle.folded.proofs.Words.{words, sign, Spells, spells, no-fault}
+use Rattle.folded.proofs.Reading.{SomeFit, worded, worded-length}
 use Rattle.folded.proofs.SignalsBack.{Directed, singles, singles-length, NewSignal}
-use Rattle.folded.proofs.TimingBack.{wavesAll, tablesIn, NewSheet}
+use Rattle.folded.proofs.TimingBack.{tablesIn, NewSheet}
 use Rattle.folded.proofs.BurstBack.{words-length}
 use Rattle.folded.proofs.DocumentBack.{behindSignals, GoodFlat, ReadBack, reads-document}
 use Rattle.folded.proofs.GoodPieces.{each-fits, good-pieces}
-use Rattle.folded.proofs.SourceTiming.{AllSound, TableFits}
-use Rattle.folded.proofs.Charts.{Knowns, isIt, has-wave, charts-same}
+use Rattle.folded.proofs.SourceTiming.{TableFits}
+use Rattle.folded.proofs.Charts.{Knowns, has-wave, charts-same}
 use Rattle.folded.proofs.Sheets.{signals-known, sheets-good, tables-known}
 use Rattle.folded.specs.Shapes.{concat, Begins}
 use Rattle.folded.proofs.Stretches.{All, parted-all, parted-steady}
 use Rattle.folded.proofs.PlayBack.{cycleOf, cyclesFor, runBack, run-played}
 use Rattle.folded.proofs.RunBack.{RunIs, run-back, placeless-rows, placeless-cycles, unplaced-size}
-use Rattle.folded.proofs.GoodRows.{GoodRow, SoundTables, tables-sound, table-sound, rows-fair}
+use Rattle.folded.proofs.GoodRows.{GoodRow, SoundTables, tables-sound, rows-fair}
 use Rattle.folded.proofs.FlatGood.{listed-new, patterns-good, all-lines, lines-length}
 use Rattle.folded.proofs.Sizes.{run-fits}
-use Rattle.folded.proofs.Source.{Source, source, length-firsts, at-signals}
+use Rattle.folded.proofs.Source.{Source, length-firsts, at-signals}
 use Rattle.folded.proofs.Directions.{signals-took, directions-read, behind-version}
 use Rattle.folded.proofs.Again.{charts-alike, parted-again, run-listed}
 
@@ -95,7 +93,7 @@ waves-same : (s : ℕ) (pins : List ℕ) (ws vs : List Wave) → ((s c : ℕ) �
 unfolding allWaves
 waves-same s [] ws vs h = refl
 waves-same s (c ∷ pins) ws vs h =
-    let k : hasWave s c ws ≡ hasWave s c vs = has-wave s c ws ∙ ap isIt (h s c) ∙ sym (has-wave s c vs) in
+    let k : hasWave s c ws ≡ hasWave s c vs = has-wave s c ws ∙ ap isSome (h s c) ∙ sym (has-wave s c vs) in
     ap₂ (λ (a b : Bool). (eqb c unassigned || a) && b) k (waves-same (suc s) pins ws vs h)
 
 -- the tables that are read have the waveforms of those that were written

@@ -1,12 +1,11 @@
 -- The pieces of a flat text that a reader takes: each word is one, and no byte behind it belongs to it.
-use Prim.Native.Nat.{ℕ, zero, suc}
+use Prim.Native.Nat.{ℕ}
 use native.Mathlib.Omega.{arith}
 use mathlib.Core.Path.{_≡_, refl, sym, ap, _∙_, subst}
 use mathlib.Core.Bool.{Bool, true, false, _&&_, _||_}
 use mathlib.Core.Option.{Option, none, some}
 use mathlib.Core.List.{List, [], _∷_, _++_}
 use lib.Dec.{leb, eqb}
-use lib.ListN.{length}
 use borrow.Author.Tests.{eqb-true}
 use Rattle.tokens.specs.Written.{bytes, same}
 use Rattle.tokens.specs.Bytes.{between, blank, allowed, digit, letter, wordy}
@@ -18,7 +17,7 @@ use Rattle.meaning.specs.Body.{Assigns}
 use Rattle.meaning.proofs.Others.{same-is}
 use Rattle.folded.specs.Pieces.{Piece, word, only, each, lf, space, quote, semicolon, equals, opening, closing}
 use Rattle.folded.specs.Flat.{Entries, Chart, Sheet, Line, chooses, repeats, Flat}
-use Rattle.folded.specs.Layout.{timed, signalPut, signalsPut, eventPut, entryPut, chartPut, sheetPut, timingPut, burstName, listedPut, burstPut, execPut, valuePut, vectorPut, linePut, patternPut, namesFrom, namedFrom, orOne, namesOf, sheetNames, pieces}
+use Rattle.folded.specs.Layout.{signalPut, signalsPut, eventPut, entryPut, chartPut, sheetPut, timingPut, burstName, listedPut, burstPut, execPut, valuePut, vectorPut, linePut, patternPut, namedFrom, orOne, namesOf, sheetNames, pieces}
 use Rattle.pages.specs.Pages.{decimal}
 use Rattle.folded.proofs.Words.{AllWordy, Proper, Apart, Good}
 use Rattle.folded.proofs.Reading.{AllFit, SomeFit}

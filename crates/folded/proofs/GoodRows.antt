@@ -3,17 +3,16 @@ use Prim.Native.Nat.{ℕ, zero, suc, _+_, _≤_, _<_}
 use native.Mathlib.Nat.{zero-add}
 use native.Mathlib.Omega.{arith}
 use mathlib.Core.Path.{_≡_, refl, sym, ap, ap₂, _∙_, subst}
-use mathlib.Core.Bool.{Bool, true, false, not, _&&_, _||_}
+use mathlib.Core.Bool.{Bool, true, false, _&&_, _||_}
 use mathlib.Core.Option.{Option, none, some}
 use mathlib.Core.List.{List, [], _∷_, _++_}
-use lib.Dec.{leb, eqb}
-use lib.ListN.{length, getD, length-append}
-use borrow.Author.Tests.{eqb-true, eqb-false, eq-eqb, ne-eqb}
+use lib.Dec.{eqb}
+use lib.ListN.{length}
+use borrow.Author.Tests.{eqb-true, ne-eqb}
 use Rattle.tokens.specs.Bytes.{between, digit, letter}
-use Rattle.tokens.specs.Tokens.{Tok}
 use Rattle.meaning.specs.Bounds.{loopMost}
 use Rattle.meaning.specs.Lists.{has}
-use Rattle.meaning.specs.Names.{isName}
+use Rattle.meaning.specs.Names.{isSome}
 use Rattle.meaning.specs.Timing.{Event, Wave, Table, Tables, waveChar}
 use Rattle.meaning.specs.Body.{Assigns, mark}
 use Rattle.meaning.specs.Data.{assigned}
@@ -21,9 +20,8 @@ use Rattle.meaning.specs.Run.{Cycle, unassigned}
 use Rattle.meaning.specs.Meaning.{hasWave, allWaves, tableAt, playable, firstFailing}
 use Rattle.meaning.specs.Services.{waveOf}
 use Rattle.meaning.proofs.Rows.{AllWide}
-use Rattle.folded.specs.Flat.{Row, tableOf, rowOf, rowsOf, Stretch, Line, chooses, repeats, valued, choosing, linesFrom}
+use Rattle.folded.specs.Flat.{Row, tableOf, rowOf, rowsOf, Stretch, Line, chooses, valued, choosing, linesFrom}
 use Rattle.folded.specs.Layout.{nameAt}
-use Rattle.folded.proofs.Words.{Proper}
 use Rattle.folded.proofs.Reading.{AllFit, findIn}
 use Rattle.folded.proofs.SourceTiming.{AllSound, TableFits}
 use Rattle.folded.proofs.SourceRows.{AllLow}
@@ -78,6 +76,7 @@ no-mark c h = by (eqb c mark) refl
 
 -- a character that has a waveform is one
 wave-char : (n s c : ℕ) (ws : List Wave) → AllSound n ws → hasWave s c ws ≡ true → waveChar c ≡ true
+unfolding isSome
 wave-char n s c ws g h = by (waveOf s c ws) refl
   where
     by : (o : Option (List Event)) → waveOf s c ws ≡ o → waveChar c ≡ true

@@ -1,36 +1,31 @@
 -- Patterns, and with them a whole folded text, read back.
-use Prim.Native.Nat.{ℕ, zero, suc, _≤_, _<_}
+use Prim.Native.Nat.{ℕ, suc, _<_}
 use native.Mathlib.Omega.{arith}
-use mathlib.Core.Path.{_≡_, refl, sym, ap, _∙_, subst}
+use mathlib.Core.Path.{_≡_, refl, sym, ap, _∙_}
 use mathlib.Core.Bool.{Bool, true, false, not}
 use mathlib.Core.Option.{Option, none, some}
 use mathlib.Core.List.{List, [], _∷_, _++_}
-use lib.Dec.{leb}
 use lib.ListN.{length}
 use borrow.Author.Tests.{lt-leb}
 use Rattle.tokens.specs.Written.{bytes, same}
 use Rattle.tokens.specs.Bytes.{blank}
-use Rattle.tokens.specs.Tokens.{Tok, Toks, stop, tok}
+use Rattle.tokens.specs.Tokens.{Tok, Toks}
 use Rattle.meaning.specs.Bounds.{depthMost, patternsMost}
-use Rattle.meaning.specs.Reader.{Reader, _>>=_, give, option, ahead}
+use Rattle.meaning.specs.Reader.{_>>=_, give}
 use Rattle.meaning.specs.Names.{isName, find}
-use Rattle.meaning.specs.Signals.{Names}
-use Rattle.meaning.specs.Groups.{groups}
-use Rattle.meaning.specs.Timing.{Table, Tables}
+use Rattle.meaning.specs.Timing.{Table}
 use Rattle.meaning.specs.Body.{Body}
 use Rattle.meaning.specs.Statements.{Decl, Decls, Env, statements, declared}
-use Rattle.meaning.specs.Document.{macroDefs, procedures, bodies, besides, pattern, over, patterns, Read, document}
+use Rattle.meaning.specs.Document.{besides, pattern, over, patterns}
 use Rattle.meaning.proofs.Unplaced.{unplaced}
 use Rattle.held.proofs.Rest.{moves-takes}
 use Rattle.held.proofs.Grammar.{moves-pattern}
-use Rattle.held.proofs.Parts.{firstEnv}
-use Rattle.folded.specs.Pieces.{Piece, each, only, word, closing, lf}
-use Rattle.folded.specs.Flat.{Line, Sheet, Flat}
-use Rattle.folded.specs.Layout.{burstName, namesFrom, namedFrom, orOne, namesOf, sheetNames, patternPut, signalsPut, timingPut, burstPut, execPut, pieces}
+use Rattle.folded.specs.Pieces.{Piece, each, only, word, lf}
+use Rattle.folded.specs.Flat.{Line}
+use Rattle.folded.specs.Layout.{burstName, patternPut}
 use Rattle.folded.proofs.Words.{Before, Proper, sign, words}
-use Rattle.folded.proofs.Reading.{Reads, AllFit, reads-bind, reads-by, reads-as, reads-if, reads-give, reads-due, reads-new, reads-without, reads-while, worded, findIn}
-use Rattle.folded.proofs.SignalsBack.{proper-word, Directed, singles, NewSignal, reads-signals}
-use Rattle.folded.proofs.TimingBack.{tablesIn, NewSheet, reads-timing}
+use Rattle.folded.proofs.Reading.{Reads, AllFit, reads-bind, reads-if, reads-give, reads-due, reads-new, reads-while, worded, findIn}
+use Rattle.folded.proofs.SignalsBack.{proper-word}
 use Rattle.folded.proofs.StatementsBack.{bodyOf, GoodLines, reads-statements}
 
 -- ---- declared bodies without places

@@ -1,18 +1,18 @@
 -- What the statements of a Pattern play: the rows that they were written for.
-use Prim.Native.Nat.{ℕ, zero, suc, _+_, _≤_, _<_}
+use Prim.Native.Nat.{ℕ, zero, suc, _≤_}
 use native.Mathlib.Omega.{arith}
-use mathlib.Core.Path.{_≡_, refl, sym, ap, ap₂, _∙_, subst}
+use mathlib.Core.Path.{_≡_, refl, sym, ap, ap₂, _∙_}
 use mathlib.Core.Bool.{Bool, true, false, not, _&&_, _||_}
 use mathlib.Core.Option.{Option, none, some}
-use mathlib.Core.List.{List, [], _∷_, _++_, append-assoc, append-nil}
+use mathlib.Core.List.{List, [], _∷_, _++_, append-assoc}
 use lib.Dec.{leb, eqb}
 use lib.ListN.{length, set, replicate, length-append, length-replicate}
-use borrow.Author.Tests.{leb-true, leb-false, eqb-true, eqb-false}
-use Rattle.meaning.specs.Body.{Assigns, Args, mark, listed, looped, entered, Body, done, vec, set′, inner}
+use borrow.Author.Tests.{leb-false, eqb-true}
+use Rattle.meaning.specs.Body.{Assigns, Args, mark, listed, looped, entered, Body, done, vec, inner}
 use Rattle.meaning.specs.Run.{State, Cycle, Played, unassigned, put, puts, changed, cycleAt, follow, again, bare, entering, playing, play, shiftOf, start, cyclesOf}
 use Rattle.folded.specs.Flat.{Row, loses, Stretch, stretches, Line, chooses, repeats, valued, choosing, linesFrom, linesOf}
 use Rattle.folded.proofs.StatementsBack.{bodyOf}
-use Rattle.folded.specs.Shapes.{concat, Steady, Begins, expand}
+use Rattle.folded.specs.Shapes.{concat, Begins, expand}
 use Rattle.folded.proofs.Stretches.{All, all-front, all-back, begins-steady, self-loses, stretched-rows, Stepping, stretches-step, stretches-all}
 
 -- ---- one row's values, put

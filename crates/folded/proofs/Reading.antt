@@ -1,20 +1,19 @@
 -- What a reader makes of known words: it answers something with P, and leaves the words behind.
-use Prim.Native.Nat.{ℕ, zero, suc}
+use Prim.Native.Nat.{ℕ, suc}
 use Prim.Native.String.{String}
 use mathlib.Core.Path.{_≡_, refl, sym, ap, _∙_, subst}
-use native.Mathlib.Omega.{arith}
 use mathlib.Core.Bool.{Bool, true, false, not, _&&_}
 use mathlib.Core.Option.{Option, none, some}
 use mathlib.Core.List.{List, [], _∷_, _++_, append-assoc, append-nil}
-use lib.Dec.{leb, eqb}
+use lib.Dec.{leb}
 use lib.ListN.{length}
-use borrow.Author.Tests.{eq-eqb}
 use Rattle.tokens.specs.Written.{bytes, same}
-use Rattle.tokens.specs.Tokens.{Tok, Toks, stop, tok}
-use Rattle.meaning.specs.Reader.{Res, Reader, ok, refuse, after, _>>=_, _>>_, give, refuseIf, any, aheadOf, ahead, dueOf, due, oneOf, choose, isWord, word, ifAhead, option, while, closed, until}
+use Rattle.tokens.specs.Tokens.{Tok, Toks}
+use Rattle.meaning.specs.Reader.{Res, Reader, ok, after, _>>=_, _>>_, give, refuseIf, any, aheadOf, ahead, dueOf, isWord, word, ifAhead, option, while, closed, until}
 use Rattle.meaning.specs.Names.{among, isName, name, dueAmong, find, isSome, newName, known, oldName, number, within, numberIn}
 use Rattle.meaning.proofs.Gives.{bind-go}
 use Rattle.meaning.proofs.Takes.{Takes, while-done, while-on}
+use Rattle.words.proofs.Words.{same-self}
 use Rattle.folded.specs.Pieces.{Piece, each}
 use Rattle.folded.proofs.Words.{words, Before}
 
@@ -57,11 +56,6 @@ pub reads-as : {A : Type 0} {P Q : A → Type 0} {m : Reader A} {ws vs : List (L
 reads-as g f = record { all = λ ts us h. (let i = f .all ts us h in (i .0, i .1, i .2, i .3, g (i .0) (i .4))) }
 
 -- ---- one word
-
-pub same-self : (w : List ℕ) → same w w ≡ true
-unfolding same
-same-self [] = refl
-same-self (a ∷ w) = rw (eq-eqb a a refl) (same-self w)
 
 pub reads-any : (w : List ℕ) (ws : List (List ℕ)) → Reads any (w ∷ ws) ws (λ t. t .word ≡ w)
 unfolding any

@@ -1,5 +1,5 @@
 -- The run of a folded text that was read: the Patterns that were written, one after the other, but for places; and the cycles without places.
-use Prim.Native.Nat.{ℕ, zero, suc, _+_, _≤_, _<_, _^_}
+use Prim.Native.Nat.{ℕ, zero, suc, _+_, _<_, _^_}
 use native.Mathlib.Omega.{arith}
 use mathlib.Core.Path.{_≡_, refl, sym, ap, ap₂, _∙_, subst}
 use mathlib.Core.Bool.{Bool, true, false}
@@ -19,7 +19,8 @@ use Rattle.meaning.proofs.Unplaced.{unplaced}
 use Rattle.folded.specs.Flat.{Row, Line}
 use Rattle.folded.specs.Layout.{patternName, namesFrom, namedFrom, orOne}
 use Rattle.folded.specs.Same.{wordsOf, placeless}
-use Rattle.folded.proofs.Reading.{findIn, same-self}
+use Rattle.words.proofs.Words.{same-self}
+use Rattle.folded.proofs.Reading.{findIn}
 use Rattle.folded.proofs.Leaves.{pattern-apart}
 use Rattle.folded.proofs.StatementsBack.{bodyOf}
 use Rattle.folded.proofs.PatternsBack.{bodied, bodiesOf}

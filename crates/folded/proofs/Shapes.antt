@@ -1,13 +1,12 @@
 -- Rows are parted as the request says: THE LAWS of Patterns and of stretches.
-use Prim.Native.Nat.{ℕ, zero, suc, _≤_}
+use Prim.Native.Nat.{ℕ, suc}
 use native.Mathlib.Omega.{arith}
-use mathlib.Core.Path.{_≡_, refl, sym, ap, _∙_, subst}
+use mathlib.Core.Path.{_≡_, refl, ap}
 use mathlib.Core.Bool.{Bool, true, false}
-use mathlib.Core.List.{List, [], _∷_, _++_}
-use lib.Dec.{eqb}
-use Rattle.folded.specs.Flat.{Row, sameRow, loses, breaks, onto, parted, Stretch, longer, stretches}
+use mathlib.Core.List.{List, [], _∷_}
+use Rattle.folded.specs.Flat.{Row, sameRow, breaks, onto, parted, Stretch, longer, stretches}
 use Rattle.folded.specs.Shapes.{concat, Steady, Begins, Border, Parted, expand, Longest}
-use Rattle.folded.proofs.Stretches.{parted-rows, steady-joined, stretched-rows, row-is}
+use Rattle.folded.proofs.Stretches.{parted-rows, steady-joined, stretched-rows}
 
 -- ---- Patterns
 

@@ -1,27 +1,26 @@
 -- The signals and tables of an accepted text as they are written: names that stand for their numbers, tables that may be written.
-use Prim.Native.Nat.{ℕ, zero, suc, _+_, _≤_, _<_}
+use Prim.Native.Nat.{ℕ, suc, _+_}
 use native.Mathlib.Nat.{zero-add, add-zero, add-suc, suc-add}
 use native.Mathlib.Omega.{arith}
-use mathlib.Core.Path.{_≡_, refl, sym, ap, ap₂, _∙_, subst}
+use mathlib.Core.Path.{_≡_, refl, ap, _∙_, subst}
 use mathlib.Core.Bool.{Bool, true, false}
 use mathlib.Core.Option.{Option, none, some}
-use mathlib.Core.List.{List, [], _∷_, _++_, append-assoc, append-nil}
+use mathlib.Core.List.{List, [], _∷_, _++_, append-assoc}
 use lib.ListN.{length, length-append}
 use Rattle.tokens.specs.Written.{same}
 use Rattle.tokens.specs.Tokens.{Tok}
 use Rattle.meaning.specs.Names.{find}
-use Rattle.meaning.specs.Timing.{Wave, Table, Tables}
-use Rattle.meaning.specs.Services.{waveOf}
-use Rattle.meaning.specs.Meaning.{tableAt}
-use Rattle.folded.specs.Flat.{directed, Sheet, sheets, chartsFrom}
+use Rattle.meaning.specs.Timing.{Table, Tables}
+use Rattle.folded.specs.Flat.{Sheet, sheets, chartsFrom}
 use Rattle.folded.specs.Layout.{namesOf, sheetNames}
-use Rattle.folded.proofs.Reading.{AllFit, SomeFit, findIn, same-self, worded}
+use Rattle.words.proofs.Words.{same-self}
+use Rattle.folded.proofs.Reading.{AllFit, SomeFit, findIn}
 use Rattle.folded.proofs.SignalsBack.{Directed, singles, NewSignal}
 use Rattle.folded.proofs.TimingBack.{wavesAll, tablesIn, tablesIn-length, NewSheet}
 use Rattle.folded.proofs.StatementsBack.{numberedIn}
 use Rattle.folded.specs.Same.{wordsOf}
-use Rattle.folded.proofs.SourceTiming.{AllSound, TableFits}
-use Rattle.folded.proofs.Charts.{Along, Known, Knowns, charts-new, charts-same}
+use Rattle.folded.proofs.SourceTiming.{TableFits}
+use Rattle.folded.proofs.Charts.{Along, Known, Knowns, charts-new}
 
 -- ---- names that stand for their numbers
 

@@ -1,14 +1,13 @@
 -- The run of a folded text is no larger than the text has bytes.
-use Prim.Native.Nat.{ℕ, zero, suc, _+_, _≤_, _<_}
+use Prim.Native.Nat.{ℕ, suc, _+_, _≤_}
 use native.Mathlib.Omega.{arith}
-use mathlib.Core.Path.{_≡_, refl, sym, ap, _∙_, subst}
 use mathlib.Core.Bool.{Bool, true, false}
-use mathlib.Core.List.{List, [], _∷_, _++_}
+use mathlib.Core.List.{List, [], _∷_}
 use lib.Dec.{leb}
 use lib.ListN.{length, getD, length-append}
 use Rattle.tokens.specs.Written.{bytes}
 use Rattle.meaning.specs.Timing.{Event}
-use Rattle.meaning.specs.Body.{Assigns, looped, Body, done, vec, set′, inner}
+use Rattle.meaning.specs.Body.{Assigns, looped, Body, done, vec, inner}
 use Rattle.meaning.specs.Run.{size}
 use Rattle.pages.specs.Pages.{decimal}
 use Rattle.folded.specs.Pieces.{Piece, word, only, laid, each, lf, space, opening, closing}

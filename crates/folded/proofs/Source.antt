@@ -1,27 +1,25 @@
 -- All that an accepted text tells of what is written: names, tables, rows.
-use Prim.Native.Nat.{ℕ, zero, suc, _+_, _≤_, _<_}
-use native.Mathlib.Omega.{arith}
-use mathlib.Core.Path.{_≡_, refl, sym, ap, ap₂, _∙_, subst}
+use Prim.Native.Nat.{ℕ, suc}
+use mathlib.Core.Path.{_≡_, refl, sym, ap, _∙_, subst}
 use mathlib.Core.Option.{none}
 use mathlib.Core.List.{List, [], _∷_, _++_, append-nil}
 use lib.ListN.{length}
 use Rattle.tokens.specs.Tokens.{Tok, Toks, toks}
-use Rattle.meaning.specs.Reader.{Reader, ok, give, option}
-use Rattle.meaning.specs.Signals.{Names, signals}
+use Rattle.meaning.specs.Reader.{ok, give}
+use Rattle.meaning.specs.Signals.{signals}
 use Rattle.meaning.specs.Groups.{groups}
-use Rattle.meaning.specs.Timing.{Tables}
-use Rattle.meaning.specs.Body.{listed, entered, Body, done, inner}
+use Rattle.meaning.specs.Body.{listed, entered, Body, inner}
 use Rattle.meaning.specs.Document.{Read}
 use Rattle.meaning.specs.Run.{Cycle, entering, follow, playing, play, shiftOf, start, cyclesOf}
 use Rattle.meaning.specs.Meaning.{given, firstFailing, firsts, Meaning, meaning}
 use Rattle.meaning.specs.Edited.{alone}
 use Rattle.meaning.proofs.Gives.{bind-go}
 use Rattle.meaning.proofs.Rows.{every-cycle-wide}
-use Rattle.meaning.proofs.Accepted.{Accepted, accepted}
+use Rattle.meaning.proofs.Accepted.{accepted}
 use Rattle.meaning.proofs.Everywhere.{Every, Runs, no-more, one-more, runs}
 use Rattle.held.proofs.Rest.{moving, moves-leaves, moves-bind, moves-due, leaves-option}
 use Rattle.held.proofs.Grammar.{moves-signals, moves-groups}
-use Rattle.held.proofs.Parts.{firstEnv, Parts, parts}
+use Rattle.held.proofs.Parts.{Parts, parts}
 use Rattle.held.proofs.Places.{Stream, rest-stream}
 use Rattle.signals.specs.Names.{front}
 use Rattle.signals.proofs.Tidy.{Declared, declared-front}

@@ -1,25 +1,22 @@
 -- The cycles of an accepted text: each has a table, one of the text's, and as many pins as there are signals, whose characters have waveforms there.
-use Prim.Native.Nat.{ℕ, zero, suc, _+_, _≤_, _<_}
+use Prim.Native.Nat.{ℕ, zero, suc, _+_, _<_}
 use native.Mathlib.Omega.{arith}
-use mathlib.Core.Path.{_≡_, refl, sym, ap, ap₂, _∙_, subst}
-use mathlib.Core.Bool.{Bool, true, false, not, _&&_, _||_}
+use mathlib.Core.Path.{_≡_, refl, sym, _∙_, subst}
+use mathlib.Core.Bool.{Bool, true, false}
 use mathlib.Core.Option.{Option, none, some}
 use mathlib.Core.List.{List, [], _∷_, _++_}
-use lib.Dec.{leb, eqb}
-use lib.ListN.{length, length-append}
-use borrow.Author.Tests.{eqb-true}
+use lib.Dec.{eqb}
+use lib.ListN.{length}
 use Rattle.tokens.specs.Written.{same}
 use Rattle.tokens.specs.Tokens.{Tok, Toks}
 use Rattle.meaning.specs.Bounds.{depthMost}
-use Rattle.meaning.specs.Reader.{Reader}
 use Rattle.meaning.specs.Names.{find, oldName}
 use Rattle.meaning.specs.Signals.{Names}
-use Rattle.meaning.specs.Timing.{Wave, Tables, waveChar}
+use Rattle.meaning.specs.Timing.{Tables}
 use Rattle.meaning.specs.Body.{Assigns, Args, mark, Setting, assigning, choosing, Kind, macro, procedure, listed, Way, looped, shifted, entered, Body, done, vec, set′, inner}
 use Rattle.meaning.specs.Statements.{Decl, Decls, Env, numbered, Head, ends, vecs, sets, loops, shifts, uses, used, chosen, looping, shiftHead, head, statements}
-use Rattle.meaning.specs.Document.{oneBody, oneMacro, oneProcedure, bodies, pattern, patterns}
-use Rattle.meaning.specs.Run.{State, Cycle, Played, unassigned, turnsOf, shiftOf, put, puts, changed, cycleAt, follow, again, entering, playing, play, start, cyclesOf}
-use Rattle.meaning.specs.Meaning.{hasWave, allWaves, tableAt, playable, firstFailing}
+use Rattle.meaning.specs.Document.{oneMacro, oneProcedure, bodies, pattern, patterns}
+use Rattle.meaning.specs.Run.{State, Cycle, Played, shiftOf, put, puts, changed, cycleAt, follow, again, entering, playing, play, start, cyclesOf}
 use Rattle.meaning.proofs.Gives.{known-ok, Gives, gives-bind, gives-after, gives-give, gives-choose}
 use Rattle.meaning.proofs.Choices.{_also_}
 use Rattle.meaning.proofs.Statements.{Kept, Deeper, gives-statements}

@@ -1,31 +1,32 @@
 -- What a text that was read tells of its tables: names, periods, and waveforms of its signals whose events may be written again.
-use Prim.Native.Nat.{ℕ, zero, suc, _+_, _≤_, _<_}
+use Prim.Native.Nat.{ℕ, zero, suc, _≤_, _<_}
 use native.Mathlib.Omega.{arith}
-use mathlib.Core.Path.{_≡_, refl, sym, ap, _∙_, subst}
-use mathlib.Core.Bool.{Bool, true, false, not, _&&_, _||_}
+use mathlib.Core.Path.{_≡_, refl, subst}
+use mathlib.Core.Bool.{Bool, true, false, _&&_, _||_}
 use mathlib.Core.Option.{Option, none, some}
 use mathlib.Core.List.{List, [], _∷_, _++_}
-use lib.Dec.{leb, eqb}
+use lib.Dec.{leb}
 use lib.ListN.{length, length-append}
 use borrow.Author.Tests.{leb-true, leb-false}
 use Rattle.tokens.specs.Written.{bytes, same}
-use Rattle.tokens.specs.Tokens.{Tok, Toks, tok}
+use Rattle.tokens.specs.Tokens.{Tok, Toks}
 use Rattle.meaning.specs.Bounds.{entryMost, tablesMost, timeMost}
-use Rattle.meaning.specs.Reader.{Res, Reader, ok, refuse, _>>=_, aheadOf, ahead, due, word}
-use Rattle.meaning.specs.Names.{isName, find, known, oldName, within}
+use Rattle.meaning.specs.Reader.{Res, ok, refuse, _>>=_, aheadOf, ahead, due, word}
+use Rattle.meaning.specs.Names.{isName, find, oldName, within}
 use Rattle.meaning.specs.Signals.{Names}
-use Rattle.meaning.specs.Timing.{Event, Wave, Table, Tables, picoseconds, quoted, drives, compares, eventLetter, letterDue, alternative, letters, spread, rises, addEvents, Events, oneEvent, event, waveChar, allChars, blanks, wavesOf, wavesFor, entry, waveforms, table, timing}
+use Rattle.meaning.specs.Timing.{Event, Wave, Table, Tables, quoted, drives, compares, eventLetter, letterDue, alternative, letters, spread, rises, addEvents, Events, oneEvent, event, waveChar, allChars, blanks, wavesOf, wavesFor, entry, waveforms, table, timing}
 use Rattle.meaning.specs.Refusals.{tooMany}
 use Rattle.meaning.proofs.Gives.{bind-ok, known-ok, no-not}
 use Rattle.held.proofs.Rest.{moves-leaves, moves-due}
-use Rattle.held.proofs.Grammar.{moves-quoted, moves-table}
+use Rattle.held.proofs.Grammar.{moves-table}
 use Rattle.held.proofs.Leads.{Leads, leads-bind, leads-give, leads-if, leads-while, leads-until}
-use Rattle.held.proofs.Due.{any-is, due-is}
+use Rattle.held.proofs.Due.{due-is}
 use Rattle.held.proofs.Places.{Stream, rest-stream}
 use Rattle.sets.proofs.Tidy.{TidyBelow, bare, next}
 use Rattle.signals.specs.Names.{AllTidy, none as no-more, more}
 use Rattle.folded.proofs.Words.{Proper}
-use Rattle.folded.proofs.Reading.{AllFit, SomeFit, same-self}
+use Rattle.words.proofs.Words.{same-self}
+use Rattle.folded.proofs.Reading.{AllFit, SomeFit}
 use Rattle.folded.proofs.TimingBack.{NewEvent, FirstFits}
 use Rattle.folded.proofs.Sources.{new-reads, fit-more}
 

@@ -1,28 +1,27 @@
 -- What a text that was read tells of its names: they are words of the text, names, and no two of a kind are the same; and each signal has a direction behind it.
-use Prim.Native.Nat.{ℕ, zero, suc, _+_, _≤_, _<_}
+use Prim.Native.Nat.{ℕ, suc, _+_, _<_}
 use native.Mathlib.Omega.{arith}
 use mathlib.Core.Path.{_≡_, refl, sym, ap, _∙_, subst}
-use mathlib.Core.Bool.{Bool, true, false, not, _||_}
+use mathlib.Core.Bool.{Bool, true, false}
 use mathlib.Core.Option.{Option, none, some}
 use mathlib.Core.List.{List, [], _∷_, _++_, append-assoc, append-nil}
-use lib.Dec.{leb}
 use lib.ListN.{length, drop, length-append}
 use borrow.Author.Tests.{leb-false}
 use Rattle.tokens.specs.Written.{same}
 use Rattle.tokens.specs.Bytes.{wordy}
-use Rattle.tokens.specs.Tokens.{Tok, Toks, stop, tok, plain, run, lex, toks}
+use Rattle.tokens.specs.Tokens.{Tok, Toks, tok, run, toks}
 use Rattle.tokens.proofs.Laws.{unfolds}
 use Rattle.meaning.specs.Bounds.{signalsMost}
-use Rattle.meaning.specs.Reader.{Reader, ok, any, isWord, word}
+use Rattle.meaning.specs.Reader.{isWord, word}
 use Rattle.meaning.specs.Names.{among, isName, name, dueAmong, find, isSome, newName}
 use Rattle.meaning.specs.Signals.{Names, directions, signal, signals, signalUpTo, signalsUpTo}
 use Rattle.meaning.specs.Meaning.{firsts}
 use Rattle.meaning.proofs.Gives.{no-not}
 use Rattle.meaning.proofs.SameTokens.{stands-there, word-run}
-use Rattle.held.proofs.Rest.{Rest, moves-leaves, moves-due}
+use Rattle.held.proofs.Rest.{moves-leaves, moves-due}
 use Rattle.held.proofs.Grammar.{moves-signal}
 use Rattle.held.proofs.Leads.{Leads, leads-bind, leads-give, leads-if, leads-until}
-use Rattle.held.proofs.Due.{any-is, new-is}
+use Rattle.held.proofs.Due.{any-is}
 use Rattle.held.proofs.Places.{Stream, rest-stream}
 use Rattle.folded.specs.Flat.{firstWord, direction, directed}
 use Rattle.folded.proofs.Words.{AllWordy, Proper}

@@ -1,24 +1,22 @@
 -- The statements of a Pattern, as written, read back: the body that they stand for, but for the places of its V's.
-use Prim.Native.Nat.{ℕ, zero, suc, _≤_, _<_}
+use Prim.Native.Nat.{ℕ, suc, _≤_}
 use Prim.Native.String.{String}
 use native.Mathlib.Omega.{arith}
-use mathlib.Core.Path.{_≡_, refl, sym, ap, ap₂, _∙_, subst}
-use mathlib.Core.Bool.{Bool, true, false, not, _&&_, _||_}
-use mathlib.Core.Option.{Option, none, some}
+use mathlib.Core.Path.{_≡_, refl, ap, ap₂, _∙_}
+use mathlib.Core.Bool.{Bool, true, false, not, _||_}
+use mathlib.Core.Option.{some}
 use mathlib.Core.List.{List, [], _∷_, _++_}
-use lib.Dec.{leb, eqb}
-use lib.ListN.{length}
+use lib.Dec.{leb}
 use borrow.Author.Tests.{lt-leb, le-leb}
 use Rattle.tokens.specs.Written.{bytes, same}
 use Rattle.tokens.specs.Bytes.{between, blank, digit, letter, wordy}
 use Rattle.tokens.specs.Tokens.{Tok, Toks}
 use Rattle.meaning.specs.Bounds.{loopMost}
 use Rattle.meaning.specs.Lists.{has, meets}
-use Rattle.meaning.specs.Reader.{Res, Reader, _>>=_, give, any, oneOf, choose, isWord}
+use Rattle.meaning.specs.Reader.{Res, Reader, oneOf, choose, isWord}
 use Rattle.meaning.specs.Names.{isName}
-use Rattle.meaning.specs.Signals.{Names}
-use Rattle.meaning.specs.Timing.{Table, Tables, waveChar, allChars}
-use Rattle.meaning.specs.Body.{Assigns, assigning, choosing, looped, Body, done, vec, set′, inner}
+use Rattle.meaning.specs.Timing.{Table, waveChar, allChars}
+use Rattle.meaning.specs.Body.{Assigns, choosing, looped, Body, done, vec, set′, inner}
 use Rattle.meaning.specs.Data.{charsOf, piece, part, dataRead, paired, assigned, assign, assigns}
 use Rattle.meaning.specs.Statements.{Env, numbered, Head, ends, vecs, sets, loops, chosen, looping, head, behind, statements}
 use Rattle.meaning.proofs.Unplaced.{unplaced}
@@ -30,7 +28,7 @@ use Rattle.folded.specs.Flat.{Line, chooses, repeats}
 use Rattle.folded.specs.Layout.{nameAt, valuePut, vectorPut, linePut}
 use Rattle.pages.specs.Pages.{decimal}
 use Rattle.folded.proofs.Words.{Proper, sign, words}
-use Rattle.folded.proofs.Reading.{Reads, AllFit, Unlike, reads-bind, reads-by, reads-as, reads-if, reads-give, reads-any, reads-due, reads-old, reads-number, reads-closed, reads-until, worded, findIn, find-worded}
+use Rattle.folded.proofs.Reading.{Reads, AllFit, Unlike, reads-bind, reads-by, reads-if, reads-give, reads-any, reads-due, reads-old, reads-number, reads-closed, reads-until, worded, findIn, find-worded}
 use Rattle.folded.proofs.Leaves.{decimal-word, decimal-number}
 use Rattle.folded.proofs.SignalsBack.{proper-word, no-sign}
 use Rattle.folded.proofs.TimingBack.{char-wordy, or-false}

@@ -1,9 +1,9 @@
 -- Timing, as written, read back.
-use Prim.Native.Nat.{ℕ, zero, suc, _+_, _≤_, _<_}
+use Prim.Native.Nat.{ℕ, suc, _≤_, _<_}
 use native.Mathlib.Omega.{arith}
-use mathlib.Core.Path.{_≡_, refl, sym, ap, ap₂, _∙_, subst}
-use mathlib.Core.Bool.{Bool, true, false, not, _&&_, _||_}
-use mathlib.Core.Option.{Option, none, some}
+use mathlib.Core.Path.{_≡_, refl, sym, ap, _∙_}
+use mathlib.Core.Bool.{Bool, true, false, _&&_, _||_}
+use mathlib.Core.Option.{none, some}
 use mathlib.Core.List.{List, [], _∷_, _++_, append-assoc, append-nil}
 use lib.Dec.{leb, eqb}
 use lib.ListN.{length, length-append}
@@ -14,10 +14,10 @@ use Rattle.tokens.specs.Tokens.{Tok, Toks}
 use Rattle.meaning.specs.Bounds.{entryMost, tablesMost, timeMost}
 use Rattle.meaning.specs.Refusals.{tooMany}
 use Rattle.meaning.specs.Lists.{has, repeats}
-use Rattle.meaning.specs.Reader.{Res, Reader, refuse, _>>=_, due, ahead, isWord}
+use Rattle.meaning.specs.Reader.{Res, refuse, _>>=_, due, ahead, isWord}
 use Rattle.meaning.specs.Names.{isName}
 use Rattle.meaning.specs.Signals.{Names}
-use Rattle.meaning.specs.Timing.{Event, Wave, Table, Tables, quoted, drives, compares, eventLetter, letterDue, alternative, letters, spread, rises, addEvents, Events, oneEvent, event, waveChar, allChars, taken, blanks, wavesOf, wavesFor, entry, waveforms, table, timing}
+use Rattle.meaning.specs.Timing.{Event, Wave, Table, Tables, quoted, eventLetter, letterDue, alternative, letters, spread, rises, addEvents, Events, oneEvent, event, waveChar, allChars, taken, blanks, wavesOf, wavesFor, entry, waveforms, table, timing}
 use Rattle.meaning.specs.Meaning.{hasWave}
 use Rattle.meaning.proofs.Takes.{while-done}
 use Rattle.held.proofs.Rest.{moves-takes}
@@ -25,9 +25,9 @@ use Rattle.held.proofs.Grammar.{moves-alternative, moves-event, moves-entry, mo
 use Rattle.folded.specs.Pieces.{Piece, each, only, word, closing, lf}
 use Rattle.folded.specs.Flat.{Entries, Chart, Sheet}
 use Rattle.folded.specs.Layout.{timed, eventPut, entryPut, chartPut, sheetPut, timingPut}
-use Rattle.folded.proofs.Words.{Before, Proper, sign, words}
+use Rattle.folded.proofs.Words.{Proper, sign, words}
 use Rattle.folded.proofs.Reading.{Reads, AllFit, Unlike, not-ahead, reads-bind, reads-as, reads-if, reads-known, reads-found, reads-by, reads-give, reads-any, reads-due, reads-word, reads-new, reads-old, reads-within, reads-until, worded, findIn, find-worded, worded-++, worded-length}
-use Rattle.folded.proofs.Leaves.{Time, time-read, time-word}
+use Rattle.folded.proofs.Leaves.{time-read, time-word}
 use Rattle.folded.proofs.SignalsBack.{proper-word, no-sign}
 
 pub eqb-sym : (a b : ℕ) → eqb a b ≡ eqb b a

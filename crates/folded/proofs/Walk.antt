@@ -1,6 +1,5 @@
 -- Folding row by row from the left writes what the definition says, which parts the rows from the right.
-use Prim.Native.Nat.{ℕ, zero, suc, _+_}
-use native.Mathlib.Nat.{add-suc, suc-add, add-assoc}
+use Prim.Native.Nat.{ℕ, suc, _+_}
 use native.Mathlib.Omega.{arith}
 use mathlib.Core.Path.{_≡_, refl, sym, ap, ap₂, _∙_, subst, fun-ext}
 use mathlib.Core.Bool.{Bool, true, false}
@@ -13,7 +12,7 @@ use Rattle.folded.specs.Pieces.{Piece, each}
 use Rattle.folded.specs.Flat.{Row, sameRow, loses, breaks, onto, parted, partedAll, Stretch, longer, stretches, Line, chooses, repeats, valued, choosing, linesFrom, linesOf}
 use Rattle.folded.specs.Layout.{linePut, patternPut, namedFrom}
 use Rattle.folded.specs.Walk.{opened, closed, flushed, rest, walked, walkedAll, begun, begunAll}
-use Rattle.folded.proofs.Reading.{same-self}
+use Rattle.words.proofs.Words.{same-self}
 use Rattle.folded.proofs.Stretches.{row-is}
 
 -- ---- a row that came c times, before stretches

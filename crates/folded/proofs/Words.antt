@@ -1,13 +1,12 @@
 -- The words of some pieces are the tokens of their bytes.
-use Prim.Native.Nat.{ℕ, suc, _+_}
-use mathlib.Core.Path.{_≡_, refl, sym, ap, _∙_}
-use native.Mathlib.Omega.{arith}
+use Prim.Native.Nat.{ℕ, suc}
+use mathlib.Core.Path.{_≡_, refl, ap, _∙_}
 use mathlib.Core.Bool.{Bool, true, false}
 use mathlib.Core.Option.{none}
 use mathlib.Core.List.{List, [], _∷_, _++_}
 use Rattle.tokens.specs.Bytes.{allowed, blank, wordy}
 use Rattle.tokens.specs.Refusals.{notHere}
-use Rattle.tokens.specs.Tokens.{Tok, Toks, stop, tok, plain, inword, Act, run, done, ended, lex, faultIn}
+use Rattle.tokens.specs.Tokens.{Tok, Toks, stop, tok, plain, inword, run, done, ended, lex, faultIn}
 use Rattle.tokens.proofs.Allowed.{wordy-allowed}
 use Rattle.tokens.proofs.Reading.{word-does, blank-does, sign-does}
 use Rattle.tokens.proofs.Stream.{in-word, behind-word}

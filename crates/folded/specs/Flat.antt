@@ -5,10 +5,10 @@ use mathlib.Core.Bool.{Bool, true, false, not, _&&_, _||_}
 use mathlib.Core.Option.{Option, none, some}
 use mathlib.Core.List.{List, [], _∷_, _++_}
 use lib.ListN.{length}
-use lib.Dec.{leb, eqb}
+use lib.Dec.{eqb}
 use Rattle.tokens.specs.Written.{same}
 use Rattle.tokens.specs.Tokens.{Tok, Toks, stop, tok, toks}
-use Rattle.meaning.specs.Timing.{Event, Wave, Table, Tables}
+use Rattle.meaning.specs.Timing.{Event, Wave, Tables}
 use Rattle.meaning.specs.Body.{Assigns, Body, done, vec, set′, inner}
 use Rattle.meaning.specs.Run.{Cycle, unassigned, cyclesOf}
 use Rattle.meaning.specs.Meaning.{Meaning}

@@ -1,7 +1,7 @@
 -- The lines of a folded text (docs/FOLDED.md). Each function puts its pieces before those behind them.
 use Prim.Native.Nat.{ℕ, zero, suc, _/_, _%_}
 use Prim.Native.String.{String}
-use mathlib.Core.Bool.{Bool, true, false}
+use mathlib.Core.Bool.{true, false}
 use mathlib.Core.List.{List, [], _∷_, _++_}
 use lib.ListN.{length, getD}
 use lib.Dec.{leb, eqb}
@@ -10,7 +10,7 @@ use Rattle.meaning.specs.Timing.{Event}
 use Rattle.meaning.specs.Body.{Assigns}
 use Rattle.pages.specs.Pages.{decimal}
 use Rattle.folded.specs.Pieces.{Piece, word, only, laid, each, lf, space, quote, semicolon, equals, opening, closing}
-use Rattle.folded.specs.Flat.{Entries, Chart, Sheet, Line, chooses, repeats, Flat}
+use Rattle.folded.specs.Flat.{Chart, Sheet, Line, chooses, repeats, Flat}
 
 abbrev pub say : String → ℕ → Piece
 say s b = word (bytes s) b

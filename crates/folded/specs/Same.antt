@@ -6,7 +6,7 @@ use lib.ListN.{length}
 use Rattle.tokens.specs.Tokens.{Tok}
 use Rattle.meaning.specs.Timing.{Tables}
 use Rattle.meaning.specs.Run.{Cycle, cyclesOf}
-use Rattle.meaning.specs.Meaning.{Answer, given, refused, answering, Meaning, meaning, firsts}
+use Rattle.meaning.specs.Meaning.{Answer, given, answering, Meaning, meaning, firsts}
 use Rattle.meaning.specs.Services.{Window, window, waveform}
 use Rattle.folded.specs.Flat.{directed}
 

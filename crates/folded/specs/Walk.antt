@@ -1,5 +1,5 @@
 -- Folding row by row, from the left: what is left to write of a listed pattern's rows, where a row is in hand that came so often, and a table is in force.
-use Prim.Native.Nat.{ℕ, zero, suc, _+_}
+use Prim.Native.Nat.{ℕ, suc, _+_}
 use mathlib.Core.Bool.{true, false}
 use mathlib.Core.Option.{Option, none, some}
 use mathlib.Core.List.{List, [], _∷_}
