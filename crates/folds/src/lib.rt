@@ -5,7 +5,7 @@ ghost use Rattle.meaning.specs.Meaning.{firsts};
 ghost use Rattle.words.specs.Table.{nameOf, names};
 ghost use Rattle.folded.specs.Pieces.{laid};
 ghost use Rattle.folded.specs.Flat.{direction as directionOf, directed};
-ghost use Rattle.folded.specs.Layout.{signalPut, signalsPut};
+ghost use Rattle.folded.specs.Layout.{signalPut, signalsPut, patternName, namesFrom, listedPut, burstPut, execPut};
 ghost use Rattle.pens.specs.Pens.{Writes};
 ghost use Rattle.folds.specs.Folds.{Ends, AllEnd};
 use pens::Pen;
@@ -48,4 +48,33 @@ pub fn signals<'a>(
         i += 1;
     }
     pens::add(page, p, b"}\n")
+}
+
+// pN;
+fn listed(page: &mut [u8], pen: Pen, i: usize) -> Pen
+    ensures { λ r. ⌜ Writes (now (page .entry)) pen (laid (listedPut (patternName i) [])) (now (page .exit)) r ⌝ }
+{
+    let p = pens::add(page, pen, b"p");
+    let q = pens::add_number(page, p, i as u64);
+    pens::add(page, q, b";")
+}
+
+// PatternBurst b{PatList{p0;p1;..}}
+pub fn burst(page: &mut [u8], pen: Pen, count: usize) -> Pen
+    ensures { λ r. ⌜ Writes (now (page .entry)) pen (laid (burstPut (namesFrom 0 count) [])) (now (page .exit)) r ⌝ }
+{
+    let mut p = pens::add(page, pen, b"PatternBurst b{PatList{");
+    let mut i = 0;
+    while i < count {
+        p = listed(page, p, i);
+        i += 1;
+    }
+    pens::add(page, p, b"}}\n")
+}
+
+// PatternExec{PatternBurst b;}
+pub fn exec(page: &mut [u8], pen: Pen) -> Pen
+    ensures { λ r. ⌜ Writes (now (page .entry)) pen (laid (execPut [])) (now (page .exit)) r ⌝ }
+{
+    pens::add(page, pen, b"PatternExec{PatternBurst b;}\n")
 }
