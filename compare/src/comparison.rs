@@ -1,6 +1,7 @@
 //! Both readers with one text after another, and what was seen of each service.
 
 use crate::check::Check;
+use crate::fold::Fold;
 use crate::index::{Belongs, Holds, Index};
 use crate::intake::{Plan, ProvedIntake};
 use crate::line::Line;
@@ -34,8 +35,9 @@ pub struct Often {
     pub lines: usize,
     /// Indexes so often, each with a right or a wrong one asked of.
     pub indexes: usize,
-    /// Saved so often.
+    /// Saved and folded so often.
     pub saves: usize,
+    pub folds: usize,
     /// Up to this many bytes, tokens and lines are asked for at each of them.
     pub bytes: usize,
 }
@@ -47,7 +49,8 @@ impl Often {
         let lines = if proved::LINES { self.lines } else { 0 };
         let indexes = if proved::INDEX { self.indexes } else { 0 };
         let saves = if proved::SAVE { self.saves } else { 0 };
-        Often { lists, lines, indexes, saves, marks: self.marks && proved::MARKS, ..self }
+        let folds = if proved::FOLD { self.folds } else { 0 };
+        Often { lists, lines, indexes, saves, folds, marks: self.marks && proved::MARKS, ..self }
     }
 }
 
@@ -63,6 +66,7 @@ pub struct Comparison {
     belongs: Tally,
     holds: Tally,
     save: Tally,
+    fold: Tally,
     pub intake: Tally,
 }
 
@@ -80,6 +84,7 @@ impl Comparison {
             belongs: Tally::new("Belongs"),
             holds: Tally::new("Holds"),
             save: Tally::new("Save"),
+            fold: Tally::new("Fold"),
             intake: Tally::new("Intake"),
         }
     }
@@ -118,6 +123,9 @@ impl Comparison {
         }
         if let Some(document) = document.filter(|_| often.indexes > 0) {
             Holds::edges(document).iter().for_each(|call| self.holds.compare(named, call, proved, second));
+        }
+        for _ in 0..times(often.folds) {
+            self.fold.compare(named, &Fold::draw(document, random), proved, second);
         }
         for _ in 0..often.saves {
             self.save.compare(named, &Save::draw(second.text, random), proved, second);
@@ -184,11 +192,15 @@ impl Comparison {
         if !proved::INDEX {
             return;
         }
-        let call = Index { bytes: due.len(), room: Index::DUE };
-        let (answer, mut lent) = outcome(&call, &Proved(text));
-        let left = lent.slices();
-        if answer != 0 || left.bytes != due.as_bytes() || left.numbers != [due.len() as u64] {
-            self.index.report(&format!("{named}: proved {}, not {due:?}", say(answer)));
+        self.index.known(named, &Index { bytes: due.len(), room: Index::DUE }, &Proved(text), due);
+    }
+
+    /// A folded text that is known, where the linked library folds.
+    pub fn folded(&mut self, named: &str, text: &[u8], due: &str) {
+        let call = Fold { bytes: due.len(), room: Fold::DUE };
+        self.fold.known(named, &call, &Second::new(text), due);
+        if proved::FOLD {
+            self.fold.known(named, &call, &Proved(text), due);
         }
     }
 
@@ -210,6 +222,7 @@ impl Comparison {
             &self.belongs,
             &self.holds,
             &self.save,
+            &self.fold,
             &self.intake,
         ]
     }

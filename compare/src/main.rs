@@ -5,6 +5,7 @@
 mod call;
 mod check;
 mod comparison;
+mod fold;
 mod index;
 mod intake;
 mod lent;
@@ -40,7 +41,8 @@ compare one token READER FILE AT
 compare one line READER FILE PLACE
 compare one index READER FILE
 compare one holds READER FILE INDEXFILE N
-compare one save READER FILE";
+compare one save READER FILE
+compare one fold READER FILE";
 
 fn main() -> ExitCode {
     let words: Vec<String> = std::env::args().skip(1).collect();

@@ -2,6 +2,7 @@
 
 use crate::call::Call;
 use crate::check::Check;
+use crate::fold::Fold;
 use crate::index::{Given, Holds, Index};
 use crate::lent::Slices;
 use crate::line::Line;
@@ -14,7 +15,7 @@ use crate::tally::say;
 use crate::token::Token;
 use crate::waveform::Waveform;
 use crate::waveforms::Waveforms;
-use second::bounds::MAX_INDEX;
+use second::bounds::{MAX_INDEX, MAX_TEXT};
 use second::timing::Asked;
 use second::waveforms::ASKED;
 use second::DOT;
@@ -67,6 +68,10 @@ impl Reader for Anew<'_> {
     fn save(&self, text: &mut [u8], spans: &mut [u64], numbers: &mut [u64]) -> u64 {
         save_in(text, spans, numbers)
     }
+
+    fn fold(&self, folded: &mut [u8], numbers: &mut [u64]) -> u64 {
+        Second::new(self.0).fold(folded, numbers)
+    }
 }
 
 /// What is counted.
@@ -112,6 +117,7 @@ fn call_of<'t>(service: &str, text: &'t [u8], numbers: &[&str]) -> Result<Box<dy
         ("token", [at]) => Ok(Box::new(Token::with_room(number(at)?))),
         ("line", [place]) => Ok(Box::new(Line::with_room(number(place)?))),
         ("index", []) => Ok(Box::new(Index { bytes: MAX_INDEX, room: Index::DUE })),
+        ("fold", []) => Ok(Box::new(Fold { bytes: MAX_TEXT, room: Fold::DUE })),
         ("save", []) => Ok(Box::new(Save::with_room(text))),
         ("holds", [index, cycle]) => holds(index, number(cycle)?),
         _ => Err(format!("no such service, or not its numbers: {service} {}", numbers.join(" "))),

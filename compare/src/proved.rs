@@ -7,6 +7,18 @@ use crate::raw::{lutemeteor_check, lutemeteor_name, lutemeteor_token, lutemeteor
 use crate::reader::Reader;
 use second::timing::Asked;
 
+#[cfg(feature = "fold")]
+extern "C" {
+    fn lutemeteor_fold(
+        text: *const u8,
+        length: usize,
+        folded: *mut u8,
+        folded_room: usize,
+        numbers: *mut u64,
+        room: usize,
+    ) -> u64;
+}
+
 #[cfg(feature = "index")]
 extern "C" {
     fn lutemeteor_index(
@@ -94,8 +106,11 @@ pub const INDEX: bool = cfg!(feature = "index");
 /// Whether it saves hurt texts.
 pub const SAVE: bool = cfg!(feature = "save");
 
-pub const FEATURES: [(&str, bool); 5] =
-    [("waveforms", WAVEFORMS), ("marks", MARKS), ("lines", LINES), ("index", INDEX), ("save", SAVE)];
+/// Whether it folds texts.
+pub const FOLD: bool = cfg!(feature = "fold");
+
+pub const FEATURES: [(&str, bool); 6] =
+    [("waveforms", WAVEFORMS), ("marks", MARKS), ("lines", LINES), ("index", INDEX), ("save", SAVE), ("fold", FOLD)];
 
 /// The proved reader with one text, which it reads at each call.
 pub struct Proved<'t>(pub &'t [u8]);
@@ -216,6 +231,18 @@ impl Reader for Proved<'_> {
     #[cfg(not(feature = "save"))]
     fn save(&self, _: &mut [u8], _: &mut [u64], _: &mut [u64]) -> u64 {
         panic!("Cargo.toml says that the linked library saves no hurt texts")
+    }
+
+    #[cfg(feature = "fold")]
+    fn fold(&self, folded: &mut [u8], numbers: &mut [u64]) -> u64 {
+        let (text, length) = (self.0.as_ptr(), self.0.len());
+        let (folded, folded_room) = (folded.as_mut_ptr(), folded.len());
+        unsafe { lutemeteor_fold(text, length, folded, folded_room, numbers.as_mut_ptr(), numbers.len()) }
+    }
+
+    #[cfg(not(feature = "fold"))]
+    fn fold(&self, _: &mut [u8], _: &mut [u64]) -> u64 {
+        panic!("Cargo.toml says that the linked library folds no texts")
     }
 
     #[cfg(not(feature = "index"))]

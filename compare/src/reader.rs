@@ -33,6 +33,8 @@ pub trait Reader {
     fn holds(&self, index: &[u8], cycle: u64, numbers: &mut [u64]) -> u64;
     /// Of the text that is lent, which is saved where it stands. One number: how many spans are overwritten, of which the list has two each.
     fn save(&self, text: &mut [u8], spans: &mut [u64], numbers: &mut [u64]) -> u64;
+    /// One number: the folded text's length.
+    fn fold(&self, folded: &mut [u8], numbers: &mut [u64]) -> u64;
 }
 
 /// The second reader, which reads its text once.
@@ -169,5 +171,14 @@ impl Reader for Second<'_> {
 
     fn save(&self, text: &mut [u8], spans: &mut [u64], numbers: &mut [u64]) -> u64 {
         save_in(text, spans, numbers)
+    }
+
+    fn fold(&self, folded: &mut [u8], numbers: &mut [u64]) -> u64 {
+        told(self.document().and_then(|document| {
+            // Without room for its length there is none for any folded text: 23 and 22 come first.
+            let room = if numbers.is_empty() { &mut [] } else { folded };
+            let length = document.fold(room)?;
+            write_front(numbers, [length])
+        }))
     }
 }

@@ -1,5 +1,6 @@
 //! That a difference is found: readers that answer as the second one does, but for one slip.
 
+mod fold;
 mod index;
 mod intake;
 mod lines;
@@ -13,7 +14,7 @@ use crate::reader::{told, write_next, Reader, Second};
 use crate::special::SAMPLE;
 use crate::texts::short;
 use second::generate::random::Random;
-use second::generate::{hurt, nested, text};
+use second::generate::{flat, hurt, nested, text};
 use second::refusal::Answer;
 use second::timing::Asked;
 use second::tokens::check_bytes;
@@ -186,6 +187,38 @@ slips! {
     SaveRest,
     SaveNumbersRest,
     SaveWithoutNumber,
+    FoldTwoAsTwo,
+    FoldLoopOfOne,
+    FoldLoopOneLess,
+    FoldOneSplitLess,
+    FoldEmptyDropped,
+    FoldEmptyListed,
+    FoldEmptyUnwritten,
+    FoldTablesOnce,
+    FoldTablesTwice,
+    FoldHeldPins,
+    FoldMarks,
+    FoldTimes,
+    FoldPeriods,
+    FoldLastCharacter,
+    FoldDirections,
+    FoldOldNames,
+    FoldListBackwards,
+    FoldLastLineEnd,
+    FoldRoomFirst,
+    FoldNumbersFirst,
+    FoldCyclesLess,
+    FoldCyclesMore,
+    FoldPatternsLess,
+    FoldPatternsMore,
+    FoldTextLess,
+    FoldTextMore,
+    FoldRoomOneMore,
+    FoldLength,
+    FoldRest,
+    FoldNumbersRest,
+    FoldWritesThoughShort,
+    FoldNumberThoughShort,
 }
 
 struct Slipping<'t> {
@@ -333,6 +366,10 @@ impl Reader for Slipping<'_> {
     fn save(&self, text: &mut [u8], spans: &mut [u64], numbers: &mut [u64]) -> u64 {
         self.slipped_save(text, spans, numbers)
     }
+
+    fn fold(&self, folded: &mut [u8], numbers: &mut [u64]) -> u64 {
+        self.slipped_fold(folded, numbers)
+    }
 }
 
 impl Slipping<'_> {
@@ -396,13 +433,14 @@ const OFTEN: Often = Often {
     lines: 20,
     indexes: 5,
     saves: 3,
+    folds: 3,
     bytes: 100,
 };
 
 fn found(slip: Slip) -> bool {
     let mut comparison = Comparison::new();
     let mut random = Random::new(7);
-    let seeded = (0..600).flat_map(|seed| [text(seed), nested(seed), hurt(seed)]);
+    let seeded = (0..600).flat_map(|seed| [text(seed), nested(seed), hurt(seed), flat(seed)]);
     seeded.chain([SAMPLE.into()]).chain(short()).any(|text| {
         let slipping = Slipping { second: Second::new(&text), slip };
         comparison.readers(&format!("{slip:?}"), &slipping, &Second::new(&text), OFTEN, &mut random);

@@ -31,6 +31,9 @@ const WINDOWS: [(u64, u64, &str, u64); 7] = [
 /// Its index, as request 7 gives it.
 const INDEX: &str = include_str!("../../examples/worked.index");
 
+/// The page that fixes folded texts, with a whole case: a text, and what it is folded to.
+const FOLDED: &str = include_str!("../../docs/FOLDED.md");
+
 enum Due {
     /// Listed patterns, cycles and size.
     Accepted(u64, u64, u64),
@@ -68,6 +71,11 @@ pub fn compare(comparison: &mut Comparison, often: Often, random: &mut Random) {
     comparison.waveforms("document 01", SAMPLE.as_bytes());
     comparison.windows("document 01", SAMPLE.as_bytes(), &WINDOWS);
     comparison.indexed("document 01", SAMPLE.as_bytes(), INDEX);
+    let mut case = FOLDED.split("```\n").skip(1).step_by(2);
+    if let (Some(text), Some(due)) = (case.next(), case.next()) {
+        comparison.text("docs/FOLDED.md", text.as_bytes(), often, random);
+        comparison.folded("docs/FOLDED.md", text.as_bytes(), due);
+    }
     for special in &list::SPECIAL {
         let (text, place) = special.text();
         let due = match special.due {

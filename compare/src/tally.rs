@@ -3,9 +3,9 @@
 use crate::call::{outcome, Call};
 use crate::lent::Lent;
 use crate::reader::Reader;
-use second::refusal::INDEX_NOT_OF_TEXT;
+use second::refusal::TOO_MANY_CYCLES;
 
-const NUMBERS: usize = INDEX_NOT_OF_TEXT as usize + 1;
+const NUMBERS: usize = TOO_MANY_CYCLES as usize + 1;
 
 pub struct Tally {
     service: &'static str,
@@ -26,6 +26,15 @@ impl Tally {
         self.count(theirs.0);
         if let Some(what) = difference(call, &ours, &theirs) {
             self.report(&format!("{named}: {call:?}: {what}"));
+        }
+    }
+
+    /// Bytes that are known, with their length as the one number.
+    pub fn known(&mut self, named: &str, call: &dyn Call, reader: &dyn Reader, due: &str) {
+        let (answer, mut lent) = outcome(call, reader);
+        let left = lent.slices();
+        if answer != 0 || left.bytes != due.as_bytes() || left.numbers != [due.len() as u64] {
+            self.report(&format!("{named}: {call:?}: {}, not {due:?}", say(answer)));
         }
     }
 

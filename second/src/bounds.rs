@@ -20,6 +20,7 @@ pub const MAX_TIME: u64 = 1_000_000_000;
 pub const MAX_SIZE: u64 = 65_536;
 pub const MAX_CYCLES: u64 = 1_099_511_627_776;
 pub const MAX_LISTING: u64 = 1_000_000;
+pub const MAX_FOLDED: u64 = 1_000_000;
 pub const MAX_WAVEFORMS: usize = 64;
 pub const MAX_RAW: usize = 1_048_576;
 

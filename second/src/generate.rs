@@ -3,6 +3,7 @@
 mod blocks;
 mod contrived;
 mod damage;
+mod flat;
 mod hurt;
 mod large;
 mod nested;
@@ -13,6 +14,7 @@ mod statements;
 mod tokens;
 
 pub use contrived::{contrived, CONTRIVED_KINDS};
+pub use flat::flat;
 pub use hurt::hurt;
 pub use large::{large, sized, LARGE_KINDS, SIZED_KINDS};
 pub use nested::nested;

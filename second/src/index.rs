@@ -23,7 +23,7 @@ pub fn holds(text: &[u8], index: &[u8], cycle: u64) -> Answer<Option<u64>> {
 
 impl Document<'_> {
     /// Each listed pattern with its cycles of the run.
-    fn listed(&self) -> impl Iterator<Item = (usize, Range<u64>)> + '_ {
+    pub(crate) fn listed(&self) -> impl Iterator<Item = (usize, Range<u64>)> + '_ {
         self.run.iter().scan(0, move |end, &pattern| {
             let first = *end;
             *end += self.patterns[pattern].extent.cycles;

@@ -5,6 +5,7 @@ pub mod bounds;
 pub mod data;
 pub mod document;
 pub mod edges;
+pub mod fold;
 pub mod frame;
 pub mod generate;
 pub mod groups;
@@ -29,6 +30,7 @@ pub mod tokens;
 pub mod waveforms;
 
 pub use document::Document;
+pub use fold::fold;
 pub use index::{belongs, holds, index};
 pub use intake::{Intake, Progress};
 pub use lines::{position, Position};

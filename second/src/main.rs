@@ -23,6 +23,7 @@ tokens FILE
 intake FILE
 list FILE
 save FILE
+fold FILE
 help
 ";
 
@@ -65,6 +66,7 @@ fn answer(words: &[OsString], out: &mut dyn Write) -> Done {
         b"index" => index(exactly(rest, ["FILE"])?, out),
         b"holds" => holds(exactly(rest, ["FILE", "INDEXFILE", "N"])?, out),
         b"save" => save(exactly(rest, ["FILE"])?, out),
+        b"fold" => fold(exactly(rest, ["FILE"])?, out),
         b"help" => {
             exactly(rest, [])?;
             Ok(out.write_all(HELP.as_bytes())?)
@@ -259,4 +261,10 @@ fn save([file]: &[OsString; 1], out: &mut dyn Write) -> Done {
         writeln!(out, "SPANS {}", spans.len())?;
         out.write_all(&saved)
     })
+}
+
+fn fold([file]: &[OsString; 1], out: &mut dyn Write) -> Done {
+    let text = text_of(file)?;
+    let folded = Document::read(&text).and_then(|document| document.folded());
+    write_answer(out, &text, folded, |out, folded| out.write_all(&folded))
 }

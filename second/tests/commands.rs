@@ -44,6 +44,7 @@ fn help_names_the_commands() {
         "intake FILE",
         "list FILE",
         "save FILE",
+        "fold FILE",
         "help",
     ];
     answers(&["help"], &(commands.join("\n") + "\n"));
@@ -124,6 +125,24 @@ fn what_is_saved_of_a_hurt_text() {
     let due = format!("REFUSED 4 AT {} LINE 13 COLUMN 1\n", beyond.len() - 1);
     answers(&["save", &file("beyond.stil", beyond.as_bytes())], &due);
     answers(&["save", &file("save-long.stil", &[b' '; 65_537])], "REFUSED 1 AT 0 LINE 1 COLUMN 1\n");
+}
+
+#[test]
+fn a_folded_text() {
+    let output = run(&["fold", &file("fold.stil", SAMPLE.as_bytes())]);
+    let folded = String::from_utf8_lossy(&output.stdout);
+    assert!(
+        folded.starts_with("STIL 1.0;\nSignals{A In;B Out;}\n") && folded.ends_with("\nV{A=1;B=H;}\n}\n"),
+        "{folded}"
+    );
+    answers(&["fold", &file("folded.stil", folded.as_bytes())], &folded);
+    let long = SAMPLE.replace("Loop 2 ", "Loop 500000 ");
+    answers(&["fold", &file("fold-far.stil", long.as_bytes())], "REFUSED 23 AT 0 LINE 1 COLUMN 1\n");
+    answers(
+        &["fold", &file("fold-long.stil", SAMPLE.replace("Loop 2 ", "Loop 9999 ").as_bytes())],
+        "REFUSED 19 AT 0 LINE 1 COLUMN 1\n",
+    );
+    answers(&["fold", &file("fold-hurt.stil", b"STIL 1.0;\nSignals { }")], "REFUSED 4 AT 20 LINE 2 COLUMN 11\n");
 }
 
 #[test]
@@ -223,23 +242,22 @@ fn faults_of_the_command_line() {
     turned_down(&["window", "/nowhere.stil", "0", "0", "a"], "/nowhere.stil");
     turned_down(&["waveform", good, "0", "0", "01"], "01");
     turned_down(&["waveform", good, "0", "0", ""], "not one byte");
-    turned_down(&["list", "/nowhere.stil"], "/nowhere.stil");
-    turned_down(&["tokens"], "FILE");
-    turned_down(&["intake"], "FILE");
-    turned_down(&["intake", good, "more"], "more");
-    turned_down(&["intake", "/nowhere.stil"], "/nowhere.stil");
-    turned_down(&["intake", "/"], "cannot be read: /");
     turned_down(&["help", "me"], "me");
-    turned_down(&["index"], "FILE");
-    turned_down(&["index", good, "more"], "more");
-    turned_down(&["index", "/nowhere.stil"], "/nowhere.stil");
-    turned_down(&["save"], "FILE");
-    turned_down(&["save", good, "more"], "more");
-    turned_down(&["save", "/nowhere.stil"], "/nowhere.stil");
     turned_down(&["holds", good], "INDEXFILE");
     turned_down(&["holds", good, good], "N");
     turned_down(&["holds", "/nowhere.stil", "/nowhere.index", "x"], "not a number: x");
     turned_down(&["holds", "/nowhere.stil", "/nowhere.index", "0"], "/nowhere.stil");
     turned_down(&["holds", good, "/nowhere.index", "0"], "/nowhere.index");
     turned_down(&["holds", good, "/", "0"], "cannot be read: /");
+}
+
+#[test]
+fn faults_of_commands_with_one_file() {
+    let good = &file("one-file.stil", SAMPLE.as_bytes());
+    for command in ["tokens", "intake", "list", "index", "save", "fold"] {
+        turned_down(&[command], "FILE");
+        turned_down(&[command, good, "more"], "more");
+        turned_down(&[command, "/nowhere.stil"], "cannot be read: /nowhere.stil");
+        turned_down(&[command, "/"], "cannot be read: /");
+    }
 }

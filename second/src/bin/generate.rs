@@ -1,8 +1,8 @@
-//! Writes generated texts: `generate SEED`, `generate nested SEED`, `generate hurt SEED`, `generate DIR FIRST COUNT`, `generate big KIND`, `generate big KIND BYTES SIGNALS`,
+//! Writes generated texts: `generate SEED`, `generate nested SEED`, `generate hurt SEED`, `generate flat SEED`, `generate DIR FIRST COUNT`, `generate big KIND`, `generate big KIND BYTES SIGNALS`,
 //! `generate run KIND SIGNALS`, `generate contrived KIND SIGNALS`.
 
 use second::generate::{
-    contrived, hurt, large, nested, run, sized, text, CONTRIVED_KINDS, LARGE_KINDS, RUN_KINDS, SIZED_KINDS,
+    contrived, flat, hurt, large, nested, run, sized, text, CONTRIVED_KINDS, LARGE_KINDS, RUN_KINDS, SIZED_KINDS,
 };
 use std::io::{self, Write};
 use std::path::Path;
@@ -21,7 +21,7 @@ fn main() -> ExitCode {
 }
 
 const USAGE: &str =
-    "generate SEED | generate nested SEED | generate hurt SEED | generate DIR FIRST COUNT | generate big KIND
+    "generate SEED | generate nested SEED | generate hurt SEED | generate flat SEED | generate DIR FIRST COUNT | generate big KIND
 generate big KIND BYTES SIGNALS | generate run KIND SIGNALS | generate contrived KIND SIGNALS";
 
 fn answer(words: &[&str]) -> Result<(), String> {
@@ -41,6 +41,7 @@ fn answer(words: &[&str]) -> Result<(), String> {
             let made = run(kind, number(signals)? as usize);
             write_out(&made.ok_or_else(|| format!("no such kind: {kind}; there are {}", RUN_KINDS.join(" ")))?)
         }
+        ["flat", seed] => write_out(&flat(number(seed)?)),
         ["hurt", seed] => write_out(&hurt(number(seed)?)),
         ["contrived", kind, signals] => {
             let made = contrived(kind, number(signals)? as usize);
