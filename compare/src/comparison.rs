@@ -8,6 +8,7 @@ use crate::line::Line;
 use crate::name::Name;
 use crate::proved::{self, Proved};
 use crate::reader::{Reader, Second};
+use crate::report::Report;
 use crate::save::Save;
 use crate::tally::Tally;
 use crate::token::{Places, Token};
@@ -38,6 +39,8 @@ pub struct Often {
     /// Saved and folded so often.
     pub saves: usize,
     pub folds: usize,
+    /// Reports on it.
+    pub reports: usize,
     /// Up to this many bytes, tokens and lines are asked for at each of them.
     pub bytes: usize,
 }
@@ -50,7 +53,8 @@ impl Often {
         let indexes = if proved::INDEX { self.indexes } else { 0 };
         let saves = if proved::SAVE { self.saves } else { 0 };
         let folds = if proved::FOLD { self.folds } else { 0 };
-        Often { lists, lines, indexes, saves, folds, marks: self.marks && proved::MARKS, ..self }
+        let reports = if proved::REPORTS { self.reports } else { 0 };
+        Often { lists, lines, indexes, saves, folds, reports, marks: self.marks && proved::MARKS, ..self }
     }
 }
 
@@ -67,6 +71,7 @@ pub struct Comparison {
     holds: Tally,
     save: Tally,
     fold: Tally,
+    report: Tally,
     pub intake: Tally,
 }
 
@@ -85,6 +90,7 @@ impl Comparison {
             holds: Tally::new("Holds"),
             save: Tally::new("Save"),
             fold: Tally::new("Fold"),
+            report: Tally::new("Report"),
             intake: Tally::new("Intake"),
         }
     }
@@ -126,6 +132,9 @@ impl Comparison {
         }
         for _ in 0..times(often.folds) {
             self.fold.compare(named, &Fold::draw(document, random), proved, second);
+        }
+        for _ in 0..times(often.reports) {
+            self.report.compare(named, &Report::draw(document, random), proved, second);
         }
         for _ in 0..often.saves {
             self.save.compare(named, &Save::draw(second.text, random), proved, second);
@@ -223,6 +232,7 @@ impl Comparison {
             &self.holds,
             &self.save,
             &self.fold,
+            &self.report,
             &self.intake,
         ]
     }

@@ -18,6 +18,7 @@ mod proved;
 #[path = "../../examples/rust/src/raw.rs"]
 mod raw;
 mod reader;
+mod report;
 mod save;
 #[cfg(test)]
 mod slips;
@@ -42,7 +43,8 @@ compare one line READER FILE PLACE
 compare one index READER FILE
 compare one holds READER FILE INDEXFILE N
 compare one save READER FILE
-compare one fold READER FILE";
+compare one fold READER FILE
+compare one report READER FILE REPORTFILE";
 
 fn main() -> ExitCode {
     let words: Vec<String> = std::env::args().skip(1).collect();

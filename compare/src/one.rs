@@ -10,6 +10,7 @@ use crate::name::Name;
 use crate::number;
 use crate::proved::Proved;
 use crate::reader::{line_of, save_in, token_at, Reader, Second};
+use crate::report::Report;
 use crate::save::Save;
 use crate::tally::say;
 use crate::token::Token;
@@ -72,6 +73,10 @@ impl Reader for Anew<'_> {
     fn fold(&self, folded: &mut [u8], numbers: &mut [u64]) -> u64 {
         Second::new(self.0).fold(folded, numbers)
     }
+
+    fn report(&self, report: &[u8], lent: Slices) -> u64 {
+        Second::new(self.0).report(report, lent)
+    }
 }
 
 /// What is counted.
@@ -91,7 +96,7 @@ pub fn one(service: &str, reader: &str, file: &str, numbers: &[&str]) -> Result<
         "second" => true,
         _ => return Err(format!("neither proved nor second: {reader}")),
     };
-    let text = std::fs::read(file).map_err(|error| format!("{file}: {error}"))?;
+    let text = read(file)?;
     let call = call_of(service, &text, numbers)?;
     let mut lent = call.lend();
     let answer = measured_call(of_second, &text, &*call, lent.slices());
@@ -120,8 +125,13 @@ fn call_of<'t>(service: &str, text: &'t [u8], numbers: &[&str]) -> Result<Box<dy
         ("fold", []) => Ok(Box::new(Fold { bytes: MAX_TEXT, room: Fold::DUE })),
         ("save", []) => Ok(Box::new(Save::with_room(text))),
         ("holds", [index, cycle]) => holds(index, number(cycle)?),
+        ("report", [report]) => Ok(Box::new(Report::with_room(read(report)?))),
         _ => Err(format!("no such service, or not its numbers: {service} {}", numbers.join(" "))),
     }
+}
+
+fn read(file: &str) -> Result<Vec<u8>, String> {
+    std::fs::read(file).map_err(|error| format!("{file}: {error}"))
 }
 
 fn asked(table: &str, signal: &str, character: &str) -> Result<Asked, String> {
@@ -139,8 +149,7 @@ fn waveforms(words: &[&str]) -> Result<Box<dyn Call>, String> {
 }
 
 fn holds(file: &str, cycle: u64) -> Result<Box<dyn Call>, String> {
-    let index = std::fs::read(file).map_err(|error| format!("{file}: {error}"))?;
-    Ok(Box::new(Holds { index: Given(index), cycle, room: Holds::DUE }))
+    Ok(Box::new(Holds { index: Given(read(file)?), cycle, room: Holds::DUE }))
 }
 
 fn window(text: &[u8], first: u64, wanted: u64) -> Result<Box<dyn Call>, String> {

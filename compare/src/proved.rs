@@ -61,6 +61,24 @@ extern "C" {
     ) -> u64;
 }
 
+#[cfg(feature = "reports")]
+extern "C" {
+    fn lutemeteor_report(
+        text: *const u8,
+        length: usize,
+        report: *const u8,
+        report_length: usize,
+        cycles: *mut u64,
+        cycles_room: usize,
+        signals: *mut u64,
+        signals_room: usize,
+        letters: *mut u8,
+        letters_room: usize,
+        numbers: *mut u64,
+        room: usize,
+    ) -> u64;
+}
+
 #[cfg(feature = "save")]
 extern "C" {
     fn lutemeteor_save(
@@ -109,8 +127,18 @@ pub const SAVE: bool = cfg!(feature = "save");
 /// Whether it folds texts.
 pub const FOLD: bool = cfg!(feature = "fold");
 
-pub const FEATURES: [(&str, bool); 6] =
-    [("waveforms", WAVEFORMS), ("marks", MARKS), ("lines", LINES), ("index", INDEX), ("save", SAVE), ("fold", FOLD)];
+/// Whether it has X names and answers fail reports.
+pub const REPORTS: bool = cfg!(feature = "reports");
+
+pub const FEATURES: [(&str, bool); 7] = [
+    ("waveforms", WAVEFORMS),
+    ("marks", MARKS),
+    ("lines", LINES),
+    ("index", INDEX),
+    ("save", SAVE),
+    ("fold", FOLD),
+    ("reports", REPORTS),
+];
 
 /// The proved reader with one text, which it reads at each call.
 pub struct Proved<'t>(pub &'t [u8]);
@@ -243,6 +271,31 @@ impl Reader for Proved<'_> {
     #[cfg(not(feature = "fold"))]
     fn fold(&self, _: &mut [u8], _: &mut [u64]) -> u64 {
         panic!("Cargo.toml says that the linked library folds no texts")
+    }
+
+    #[cfg(feature = "reports")]
+    fn report(&self, report: &[u8], lent: Slices) -> u64 {
+        unsafe {
+            lutemeteor_report(
+                self.0.as_ptr(),
+                self.0.len(),
+                report.as_ptr(),
+                report.len(),
+                lent.times.as_mut_ptr(),
+                lent.times.len(),
+                lent.counts.as_mut_ptr(),
+                lent.counts.len(),
+                lent.bytes.as_mut_ptr(),
+                lent.bytes.len(),
+                lent.numbers.as_mut_ptr(),
+                lent.numbers.len(),
+            )
+        }
+    }
+
+    #[cfg(not(feature = "reports"))]
+    fn report(&self, _: &[u8], _: Slices) -> u64 {
+        panic!("Cargo.toml says that the linked library answers no reports")
     }
 
     #[cfg(not(feature = "index"))]

@@ -2,6 +2,7 @@
 
 use crate::lent::Slices;
 use second::refusal::{Answer, BUFFER_TOO_SHORT, NO_SUCH_ITEM};
+use second::report::Refused;
 use second::save::saved;
 use second::services::Summary;
 use second::timing::Asked;
@@ -10,7 +11,7 @@ use second::waveforms::accept_list;
 use second::{accept_mark, position, save, Declared, Document, Position, Refusal, Waveforms};
 
 /// Each service gives 0 for an answer, else 32 times the place plus the number of the refusal; then every lent slice is as it was,
-/// but for what a list of waveforms had served before.
+/// but for what a list of waveforms had served before. A refusal of a report has 2 to the power of 32 more, and its place there.
 pub trait Reader {
     /// Five numbers: signals, tables, listed patterns, cycles, size.
     fn check(&self, numbers: &mut [u64]) -> u64;
@@ -35,6 +36,9 @@ pub trait Reader {
     fn save(&self, text: &mut [u8], spans: &mut [u64], numbers: &mut [u64]) -> u64;
     /// One number: the folded text's length.
     fn fold(&self, folded: &mut [u8], numbers: &mut [u64]) -> u64;
+    /// Of each offset the run's cycle goes to the times, the signal's number to the counts, the letter to the bytes, 0 where there is none. One number:
+    /// how many there are.
+    fn report(&self, report: &[u8], lent: Slices) -> u64;
 }
 
 /// The second reader, which reads its text once.
@@ -55,6 +59,14 @@ impl<'t> Second<'t> {
 
 pub fn told(answer: Answer<()>) -> u64 {
     answer.map_or_else(|refusal| 32 * refusal.place + u64::from(refusal.number), |()| 0)
+}
+
+/// What a refusal of a report has more than one of the text.
+pub const OF_REPORT: u64 = 1 << 32;
+
+pub fn told_of_report(answer: Result<(), Refused>) -> u64 {
+    let of_report = matches!(answer, Err(Refused { of_report: true, .. }));
+    told(answer.map_err(|refused| refused.refusal)) + if of_report { OF_REPORT } else { 0 }
 }
 
 fn too_short() -> Refusal {
@@ -179,6 +191,15 @@ impl Reader for Second<'_> {
             let room = if numbers.is_empty() { &mut [] } else { folded };
             let length = document.fold(room)?;
             write_front(numbers, [length])
+        }))
+    }
+
+    fn report(&self, report: &[u8], lent: Slices) -> u64 {
+        let document = self.document().map_err(Refused::of_text);
+        told_of_report(document.and_then(|document| match lent.numbers.first_mut() {
+            Some(count) => document.report(report, lent.times, lent.counts, lent.bytes).map(|fails| *count = fails),
+            // Without room for the count the report's own refusals come first all the same.
+            None => document.fails(report).map_err(Refused::of_report).and(Err(Refused::of_text(too_short()))),
         }))
     }
 }

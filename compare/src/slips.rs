@@ -6,6 +6,7 @@ mod intake;
 mod lines;
 mod lists;
 mod marks;
+mod report;
 mod save;
 
 use crate::comparison::{Comparison, Often};
@@ -14,8 +15,9 @@ use crate::reader::{told, write_next, Reader, Second};
 use crate::special::SAMPLE;
 use crate::texts::short;
 use second::generate::random::Random;
-use second::generate::{flat, hurt, nested, text};
+use second::generate::{flat, hurt, marked, nested, text};
 use second::refusal::Answer;
+use second::requests::REPORTS;
 use second::timing::Asked;
 use second::tokens::check_bytes;
 use second::{token, Located, Refusal};
@@ -219,7 +221,34 @@ slips! {
     FoldNumbersRest,
     FoldWritesThoughShort,
     FoldNumberThoughShort,
+    ReportOfText,
+    ReportOutsideOfText,
+    ReportBeforeText,
+    ReportRoomFirst,
+    ReportUnknownAsName,
+    ReportOutsideAtReference,
+    ReportListedTwice,
+    ReportOneTooLong,
+    ReportCycleOfPattern,
+    ReportSignalFromOne,
+    ReportLetterLost,
+    ReportNoLetterShown,
+    ReportWithoutOffsetLost,
+    ReportBackwards,
+    ReportCount,
+    ReportRest,
+    ReportNumbersRest,
+    ReportRoomOneMore,
+    ReportWritesThoughShort,
+    ReportNumberThoughShort,
+    ReportWithoutNumber,
+    ReportMarkAtBegin,
+    ReportMarkOneLess,
+    ReportMarkInLastTurn,
 }
+
+/// X names are read where the second reader's feature says so: without them nothing shows these.
+const WITH_MARKS: [Slip; 3] = [Slip::ReportMarkAtBegin, Slip::ReportMarkOneLess, Slip::ReportMarkInLastTurn];
 
 struct Slipping<'t> {
     second: Second<'t>,
@@ -370,6 +399,10 @@ impl Reader for Slipping<'_> {
     fn fold(&self, folded: &mut [u8], numbers: &mut [u64]) -> u64 {
         self.slipped_fold(folded, numbers)
     }
+
+    fn report(&self, report: &[u8], lent: Slices) -> u64 {
+        self.slipped_report(report, lent)
+    }
 }
 
 impl Slipping<'_> {
@@ -434,13 +467,14 @@ const OFTEN: Often = Often {
     indexes: 5,
     saves: 3,
     folds: 3,
+    reports: 5,
     bytes: 100,
 };
 
 fn found(slip: Slip) -> bool {
     let mut comparison = Comparison::new();
     let mut random = Random::new(7);
-    let seeded = (0..600).flat_map(|seed| [text(seed), nested(seed), hurt(seed), flat(seed)]);
+    let seeded = (0..600).flat_map(|seed| [text(seed), nested(seed), hurt(seed), flat(seed), marked(seed)]);
     seeded.chain([SAMPLE.into()]).chain(short()).any(|text| {
         let slipping = Slipping { second: Second::new(&text), slip };
         comparison.readers(&format!("{slip:?}"), &slipping, &Second::new(&text), OFTEN, &mut random);
@@ -451,6 +485,7 @@ fn found(slip: Slip) -> bool {
 #[test]
 fn each_slip_is_found() {
     assert!(!found(Slip::None));
-    let missed: Vec<&Slip> = ALL.iter().filter(|&&slip| !found(slip)).collect();
+    let shows = |slip: &&Slip| REPORTS || !WITH_MARKS.contains(slip);
+    let missed: Vec<&Slip> = ALL.iter().filter(shows).filter(|&&slip| !found(slip)).collect();
     assert!(missed.is_empty(), "{missed:?}");
 }

@@ -2,10 +2,10 @@
 
 use crate::call::{outcome, Call};
 use crate::lent::Lent;
-use crate::reader::Reader;
-use second::refusal::TOO_MANY_CYCLES;
+use crate::reader::{Reader, OF_REPORT};
+use second::refusal::NOT_IN_RUN;
 
-const NUMBERS: usize = TOO_MANY_CYCLES as usize + 1;
+const NUMBERS: usize = NOT_IN_RUN as usize + 1;
 
 pub struct Tally {
     service: &'static str,
@@ -72,6 +72,7 @@ fn difference(call: &dyn Call, ours: &(u64, Lent), theirs: &(u64, Lent)) -> Opti
 pub fn say(answer: u64) -> String {
     match answer {
         0 => "an answer".into(),
+        refused if refused >= OF_REPORT => say(refused - OF_REPORT) + " of the report",
         refused => format!("{} at {}", refused % 32, refused / 32),
     }
 }

@@ -5,7 +5,7 @@ use crate::intake;
 use crate::special;
 use second::bounds::MAX_TEXT;
 use second::generate::random::Random;
-use second::generate::{flat, hurt, large, nested, text, LARGE_KINDS};
+use second::generate::{flat, hurt, large, marked, nested, text, LARGE_KINDS};
 
 const SEEDED: Often = Often {
     names: 2,
@@ -20,10 +20,12 @@ const SEEDED: Often = Often {
     indexes: 2,
     saves: 1,
     folds: 1,
+    reports: 1,
     bytes: 64,
 };
 const HURT_SEEDED: Often = Often { tokens: 20, places: 2, lines: 2, saves: 3, ..SEEDED };
 const FLAT_SEEDED: Often = Often { folds: 2, saves: 0, ..HURT_SEEDED };
+const MARKED_SEEDED: Often = Often { reports: 6, saves: 1, ..FLAT_SEEDED };
 const EACH: Often = Often { every: 200, bytes: 4_096, ..SEEDED };
 const SPECIAL: Often = Often {
     names: 100,
@@ -38,6 +40,7 @@ const SPECIAL: Often = Often {
     indexes: 60,
     saves: 10,
     folds: 10,
+    reports: 20,
     bytes: 10_000,
 };
 const LARGE: Often = Often {
@@ -53,14 +56,16 @@ const LARGE: Often = Often {
     indexes: 1,
     saves: 1,
     folds: 1,
+    reports: 1,
     bytes: 0,
 };
 
-/// One seed in so many has a text made for 17 as well, one in so many a text made for saving, one in so many a text made for folding, and one in
-/// so many a window at each cycle and a token at each byte.
+/// One seed in so many has a text made for 17 as well, one in so many a text made for saving, one in so many a text made for folding, one in
+/// so many a text with X names, and one in so many a window at each cycle and a token at each byte.
 const NESTED: u64 = 2;
 const HURT: u64 = 2;
 const FLAT: u64 = 8;
+const MARKED: u64 = 2;
 const EVERY: u64 = 64;
 
 /// A byte of each kind that the token rules tell apart, and the length up to which texts of these bytes are all taken.
@@ -76,6 +81,9 @@ pub fn seeded(seed: u64, comparison: &mut Comparison) {
     }
     if seed % FLAT == 0 {
         comparison.text(&format!("flat {seed}"), &flat(seed), FLAT_SEEDED, &mut random);
+    }
+    if seed % MARKED == 0 {
+        comparison.text(&format!("marked {seed}"), &marked(seed), MARKED_SEEDED, &mut random);
     }
     if seed % HURT == 0 {
         comparison.text(&format!("hurt {seed}"), &hurt(seed), HURT_SEEDED, &mut random);

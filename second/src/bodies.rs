@@ -148,7 +148,7 @@ impl Bodies {
         while !reader.is(b'}') {
             let full = self.bodies.len() == MAX_BODIES;
             let name = reader.new_name(&self.space(kind).names, full)?;
-            let body = body(reader, pins, timing, self, program, true)?;
+            let body = body(reader, pins, timing, self, program, None)?;
             self.bodies.push(body);
             self.space(kind).names.add(reader.text, name);
         }
@@ -157,20 +157,20 @@ impl Bodies {
     }
 }
 
-/// `{ statements }` of a macro or procedure, or of a pattern, which takes no arguments.
+/// `{ statements }` of a macro or procedure; or of a pattern, with the patterns' name space, which takes no arguments.
 pub fn body(
     reader: &mut Reader,
     pins: &Pins,
     timing: &Timing,
     bodies: &Bodies,
     program: &mut Program,
-    takes_arguments: bool,
+    marks: Option<&mut NameTable>,
 ) -> Answer<Body> {
     reader.byte(b'{')?;
     let first = program.statements.len() as u32;
-    let uses = Uses::new();
+    let (uses, takes_arguments) = (Uses::new(), marks.is_none());
     let mut inner =
-        BodyReader { reader, pins, timing, bodies, program, takes_arguments, uses, depth: 0, has_shift: false };
+        BodyReader { reader, pins, timing, bodies, program, takes_arguments, marks, uses, depth: 0, has_shift: false };
     let extent = inner.block(0)?;
     let (uses, depth) = (inner.uses, inner.depth);
     let statements = Range { first, end: program.statements.len() as u32 };

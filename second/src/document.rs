@@ -57,11 +57,11 @@ impl<'t> Document<'t> {
         let (mut patterns, mut headings) = (Vec::new(), Vec::new());
         while patterns.is_empty() || !reader.at_end() {
             let heading = heading(reader, &names, patterns.len())?;
-            patterns.push(body(reader, &pins, &timing, &bodies, &mut program, false)?);
             names.add(text, heading.name);
+            patterns.push(body(reader, &pins, &timing, &bodies, &mut program, Some(&mut names))?);
             headings.push(heading);
         }
-        let run = run_of(text, &names, &listed)?;
+        let run = run_of(text, &headings, &listed)?;
         let extent = extent_of(&run, &patterns)?;
         Ok(Document { text, pins, timing, bodies, program, patterns, headings, run, extent })
     }
@@ -117,11 +117,11 @@ fn heading(reader: &mut Reader, names: &NameTable, patterns: usize) -> Answer<He
     Ok(Heading { keyword, name })
 }
 
-/// The burst is number 0 of the name space, so a pattern's own number is one less than its name's.
-fn run_of(text: &[u8], names: &NameTable, listed: &[Token]) -> Answer<Vec<usize>> {
+/// The name space is also the burst's and that of X names, which are no patterns.
+fn run_of(text: &[u8], headings: &[Heading], listed: &[Token]) -> Answer<Vec<usize>> {
     let pattern = |entry: &Token| {
-        let name = names.find(text, entry.bytes(text)).unwrap_or(0);
-        name.checked_sub(1).ok_or_else(|| entry.refuse(PATTERN_NOT_DEFINED))
+        let pattern = headings.iter().position(|heading| heading.name.bytes(text) == entry.bytes(text));
+        pattern.ok_or_else(|| entry.refuse(PATTERN_NOT_DEFINED))
     };
     listed.iter().map(pattern).collect()
 }

@@ -43,7 +43,7 @@ fn edge_in(document: &Document, body: Range, shifts: u32, random: &mut Random) -
                 let body = document.bodies.bodies[used.body as usize].statements;
                 edge_in(document, body, used.shifts, random)
             }
-            Act::Vector { .. } | Act::Condition { .. } | Act::Table(_) => cycles(at),
+            Act::Vector { .. } | Act::Condition { .. } | Act::Table(_) | Act::Mark(_) => cycles(at),
         }
 }
 

@@ -2,6 +2,8 @@
 
 use second::listing::refusal_line;
 use second::refusal::Answer;
+use second::report::{Fail, Refused};
+use second::requests::REPORTS;
 use second::timing::Asked;
 use second::tokens::next_token;
 use second::{accept_mark, bounds, listing, Declared, Document, Refusal, MARK};
@@ -24,7 +26,6 @@ intake FILE
 list FILE
 save FILE
 fold FILE
-help
 ";
 
 /// Rows written at a time, so that no count asked for needs more memory.
@@ -67,9 +68,11 @@ fn answer(words: &[OsString], out: &mut dyn Write) -> Done {
         b"holds" => holds(exactly(rest, ["FILE", "INDEXFILE", "N"])?, out),
         b"save" => save(exactly(rest, ["FILE"])?, out),
         b"fold" => fold(exactly(rest, ["FILE"])?, out),
+        b"report" if REPORTS => report(exactly(rest, ["FILE", "REPORTFILE"])?, out),
         b"help" => {
             exactly(rest, [])?;
-            Ok(out.write_all(HELP.as_bytes())?)
+            let report = if REPORTS { "report FILE REPORTFILE\n" } else { "" };
+            Ok(write!(out, "{HELP}{report}help\n")?)
         }
         _ => Err(Fault(format!("no such command: {}", command.to_string_lossy()))),
     }
@@ -267,4 +270,27 @@ fn fold([file]: &[OsString; 1], out: &mut dyn Write) -> Done {
     let text = text_of(file)?;
     let folded = Document::read(&text).and_then(|document| document.folded());
     write_answer(out, &text, folded, |out, folded| out.write_all(&folded))
+}
+
+/// Where the report is refused the line says so, and its place, line and column are in the report.
+fn report([file, report]: &[OsString; 2], out: &mut dyn Write) -> Done {
+    let (text, report) = (text_of(file)?, text_of(report)?);
+    let fails = Document::read(&text).map_err(Refused::of_text);
+    match fails.and_then(|document| document.fails(&report).map_err(Refused::of_report)) {
+        Ok(fails) => {
+            writeln!(out, "FAILS {}", fails.len())?;
+            fails.iter().try_for_each(|fail| write_fail(out, fail))?;
+        }
+        Err(Refused { of_report: false, refusal }) => out.write_all(refusal_line(&text, refusal).as_bytes())?,
+        Err(Refused { of_report: true, refusal }) => write!(out, "REPORT {}", refusal_line(&report, refusal))?,
+    }
+    Ok(())
+}
+
+fn write_fail(out: &mut dyn Write, fail: &Fail) -> io::Result<()> {
+    let Fail { cycle, signal, letter } = *fail;
+    match letter {
+        Some(letter) => writeln!(out, "{cycle} {signal} {}", letter as char),
+        None => writeln!(out, "{cycle} {signal}"),
+    }
 }

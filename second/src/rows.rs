@@ -165,7 +165,7 @@ impl Player<'_, '_, '_> {
                 let body = self.body(&used);
                 self.pass_all(body, &mut Frame::of(self.document, &used));
             }
-            Act::Shift | Act::Call(_) => {}
+            Act::Shift | Act::Call(_) | Act::Mark(_) => {}
         }
     }
 
@@ -225,7 +225,7 @@ impl Player<'_, '_, '_> {
                 self.play(body, &mut Frame::of(self.document, &used));
                 self.row = caller;
             }
-            Act::Condition { .. } | Act::Table(_) => self.pass(at, frame),
+            Act::Condition { .. } | Act::Table(_) | Act::Mark(_) => self.pass(at, frame),
         }
     }
 

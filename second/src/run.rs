@@ -196,6 +196,7 @@ impl<'d> Judge<'d, '_> {
                 effect.needs_table |= inside.needs_table;
                 effect.fitting_tables &= inside.fitting_tables;
             }
+            Act::Mark(_) => {}
         }
     }
 
@@ -294,7 +295,7 @@ impl<'d> Judge<'d, '_> {
                 let body = self.body(&used);
                 self.fault(body.statements, before.entered(), &mut Frame::of(self.document, &used))
             }
-            Act::Condition { .. } | Act::Table(_) => 0,
+            Act::Condition { .. } | Act::Table(_) | Act::Mark(_) => 0,
         }
     }
 }

@@ -3,10 +3,12 @@
 use crate::bodies::{Bodies, Given, Uses};
 use crate::bounds::{MAX_ARGUMENT, MAX_DEPTH, MAX_TURNS};
 use crate::data::{item, Item, Piece};
+use crate::names::NameTable;
 use crate::numbers::decimal;
 use crate::pinset::PinSet;
 use crate::reader::Reader;
 use crate::refusal::*;
+use crate::requests::REPORTS;
 use crate::signals::{List, Pins};
 use crate::timing::Timing;
 use crate::tokens::Token;
@@ -76,6 +78,8 @@ pub enum Act {
     Shift,
     Macro(Use),
     Call(Use),
+    /// `X NAME;`, a place that fail reports refer to.
+    Mark(Token),
 }
 
 #[derive(Clone, Copy, Debug)]
@@ -134,6 +138,8 @@ pub struct BodyReader<'r, 't> {
     pub program: &'r mut Program,
     /// A macro's or procedure's body, where Shift and `#` may stand.
     pub takes_arguments: bool,
+    /// The patterns' name space, in a pattern alone: X names are declared there.
+    pub marks: Option<&'r mut NameTable>,
     pub uses: Uses,
     pub depth: usize,
     pub has_shift: bool,
@@ -158,6 +164,7 @@ impl BodyReader<'_, '_> {
             b"W" => self.table(),
             b"Loop" => self.repeat(level),
             b"Macro" | b"Call" => self.body_use(level),
+            b"X" if REPORTS => self.mark(),
             b"Shift" if self.takes_arguments && level == 0 && !self.has_shift => self.shift(),
             _ => Err(self.reader.refuse(TOKEN_NOT_ALLOWED)),
         }
@@ -186,6 +193,20 @@ impl BodyReader<'_, '_> {
         self.reader.byte(b';')?;
         let extent = Extent { size: 1, cycles: 0 };
         self.program.push(Act::Table(table as u8), extent);
+        Ok(extent)
+    }
+
+    fn mark(&mut self) -> Answer<Extent> {
+        let names = match &mut self.marks {
+            Some(names) => names,
+            None => return Err(self.reader.refuse(TOKEN_NOT_ALLOWED)),
+        };
+        self.reader.take();
+        let name = self.reader.new_name(names, false)?;
+        self.reader.byte(b';')?;
+        names.add(self.reader.text, name);
+        let extent = Extent { size: 1, cycles: 0 };
+        self.program.push(Act::Mark(name), extent);
         Ok(extent)
     }
 

@@ -45,9 +45,37 @@ fn help_names_the_commands() {
         "list FILE",
         "save FILE",
         "fold FILE",
+        #[cfg(feature = "reports")]
+        "report FILE REPORTFILE",
         "help",
     ];
     answers(&["help"], &(commands.join("\n") + "\n"));
+}
+
+#[cfg(feature = "reports")]
+#[test]
+fn reports() {
+    let good = &file("reported.stil", SAMPLE.replace("Loop 2 {", "X x;\nLoop 2 {").as_bytes());
+    let of = |bytes: &str| file("fails", bytes.as_bytes());
+    let given = of("PatternFailReport {\n Pattern p; FailData { x A; p B 6'H' 3; } }");
+    answers(&["report", good, &given], "FAILS 3\n0 0\n6 1 H\n3 1\n");
+    answers(&["report", good, &of("PatternFailReport { Pattern p; FailData { } }")], "FAILS 0\n");
+    answers(&["report", good, &of("\n PatternFailReport\n(")], "REPORT REFUSED 4 AT 20 LINE 3 COLUMN 1\n");
+    let outside = "PatternFailReport { Pattern p; FailData {\n p B 7; } }";
+    answers(&["report", good, &of(outside)], "REPORT REFUSED 24 AT 47 LINE 2 COLUMN 6\n");
+    answers(&["report", good, &of(&" ".repeat(70_000))], "REPORT REFUSED 1 AT 0 LINE 1 COLUMN 1\n");
+    // The text's refusal is the plain line.
+    answers(&["report", &file("unread.stil", b"\nSTIL 2.0;"), &of("")], "REFUSED 4 AT 6 LINE 2 COLUMN 6\n");
+    turned_down(&["report", good], "REPORTFILE");
+    turned_down(&["report", good, &given, &given], "one word too many");
+    turned_down(&["report", "/nowhere", "/neither"], "/nowhere");
+    turned_down(&["report", good, "/nowhere"], "/nowhere");
+}
+
+#[cfg(not(feature = "reports"))]
+#[test]
+fn no_reports() {
+    turned_down(&["report", "/nowhere", "/neither"], "no such command: report");
 }
 
 #[test]

@@ -65,6 +65,7 @@ impl<'d> Plain<'d> {
             }
             Act::Condition { assigns } => self.assign(assigns, arguments),
             Act::Table(table) => self.table = Some(table),
+            Act::Mark(_) => {}
             Act::Loop { turns, .. } => (0..turns).for_each(|_| self.all(inner, arguments)),
             Act::Shift => (0..arguments.shifts).for_each(|_| self.all(inner, arguments)),
             Act::Macro(used) => self.body(&used),

@@ -1,9 +1,11 @@
-//! Writes generated texts: `generate SEED`, `generate nested SEED`, `generate hurt SEED`, `generate flat SEED`, `generate DIR FIRST COUNT`, `generate big KIND`, `generate big KIND BYTES SIGNALS`,
+//! Writes generated texts: `generate SEED`, `generate nested SEED`, `generate hurt SEED`, `generate flat SEED`, `generate marked SEED` and `generate report SEED` for it, `generate DIR FIRST COUNT`, `generate big KIND`, `generate big KIND BYTES SIGNALS`,
 //! `generate run KIND SIGNALS`, `generate contrived KIND SIGNALS`.
 
+use second::generate::random::Random;
 use second::generate::{
-    contrived, flat, hurt, large, nested, run, sized, text, CONTRIVED_KINDS, LARGE_KINDS, RUN_KINDS, SIZED_KINDS,
+    contrived, flat, hurt, large, marked, nested, report, run, sized, text, CONTRIVED_KINDS, LARGE_KINDS, RUN_KINDS, SIZED_KINDS,
 };
+use second::Document;
 use std::io::{self, Write};
 use std::path::Path;
 use std::process::ExitCode;
@@ -21,7 +23,7 @@ fn main() -> ExitCode {
 }
 
 const USAGE: &str =
-    "generate SEED | generate nested SEED | generate hurt SEED | generate flat SEED | generate DIR FIRST COUNT | generate big KIND
+    "generate SEED | generate nested SEED | generate hurt SEED | generate flat SEED | generate marked SEED | generate report SEED | generate DIR FIRST COUNT | generate big KIND
 generate big KIND BYTES SIGNALS | generate run KIND SIGNALS | generate contrived KIND SIGNALS";
 
 fn answer(words: &[&str]) -> Result<(), String> {
@@ -50,6 +52,11 @@ fn answer(words: &[&str]) -> Result<(), String> {
             })?)
         }
         ["nested", seed] => write_out(&nested(number(seed)?)),
+        ["marked", seed] => write_out(&marked(number(seed)?)),
+        ["report", seed] => {
+            let text = marked(number(seed)?);
+            write_out(&report(Document::read(&text).ok().as_ref(), &mut Random::new(number(seed)?)))
+        }
         [seed] => write_out(&text(number(seed)?)),
         [dir, first, count] => write_files(Path::new(dir), number(first)?, number(count)?),
         _ => Err(USAGE.into()),
