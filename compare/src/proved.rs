@@ -127,16 +127,20 @@ pub const SAVE: bool = cfg!(feature = "save");
 /// Whether it folds texts.
 pub const FOLD: bool = cfg!(feature = "fold");
 
+/// Whether it refuses events across the cycle's edge, and reads times before it.
+pub const EDGES: bool = cfg!(feature = "edges");
+
 /// Whether it has X names and answers fail reports.
 pub const REPORTS: bool = cfg!(feature = "reports");
 
-pub const FEATURES: [(&str, bool); 7] = [
+pub const FEATURES: [(&str, bool); 8] = [
     ("waveforms", WAVEFORMS),
     ("marks", MARKS),
     ("lines", LINES),
     ("index", INDEX),
     ("save", SAVE),
     ("fold", FOLD),
+    ("edges", EDGES),
     ("reports", REPORTS),
 ];
 

@@ -17,7 +17,7 @@ pub trait Reader {
     fn check(&self, numbers: &mut [u64]) -> u64;
     /// Two numbers: place and length.
     fn name(&self, table: u8, number: u64, numbers: &mut [u64]) -> u64;
-    /// One number: the count of events.
+    /// One number: the count of events. Their times are signed, in two's complement.
     fn waveform(&self, asked: Asked, times: &mut [u64], letters: &mut [u8], count: &mut [u64]) -> u64;
     /// One number: all events, or how many waveforms were served before the first that is refused.
     fn waveforms(&self, list: &[u64], lent: Slices) -> u64;
@@ -100,6 +100,14 @@ pub fn save_in(text: &mut [u8], spans: &mut [u64], numbers: &mut [u64]) -> u64 {
     told(count)
 }
 
+/// Times are signed, and lent in as many bits without a sign, as all numbers are.
+fn signed<T>(times: &mut [u64], write: impl FnOnce(&mut [i64]) -> T) -> T {
+    let mut signed: Vec<i64> = times.iter().map(|&time| time as i64).collect();
+    let answer = write(&mut signed);
+    times.iter_mut().zip(signed).for_each(|(time, signed)| *time = signed as u64);
+    answer
+}
+
 /// Writes the numbers to the front; the rest stays.
 fn write_front<const N: usize>(room: &mut [u64], numbers: [u64; N]) -> Answer<()> {
     room.get_mut(..N).ok_or_else(too_short)?.copy_from_slice(&numbers);
@@ -125,7 +133,9 @@ impl Reader for Second<'_> {
 
     fn waveform(&self, asked: Asked, times: &mut [u64], letters: &mut [u8], count: &mut [u64]) -> u64 {
         told(self.document().and_then(|document| match count.first_mut() {
-            Some(count) => document.waveform(asked, times, letters).map(|events| *count = events),
+            Some(count) => {
+                signed(times, |times| document.waveform(asked, times, letters)).map(|events| *count = events)
+            }
             // Every waveform has an event, so without any room the answer is 18 or 19 as well.
             None => document.waveform(asked, &mut [], &mut []).map(|_| ()),
         }))
@@ -135,7 +145,8 @@ impl Reader for Second<'_> {
         told(self.document().and_then(|document| {
             accept_list(list, lent.counts)?;
             let number = lent.numbers.first_mut().ok_or_else(too_short)?;
-            let (told, answer) = match document.waveforms(list, lent.times, lent.bytes, lent.counts)? {
+            let Slices { times, bytes, counts, .. } = lent;
+            let (told, answer) = match signed(times, |times| document.waveforms(list, times, bytes, counts))? {
                 Waveforms::All { events } => (events, Ok(())),
                 Waveforms::Stopped { served, refusal } => (served, Err(refusal)),
             };

@@ -1,5 +1,6 @@
 //! That a difference is found: readers that answer as the second one does, but for one slip.
 
+mod edges;
 mod fold;
 mod index;
 mod intake;
@@ -15,9 +16,9 @@ use crate::reader::{told, write_next, Reader, Second};
 use crate::special::SAMPLE;
 use crate::texts::short;
 use second::generate::random::Random;
-use second::generate::{flat, hurt, marked, nested, text};
+use second::generate::{crossing, flat, hurt, marked, nested, text};
 use second::refusal::Answer;
-use second::requests::REPORTS;
+use second::requests::{EDGES, REPORTS};
 use second::timing::Asked;
 use second::tokens::check_bytes;
 use second::{token, Located, Refusal};
@@ -245,9 +246,34 @@ slips! {
     ReportMarkAtBegin,
     ReportMarkOneLess,
     ReportMarkInLastTurn,
+    EdgesUnchecked,
+    EdgesTwoTurns,
+    EdgesAtEarlier,
+    EdgesSameTime,
+    EdgesLaterPeriod,
+    EdgesNoPeriod,
+    EdgesOneCategory,
+    EdgesFirstSignal,
+    EdgesAcrossPatterns,
+    EdgesPastOthers,
+    EdgesTimesUnsigned,
 }
 
 /// X names are read where the second reader's feature says so: without them nothing shows these.
+/// As those of events across the edge need theirs.
+const WITH_EDGES: [Slip; 11] = [
+    Slip::EdgesUnchecked,
+    Slip::EdgesTwoTurns,
+    Slip::EdgesAtEarlier,
+    Slip::EdgesSameTime,
+    Slip::EdgesLaterPeriod,
+    Slip::EdgesNoPeriod,
+    Slip::EdgesOneCategory,
+    Slip::EdgesFirstSignal,
+    Slip::EdgesAcrossPatterns,
+    Slip::EdgesPastOthers,
+    Slip::EdgesTimesUnsigned,
+];
 const WITH_MARKS: [Slip; 3] = [Slip::ReportMarkAtBegin, Slip::ReportMarkOneLess, Slip::ReportMarkInLastTurn];
 
 struct Slipping<'t> {
@@ -264,7 +290,7 @@ impl Slipping<'_> {
 
 impl Reader for Slipping<'_> {
     fn check(&self, numbers: &mut [u64]) -> u64 {
-        let answer = self.second.check(numbers);
+        let answer = self.edges_checked(numbers).unwrap_or_else(|| self.second.check(numbers));
         if self.slips(Slip::CheckCycles, answer == 0) {
             numbers[3] += 1;
         }
@@ -310,6 +336,9 @@ impl Reader for Slipping<'_> {
         let events = count.first().map_or(0, |&events| events as usize);
         if self.slips(Slip::WaveformRest, answer == 0 && letters.len() > events) {
             letters[events] = 0;
+        }
+        if self.slips(Slip::EdgesTimesUnsigned, answer == 0) {
+            times[..events].iter_mut().for_each(|time| *time = (*time as i64).unsigned_abs());
         }
         if self.slips(Slip::WaveformLastLetter, answer == 0 && events > 2) {
             letters[events - 1] = letters[0];
@@ -474,7 +503,8 @@ const OFTEN: Often = Often {
 fn found(slip: Slip) -> bool {
     let mut comparison = Comparison::new();
     let mut random = Random::new(7);
-    let seeded = (0..600).flat_map(|seed| [text(seed), nested(seed), hurt(seed), flat(seed), marked(seed)]);
+    let seeded =
+        (0..600).flat_map(|seed| [text(seed), nested(seed), hurt(seed), flat(seed), marked(seed), crossing(seed)]);
     seeded.chain([SAMPLE.into()]).chain(short()).any(|text| {
         let slipping = Slipping { second: Second::new(&text), slip };
         comparison.readers(&format!("{slip:?}"), &slipping, &Second::new(&text), OFTEN, &mut random);
@@ -485,7 +515,7 @@ fn found(slip: Slip) -> bool {
 #[test]
 fn each_slip_is_found() {
     assert!(!found(Slip::None));
-    let shows = |slip: &&Slip| REPORTS || !WITH_MARKS.contains(slip);
+    let shows = |slip: &&Slip| (REPORTS || !WITH_MARKS.contains(slip)) && (EDGES || !WITH_EDGES.contains(slip));
     let missed: Vec<&Slip> = ALL.iter().filter(shows).filter(|&&slip| !found(slip)).collect();
     assert!(missed.is_empty(), "{missed:?}");
 }

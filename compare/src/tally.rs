@@ -3,9 +3,9 @@
 use crate::call::{outcome, Call};
 use crate::lent::Lent;
 use crate::reader::{Reader, OF_REPORT};
-use second::refusal::NOT_IN_RUN;
+use second::refusal::EVENTS_OUT_OF_ORDER;
 
-const NUMBERS: usize = NOT_IN_RUN as usize + 1;
+const NUMBERS: usize = EVENTS_OUT_OF_ORDER as usize + 1;
 
 pub struct Tally {
     service: &'static str,

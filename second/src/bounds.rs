@@ -16,6 +16,7 @@ pub const MAX_ARGUMENT: u64 = 4_096;
 pub const MAX_REPEAT: u64 = 4_096;
 pub const MAX_TURNS: u64 = 16_777_215;
 pub const MAX_PERIOD: u64 = 1_000_000_000;
+/// An event's time, behind its cycle's start or, negative, before it.
 pub const MAX_TIME: u64 = 1_000_000_000;
 pub const MAX_SIZE: u64 = 65_536;
 pub const MAX_CYCLES: u64 = 1_099_511_627_776;

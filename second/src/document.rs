@@ -9,7 +9,7 @@ use crate::signals::{self, Pins};
 use crate::statements::{Extent, Program};
 use crate::timing::{self, Timing};
 use crate::tokens::Token;
-use crate::{groups, run};
+use crate::{across, groups, run};
 
 /// An accepted text.
 pub struct Document<'t> {
@@ -33,10 +33,11 @@ pub struct Heading {
 }
 
 impl<'t> Document<'t> {
-    /// Accepts the text, or refuses it with 1 to 17.
+    /// Accepts the text, or refuses it with 1 to 17 or 25.
     pub fn read(text: &'t [u8]) -> Answer<Document<'t>> {
         let document = Document::read_unplayed(text)?;
         run::check_cycles(&document)?;
+        across::check_edges(&document)?;
         Ok(document)
     }
 

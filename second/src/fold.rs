@@ -92,7 +92,7 @@ impl Document<'_> {
         for (table, &period) in self.timing.periods.iter().enumerate() {
             folded.put("WaveformTable ");
             folded.bytes(self.table_name(table));
-            folded.put(&format!("{{Period'{}';Waveforms{{\n", time(period)));
+            folded.put(&format!("{{Period'{}';Waveforms{{\n", time(period as i64)));
             (0..self.pins.signals).for_each(|signal| self.put_waveforms(table, signal, folded));
             folded.put("}}\n");
         }
@@ -119,8 +119,8 @@ impl Document<'_> {
     }
 }
 
-/// In ns where it is a whole number of them.
-fn time(ps: u64) -> String {
+/// In ns where it is a whole number of them, with its sign if it is before the cycle.
+fn time(ps: i64) -> String {
     if ps % 1_000 == 0 {
         format!("{}ns", ps / 1_000)
     } else {

@@ -2,6 +2,7 @@
 
 mod blocks;
 mod contrived;
+mod crossing;
 mod damage;
 mod flat;
 mod hurt;
@@ -15,6 +16,7 @@ mod statements;
 mod tokens;
 
 pub use contrived::{contrived, CONTRIVED_KINDS};
+pub use crossing::crossing;
 pub use flat::flat;
 pub use hurt::hurt;
 pub use large::{large, sized, LARGE_KINDS, SIZED_KINDS};

@@ -1,5 +1,6 @@
 //! The second reader: document 01's subset of STIL, read independently of the proved reader.
 
+pub mod across;
 pub mod bodies;
 pub mod bounds;
 pub mod data;

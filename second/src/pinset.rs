@@ -4,7 +4,7 @@ use crate::bounds::MAX_SIGNALS;
 
 const WORDS: usize = (MAX_SIGNALS + 63) / 64;
 
-#[derive(Clone, Copy, Debug, PartialEq, Eq)]
+#[derive(Clone, Copy, Debug, PartialEq, Eq, Hash)]
 pub struct PinSet([u64; WORDS]);
 
 impl PinSet {

@@ -34,6 +34,7 @@ pub const INDEX_NOT_OF_TEXT: u8 = 21;
 pub const TOO_MANY_PATTERNS: u8 = 22;
 pub const TOO_MANY_CYCLES: u8 = 23;
 pub const NOT_IN_RUN: u8 = 24;
+pub const EVENTS_OUT_OF_ORDER: u8 = 25;
 
 impl Refusal {
     /// Of its place in the text that it is about; a refusal that is about no byte is at place 0, the first line's first.

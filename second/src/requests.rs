@@ -1,4 +1,7 @@
 //! Requests that the proved reader does not have yet: each holds where its feature is named, and nowhere else.
 
+/// Request 8: events across the cycle's edge, and times before it.
+pub const EDGES: bool = cfg!(feature = "edges");
+
 /// Request 9: `X NAME;` and fail reports.
 pub const REPORTS: bool = cfg!(feature = "reports");

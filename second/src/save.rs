@@ -50,7 +50,7 @@ pub fn saved(text: &[u8]) -> Answer<(Vec<u8>, Vec<Range<usize>>)> {
 pub fn hurt_span(text: &[u8], refusal: Refusal) -> Option<Range<usize>> {
     let place = refusal.place as usize;
     match refusal.number {
-        TOKEN_NOT_ALLOWED..=TOO_DEEP | CYCLE_WITHOUT_WAVEFORM => {
+        TOKEN_NOT_ALLOWED..=TOO_DEEP | CYCLE_WITHOUT_WAVEFORM | EVENTS_OUT_OF_ORDER => {
             blocks(text).into_iter().find(|block| block.holds(place)).map(|block| block.bytes)
         }
         PATTERN_NOT_DEFINED => Some(place..entry_end(text, place)),

@@ -57,7 +57,7 @@ pub fn waveform(
     table: u64,
     signal: u64,
     character: u8,
-    times: &mut [u64],
+    times: &mut [i64],
     letters: &mut [u8],
 ) -> Answer<u64> {
     Document::read(text)?.waveform(Asked { table, signal, character }, times, letters)
@@ -92,7 +92,7 @@ impl Document<'_> {
         Ok(Window { rows, visits: rows::write(self, first, mark, due) })
     }
 
-    pub fn waveform(&self, asked: Asked, times: &mut [u64], letters: &mut [u8]) -> Answer<u64> {
+    pub fn waveform(&self, asked: Asked, times: &mut [i64], letters: &mut [u8]) -> Answer<u64> {
         let events = self.timing.waveform(self.text, &self.pins, asked);
         let events = events.ok_or_else(|| Refusal::new(NO_SUCH_ITEM, 0))?;
         if times.len() < events.len() || letters.len() < events.len() {

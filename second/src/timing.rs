@@ -5,6 +5,7 @@ use crate::names::NameTable;
 use crate::numbers::time;
 use crate::reader::Reader;
 use crate::refusal::*;
+use crate::requests::EDGES;
 use crate::signals::{List, Pins};
 use crate::tokens::Token;
 
@@ -28,7 +29,7 @@ struct Entry {
 }
 
 struct Event {
-    time: u64,
+    time: i64,
     first_letter: u32,
     letters: u32,
 }
@@ -39,6 +40,17 @@ impl Event {
         let which = if self.letters == 1 { 0 } else { character };
         &letters[self.first_letter as usize + which]
     }
+}
+
+/// The times of the first and the last event of a waveform, of its compare events and of its drive events.
+pub type Reach = [Option<(i64, i64)>; 2];
+
+/// A waveform by its reach alone.
+pub struct Shape<'d> {
+    pub table: u8,
+    pub pins: &'d [u8],
+    pub character: u8,
+    pub reach: Reach,
 }
 
 pub struct Timing {
@@ -69,7 +81,7 @@ impl Timing {
     }
 
     /// Times and letters of one waveform's events, as written.
-    pub fn waveform(&self, text: &[u8], pins: &Pins, asked: Asked) -> Option<Vec<(u64, u8)>> {
+    pub fn waveform(&self, text: &[u8], pins: &Pins, asked: Asked) -> Option<Vec<(i64, u8)>> {
         let Asked { table, signal, character } = asked;
         let within = table < self.names.count() as u64 && signal < pins.signals as u64;
         if !within || !character.is_ascii() || self.lacks(signal as u8, character) >> table & 1 == 1 {
@@ -86,9 +98,24 @@ impl Timing {
         None
     }
 
-    fn events_of(&self, entry: &Entry, which: usize) -> Vec<(u64, u8)> {
+    fn events_of(&self, entry: &Entry, which: usize) -> Vec<(i64, u8)> {
         let events = &self.events[entry.first_event as usize..][..entry.events as usize];
         events.iter().map(|event| (event.time, *event.letter(&self.letters, which))).collect()
+    }
+
+    /// All waveforms, each with the signals that it is of.
+    pub fn shapes<'d>(&'d self, text: &'d [u8], pins: &'d Pins) -> impl Iterator<Item = Shape<'d>> {
+        self.entries.iter().flat_map(move |entry| {
+            let shape = move |(which, &character): (usize, &u8)| {
+                let (table, pins, mut reach) = (entry.table, pins.members(entry.list), Reach::default());
+                for (time, letter) in self.events_of(entry, which) {
+                    let first = reach[usize::from(is_drive(letter))].map_or(time, |(first, _)| first);
+                    reach[usize::from(is_drive(letter))] = Some((first, time));
+                }
+                Shape { table, pins, character, reach }
+            };
+            entry.chars.bytes(text).iter().enumerate().map(shape)
+        })
     }
 }
 
@@ -115,8 +142,7 @@ fn table(reader: &mut Reader, pins: &Pins, timing: &mut Timing) -> Answer<()> {
     timing.names.add(reader.text, name);
     reader.byte(b'{')?;
     reader.fixed(b"Period")?;
-    let period = quoted_time(reader, 1, MAX_PERIOD)?;
-    timing.periods.push(period);
+    timing.periods.push(period(reader)?);
     reader.byte(b';')?;
     reader.fixed(b"Waveforms")?;
     reader.byte(b'{')?;
@@ -131,11 +157,23 @@ fn table(reader: &mut Reader, pins: &Pins, timing: &mut Timing) -> Answer<()> {
     reader.bytes(b"}}")
 }
 
-fn quoted_time(reader: &mut Reader, least: u64, most: u64) -> Answer<u64> {
+fn period(reader: &mut Reader) -> Answer<u64> {
     reader.byte(b'\'')?;
-    let value = reader.number(time, least, most)?;
+    let value = reader.number(time, 1, MAX_PERIOD)?;
     reader.byte(b'\'')?;
     Ok(value)
+}
+
+/// A sign stands in an event's time alone, before its word.
+fn event_time(reader: &mut Reader) -> Answer<i64> {
+    reader.byte(b'\'')?;
+    let before = EDGES && reader.is(b'-');
+    if before {
+        reader.take();
+    }
+    let value = reader.number(time, 0, MAX_TIME)? as i64;
+    reader.byte(b'\'')?;
+    Ok(if before { -value } else { value })
 }
 
 fn entry(reader: &mut Reader, pins: &Pins, list: List, timing: &mut Timing) -> Answer<()> {
@@ -180,8 +218,8 @@ fn claim_chars(word: Token, chars: &[u8], members: &[u8], table: u8, timing: &mu
 }
 
 /// One `'T' E;`. Each character keeps the last time of its drive and of its compare events.
-fn event(reader: &mut Reader, last_times: &mut [[Option<u64>; 2]], timing: &mut Timing) -> Answer<()> {
-    let time = quoted_time(reader, 0, MAX_TIME)?;
+fn event(reader: &mut Reader, last_times: &mut [[Option<i64>; 2]], timing: &mut Timing) -> Answer<()> {
+    let time = event_time(reader)?;
     let first_letter = timing.letters.len();
     timing.letters.push(event_letter(reader)?);
     while reader.is(b'/') {

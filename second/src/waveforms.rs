@@ -21,7 +21,7 @@ pub enum Waveforms {
 pub fn waveforms(
     text: &[u8],
     list: &[u64],
-    times: &mut [u64],
+    times: &mut [i64],
     letters: &mut [u8],
     counts: &mut [u64],
 ) -> Answer<Waveforms> {
@@ -45,7 +45,7 @@ impl Document<'_> {
     pub fn waveforms(
         &self,
         list: &[u64],
-        times: &mut [u64],
+        times: &mut [i64],
         letters: &mut [u8],
         counts: &mut [u64],
     ) -> Answer<Waveforms> {

@@ -289,3 +289,16 @@ fn faults_of_commands_with_one_file() {
         turned_down(&[command, "/"], "cannot be read: /");
     }
 }
+
+#[cfg(feature = "edges")]
+#[test]
+fn times_before_the_cycle() {
+    let early = &file("early.stil", SAMPLE.replace("A { 01 { '0ns'", "A { 01 { '-1500ps'").as_bytes());
+    answers(&["waveform", early, "0", "0", "1"], "EVENTS 1\n-1500 U\n");
+    let late = SAMPLE.replace("A { 01 { '0ns' D/U;", "A { 01 { '0ns' D/U; '200ns' Z;");
+    let place = late.find("V { ab = 0H; }").expect("there");
+    let column = place - late[..place].rfind('\n').expect("a line");
+    let line = 1 + late[..place].matches('\n').count();
+    let late = &file("late.stil", late.as_bytes());
+    answers(&["list", late], &format!("REFUSED 25 AT {place} LINE {line} COLUMN {column}\n"));
+}

@@ -213,7 +213,7 @@ impl<'t> Plain<'t> {
         rest.map(|token| plain(token.bytes(self.document.text))).collect()
     }
 
-    fn time(ps: u64) -> String {
+    fn time(ps: i64) -> String {
         match (ps / 1_000, ps % 1_000) {
             (ns, 0) => format!("{ns}ns"),
             _ => format!("{ps}ps"),
@@ -228,7 +228,7 @@ impl<'t> Plain<'t> {
         let mut lines = format!("STIL 1.0;\nSignals{{{signals}}}\nTiming{{\n");
         for table in 0..self.document.summary().tables as usize {
             let period = self.behind(self.token(Declared::Table, table)).replace("{Period'", "").replace('\'', "");
-            let period = Plain::time(second::numbers::time(period.as_bytes()).expect("a time"));
+            let period = Plain::time(second::numbers::time(period.as_bytes()).expect("a time") as i64);
             lines += &format!("WaveformTable {}{{Period'{period}';Waveforms{{\n", self.name(Declared::Table, table));
             lines += &(0..self.signals).map(|signal| self.waveforms(table, signal)).collect::<String>();
             lines += "}}\n";

@@ -6,10 +6,10 @@ use std::time::Instant;
 
 const SEEDS: u64 = 20_000;
 
-/// Each refusal is reached often, a third is accepted, and accepted texts sit exactly on the bounds.
+/// Each refusal is reached often, a third is accepted (or has 25 alone against it), and accepted texts sit exactly on the bounds.
 #[test]
 fn refusals_and_bounds_are_reached() {
-    let (mut counts, mut met) = ([0u32; 18], [0u32; 6]);
+    let (mut counts, mut met) = ([0u32; 26], [0u32; 6]);
     for seed in 0..SEEDS {
         let text = text(seed);
         match check(&text) {
@@ -24,9 +24,9 @@ fn refusals_and_bounds_are_reached() {
     }
     println!("accepted {}, refused by number {:?}", counts[0], &counts[1..]);
     println!("on the bound of signals, tables, listed, size, cycles, length: {met:?}");
-    assert!(counts[1..].iter().all(|&count| count >= 20), "{counts:?}");
-    let third = SEEDS as u32 / 3;
-    assert!(counts[0] > third * 3 / 4 && counts[0] < third * 5 / 4, "{counts:?}");
+    assert!(counts[1..18].iter().all(|&count| count >= 20), "{counts:?}");
+    let (third, in_form) = (SEEDS as u32 / 3, counts[0] + counts[25]);
+    assert!(in_form > third * 3 / 4 && in_form < third * 5 / 4, "{counts:?}");
     assert!(met.iter().all(|&count| count >= 20), "{met:?}");
 }
 
@@ -106,14 +106,14 @@ fn all_answer(text: &[u8], signals: u64, tables: u64) {
     }
     let mut served = 0;
     for character in 0..=255 {
-        let (mut times, mut letters) = ([u64::MAX; 17], [7; 17]);
+        let (mut times, mut letters) = ([i64::MAX; 17], [7; 17]);
         match waveform(text, tables - 1, signals - 1, character, &mut times, &mut letters) {
             Ok(count) => {
                 let count = count as usize;
                 served += 1;
                 assert!((1..=16).contains(&count) && times[..count].iter().all(|&time| time <= 1_000_000_000));
                 assert!(
-                    times[count..].iter().all(|&time| time == u64::MAX)
+                    times[count..].iter().all(|&time| time == i64::MAX)
                         && letters[count..].iter().all(|&letter| letter == 7)
                 );
                 assert_eq!(waveform(text, tables - 1, signals - 1, character, &mut [], &mut letters), Err(none(19)));

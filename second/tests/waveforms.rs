@@ -10,7 +10,7 @@ use second::{check, waveforms, Document, Refusal, Waveforms};
 /// What was lent, filled with what is in no answer; the lengths are the rooms.
 #[derive(Clone, Debug, PartialEq, Eq)]
 struct Lent {
-    times: Vec<u64>,
+    times: Vec<i64>,
     letters: Vec<u8>,
     counts: Vec<u64>,
 }
@@ -21,7 +21,7 @@ impl Lent {
     }
 
     /// With these items at the fronts.
-    fn holding(mut self, times: &[u64], letters: &str, counts: &[u64]) -> Lent {
+    fn holding(mut self, times: &[i64], letters: &str, counts: &[u64]) -> Lent {
         self.times[..times.len()].copy_from_slice(times);
         self.letters[..letters.len()].copy_from_slice(letters.as_bytes());
         self.counts[..counts.len()].copy_from_slice(counts);
@@ -225,7 +225,7 @@ fn draw_list(having: &[[u64; 3]], random: &mut Random) -> Vec<u64> {
 }
 
 /// The events of one waveform of the list, whatever room is left.
-fn group(document: &Document, numbers: &[u64]) -> Answer<Vec<(u64, u8)>> {
+fn group(document: &Document, numbers: &[u64]) -> Answer<Vec<(i64, u8)>> {
     let (mut times, mut letters) = ([0; 16], [0; 16]);
     let none = Refusal { number: 18, place: 0 };
     let character = numbers.get(2).and_then(|&character| u8::try_from(character).ok()).ok_or(none)?;
@@ -235,13 +235,13 @@ fn group(document: &Document, numbers: &[u64]) -> Answer<Vec<(u64, u8)>> {
 }
 
 /// The request's words over the groups of a whole list: the longest front that is there and has room is served.
-fn plain(groups: &[Answer<Vec<(u64, u8)>>], lent: &Lent) -> (Answer<Waveforms>, Lent) {
+fn plain(groups: &[Answer<Vec<(i64, u8)>>], lent: &Lent) -> (Answer<Waveforms>, Lent) {
     let mut left = lent.clone();
     if groups.len() > 64 || groups.len() > left.counts.len() {
         return (refused(if groups.len() > 64 { 8 } else { 19 }), left);
     }
     let room = left.times.len().min(left.letters.len());
-    let there: Vec<&[(u64, u8)]> = groups.iter().map_while(|group| group.as_deref().ok()).collect();
+    let there: Vec<&[(i64, u8)]> = groups.iter().map_while(|group| group.as_deref().ok()).collect();
     let events = |served: usize| there[..served].concat();
     let served = (0..=there.len()).rev().find(|&served| events(served).len() <= room).expect("none");
     for (at, (time, letter)) in events(served).into_iter().enumerate() {
