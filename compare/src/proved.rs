@@ -130,10 +130,13 @@ pub const FOLD: bool = cfg!(feature = "fold");
 /// Whether it refuses events across the cycle's edge, and reads times before it.
 pub const EDGES: bool = cfg!(feature = "edges");
 
+/// Whether it reads hex data.
+pub const HEX: bool = cfg!(feature = "hex");
+
 /// Whether it has X names and answers fail reports.
 pub const REPORTS: bool = cfg!(feature = "reports");
 
-pub const FEATURES: [(&str, bool); 8] = [
+pub const FEATURES: [(&str, bool); 9] = [
     ("waveforms", WAVEFORMS),
     ("marks", MARKS),
     ("lines", LINES),
@@ -141,6 +144,7 @@ pub const FEATURES: [(&str, bool); 8] = [
     ("save", SAVE),
     ("fold", FOLD),
     ("edges", EDGES),
+    ("hex", HEX),
     ("reports", REPORTS),
 ];
 

@@ -2,6 +2,7 @@
 
 mod edges;
 mod fold;
+mod hex;
 mod index;
 mod intake;
 mod lines;
@@ -16,9 +17,9 @@ use crate::reader::{told, write_next, Reader, Second};
 use crate::special::SAMPLE;
 use crate::texts::short;
 use second::generate::random::Random;
-use second::generate::{crossing, flat, hurt, marked, nested, text};
+use second::generate::{crossing, flat, hexed, hurt, marked, nested, text};
 use second::refusal::Answer;
-use second::requests::{EDGES, REPORTS};
+use second::requests::{EDGES, HEX, REPORTS};
 use second::timing::Asked;
 use second::tokens::check_bytes;
 use second::{token, Located, Refusal};
@@ -257,6 +258,13 @@ slips! {
     EdgesAcrossPatterns,
     EdgesPastOthers,
     EdgesTimesUnsigned,
+    HexBackwards,
+    HexLastZero,
+    HexCapitalsOnly,
+    HexPlainUnread,
+    HexScanMore,
+    HexCharsEight,
+    HexCharsTwice,
 }
 
 /// X names are read where the second reader's feature says so: without them nothing shows these.
@@ -274,6 +282,16 @@ const WITH_EDGES: [Slip; 11] = [
     Slip::EdgesPastOthers,
     Slip::EdgesTimesUnsigned,
 ];
+/// And those of hex data.
+const WITH_HEX: [Slip; 7] = [
+    Slip::HexBackwards,
+    Slip::HexLastZero,
+    Slip::HexCapitalsOnly,
+    Slip::HexPlainUnread,
+    Slip::HexScanMore,
+    Slip::HexCharsEight,
+    Slip::HexCharsTwice,
+];
 const WITH_MARKS: [Slip; 3] = [Slip::ReportMarkAtBegin, Slip::ReportMarkOneLess, Slip::ReportMarkInLastTurn];
 
 struct Slipping<'t> {
@@ -290,7 +308,7 @@ impl Slipping<'_> {
 
 impl Reader for Slipping<'_> {
     fn check(&self, numbers: &mut [u64]) -> u64 {
-        let answer = self.edges_checked(numbers).unwrap_or_else(|| self.second.check(numbers));
+        let answer = self.edges_checked(numbers).unwrap_or_else(|| self.hex_checked(numbers));
         if self.slips(Slip::CheckCycles, answer == 0) {
             numbers[3] += 1;
         }
@@ -360,7 +378,10 @@ impl Reader for Slipping<'_> {
         if self.slips(Slip::WindowShortByWanted, wanted > 1 << 40) && width > 0 {
             return 19;
         }
-        let answer = self.marked(first, wanted, mark, rows, numbers);
+        let answer = match self.hex_text() {
+            Some(text) => Second::new(&text).window(first, wanted, mark, rows, numbers),
+            None => self.marked(first, wanted, mark, rows, numbers),
+        };
         if self.slips(Slip::WindowWritesThoughRefused, answer == 19 && rows.len() > 1) {
             rows[1] = b'.';
         }
@@ -503,8 +524,8 @@ const OFTEN: Often = Often {
 fn found(slip: Slip) -> bool {
     let mut comparison = Comparison::new();
     let mut random = Random::new(7);
-    let seeded =
-        (0..600).flat_map(|seed| [text(seed), nested(seed), hurt(seed), flat(seed), marked(seed), crossing(seed)]);
+    let seeded = (0..600)
+        .flat_map(|seed| [text(seed), nested(seed), hurt(seed), flat(seed), marked(seed), crossing(seed), hexed(seed)]);
     seeded.chain([SAMPLE.into()]).chain(short()).any(|text| {
         let slipping = Slipping { second: Second::new(&text), slip };
         comparison.readers(&format!("{slip:?}"), &slipping, &Second::new(&text), OFTEN, &mut random);
@@ -515,7 +536,8 @@ fn found(slip: Slip) -> bool {
 #[test]
 fn each_slip_is_found() {
     assert!(!found(Slip::None));
-    let shows = |slip: &&Slip| (REPORTS || !WITH_MARKS.contains(slip)) && (EDGES || !WITH_EDGES.contains(slip));
+    let unread = [(REPORTS, &WITH_MARKS[..]), (EDGES, &WITH_EDGES), (HEX, &WITH_HEX)];
+    let shows = |slip: &&Slip| unread.iter().all(|(read, slips)| *read || !slips.contains(slip));
     let missed: Vec<&Slip> = ALL.iter().filter(shows).filter(|&&slip| !found(slip)).collect();
     assert!(missed.is_empty(), "{missed:?}");
 }

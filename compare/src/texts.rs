@@ -5,7 +5,7 @@ use crate::intake;
 use crate::special;
 use second::bounds::MAX_TEXT;
 use second::generate::random::Random;
-use second::generate::{crossing, flat, hurt, large, marked, nested, text, LARGE_KINDS};
+use second::generate::{crossing, flat, hexed, hurt, large, marked, nested, text, LARGE_KINDS};
 
 const SEEDED: Often = Often {
     names: 2,
@@ -61,12 +61,13 @@ const LARGE: Often = Often {
 };
 
 /// One seed in so many has a text made for 17 as well, one in so many a text made for saving, one in so many a text made for folding, one in
-/// so many a text with X names, one in so many a text made for 25, and one in so many a window at each cycle and a token at each byte.
+/// so many a text with X names, one in so many a text made for 25, one in so many a text with hex data, and one in so many a window at each cycle and a token at each byte.
 const NESTED: u64 = 2;
 const HURT: u64 = 2;
 const FLAT: u64 = 8;
 const MARKED: u64 = 2;
 const CROSSING: u64 = 2;
+const HEXED: u64 = 2;
 const EVERY: u64 = 64;
 
 /// A byte of each kind that the token rules tell apart, and the length up to which texts of these bytes are all taken.
@@ -88,6 +89,9 @@ pub fn seeded(seed: u64, comparison: &mut Comparison) {
     }
     if seed % CROSSING == 0 {
         comparison.text(&format!("crossing {seed}"), &crossing(seed), HURT_SEEDED, &mut random);
+    }
+    if seed % HEXED == 0 {
+        comparison.text(&format!("hexed {seed}"), &hexed(seed), HURT_SEEDED, &mut random);
     }
     if seed % HURT == 0 {
         comparison.text(&format!("hurt {seed}"), &hurt(seed), HURT_SEEDED, &mut random);

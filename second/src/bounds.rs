@@ -14,6 +14,7 @@ pub const MAX_BRACKETS: usize = 8;
 pub const MAX_DEPTH: usize = 8;
 pub const MAX_ARGUMENT: u64 = 4_096;
 pub const MAX_REPEAT: u64 = 4_096;
+pub const MAX_SCAN: u64 = 4_096;
 pub const MAX_TURNS: u64 = 16_777_215;
 pub const MAX_PERIOD: u64 = 1_000_000_000;
 /// An event's time, behind its cycle's start or, negative, before it.

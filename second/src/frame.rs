@@ -21,7 +21,7 @@ impl Frame {
         let mut frame = Frame::none();
         frame.shifts = used.shifts;
         for argument in used.arguments.of(&document.program.arguments) {
-            frame.cursors[argument.pin as usize].piece = argument.first_piece;
+            frame.cursors[argument.pin as usize] = argument.start();
         }
         frame
     }

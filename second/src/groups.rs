@@ -1,9 +1,11 @@
 //! SignalGroups and their expressions.
 
 use crate::bounds::{MAX_BRACKETS, MAX_GROUPS, MAX_SIGNALS};
+use crate::hex;
 use crate::pinset::PinSet;
 use crate::reader::Reader;
 use crate::refusal::*;
+use crate::requests::HEX;
 use crate::signals::Pins;
 use crate::tokens::Token;
 
@@ -69,8 +71,13 @@ pub fn read(reader: &mut Reader, pins: &mut Pins) -> Answer<()> {
         if whole.length == 0 {
             return Err(quote.refuse(BAD_GROUP));
         }
-        reader.byte(b';')?;
-        pins.declare(reader.text, name, whole.members());
+        let mut based = None;
+        if HEX && reader.is(b'{') {
+            based = Some(hex::read(reader, whole.length)?);
+        } else {
+            reader.byte(b';')?;
+        }
+        pins.declare(reader.text, name, whole.members(), based);
     }
     reader.take();
     Ok(())

@@ -10,6 +10,7 @@ pub mod fold;
 pub mod frame;
 pub mod generate;
 pub mod groups;
+pub mod hex;
 pub mod index;
 pub mod intake;
 pub mod lines;

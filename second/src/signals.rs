@@ -1,6 +1,7 @@
 //! Signals, and the name space they share with groups.
 
 use crate::bounds::MAX_SIGNALS;
+use crate::hex::Based;
 use crate::names::NameTable;
 use crate::pinset::PinSet;
 use crate::reader::Reader;
@@ -20,15 +21,18 @@ pub struct Pins {
     pub signals: usize,
     members: Vec<u8>,
     lists: Vec<(List, PinSet)>,
+    /// The base of each name that has one.
+    based: Vec<Option<Based>>,
 }
 
 impl Pins {
-    pub fn declare(&mut self, text: &[u8], name: Token, members: &[u8]) {
+    pub fn declare(&mut self, text: &[u8], name: Token, members: &[u8], based: Option<Based>) {
         let mut set = PinSet::EMPTY;
         members.iter().for_each(|&pin| set.insert(pin));
         let list = List { start: self.members.len() as u32, length: members.len() as u32 };
         self.members.extend_from_slice(members);
         self.lists.push((list, set));
+        self.based.push(based);
         self.names.add(text, name);
     }
 
@@ -40,13 +44,18 @@ impl Pins {
         &self.lists[name].1
     }
 
+    pub fn based(&self, name: usize) -> Option<Based> {
+        self.based[name]
+    }
+
     pub fn members(&self, list: List) -> &[u8] {
         &self.members[list.start as usize..(list.start + list.length) as usize]
     }
 }
 
 pub fn read(reader: &mut Reader) -> Answer<Pins> {
-    let mut pins = Pins { names: NameTable::new(), signals: 0, members: Vec::new(), lists: Vec::new() };
+    let mut pins =
+        Pins { names: NameTable::new(), signals: 0, members: Vec::new(), lists: Vec::new(), based: Vec::new() };
     reader.fixed(b"Signals")?;
     reader.byte(b'{')?;
     while pins.signals == 0 || !reader.is(b'}') {
@@ -56,7 +65,7 @@ pub fn read(reader: &mut Reader) -> Answer<Pins> {
         }
         reader.take();
         reader.byte(b';')?;
-        pins.declare(reader.text, name, &[pins.signals as u8]);
+        pins.declare(reader.text, name, &[pins.signals as u8], None);
         pins.signals += 1;
     }
     reader.take();

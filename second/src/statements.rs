@@ -2,7 +2,8 @@
 
 use crate::bodies::{Bodies, Given, Uses};
 use crate::bounds::{MAX_ARGUMENT, MAX_DEPTH, MAX_TURNS};
-use crate::data::{item, Item, Piece};
+use crate::data::{Cursor, Form, Item, Piece};
+use crate::hex::{Base, Length};
 use crate::names::NameTable;
 use crate::numbers::decimal;
 use crate::pinset::PinSet;
@@ -57,7 +58,16 @@ pub struct Assign {
 #[derive(Clone, Copy, Debug)]
 pub struct Argument {
     pub pin: u8,
-    pub first_piece: u32,
+    first_piece: u32,
+    /// Characters in front that are dropped, all of the first piece.
+    dropped: u32,
+}
+
+impl Argument {
+    /// Where its first character stands.
+    pub fn start(&self) -> Cursor {
+        Cursor { piece: self.first_piece, offset: self.dropped }
+    }
 }
 
 #[derive(Clone, Copy, Debug)]
@@ -308,26 +318,37 @@ impl BodyReader<'_, '_> {
     fn assignment_data(&mut self, name: usize, hash: Hash) -> Answer<Assign> {
         let (list, set) = (self.pins.list(name), *self.pins.set(name));
         let due = u64::from(list.length);
+        let base = self.pins.based(name).map(|based| based.base);
+        let most = due + base.map_or(0, |base| u64::from(base.worth()) - 1);
         let start = self.program.chars.len();
-        let mut count: u64 = 0;
+        let (mut form, mut length) = (Form::of(base), Length::default());
         let mut uses_arguments = false;
         loop {
-            match item(self.reader)? {
+            match form.item(self.reader)? {
                 Item::Word(piece) => {
-                    // No more than are due are spelled out: a surplus is only counted.
-                    piece.spell(self.reader.text, due.saturating_sub(count), &mut self.program.chars);
-                    count += u64::from(piece.count());
+                    // No more are spelled out than are due or dropped: a further surplus is only counted.
+                    piece.spell(self.reader.text, most.saturating_sub(length.all), &mut self.program.chars);
+                    length.add(&piece);
                 }
                 Item::Hash(token) => {
-                    self.take_hash(token, list, count, hash)?;
+                    let hash = if form.takes_hash(length.of_hex) { hash } else { Hash::Misplaced };
+                    self.take_hash(token, list, length.all, hash)?;
                     uses_arguments = true;
-                    count += 1;
+                    length.all += 1;
                 }
-                Item::End(_) if count == due => break,
-                Item::End(end) => return Err(end.refuse(BAD_DATA)),
+                Item::End(end) => {
+                    let zeros = || self.zeros(&self.program.chars[start..], base);
+                    let dropped = length.surplus(due, base.as_ref(), zeros).ok_or_else(|| end.refuse(BAD_DATA))?;
+                    return Ok(Assign { list, set, chars: start as u32 + dropped as u32, uses_arguments });
+                }
             }
         }
-        Ok(Assign { list, set, chars: start as u32, uses_arguments })
+    }
+
+    /// How many of these characters in front are the first listed.
+    fn zeros(&self, chars: &[u8], base: Option<Base>) -> u64 {
+        let is_zero = |&&character: &&u8| base.map_or(false, |base| base.is_zero(character));
+        chars.iter().take_while(is_zero).count() as u64
     }
 
     /// Beyond the name's signals a `#` is no use of any; the length is then refused.
@@ -369,20 +390,30 @@ impl BodyReader<'_, '_> {
         };
         self.reader.byte(b'=')?;
         let first_piece = self.program.pieces.len() as u32;
-        let mut length: u64 = 0;
-        loop {
-            match item(self.reader)? {
+        let based = self.pins.based(name);
+        let (mut form, mut length) = (Form::of(based.map(|based| based.base)), Length::default());
+        let end = loop {
+            match form.item(self.reader)? {
                 Item::Word(piece) => {
                     self.program.pieces.push(piece);
-                    length += u64::from(piece.count());
+                    length.add(&piece);
                 }
                 Item::Hash(token) => return Err(token.refuse(BAD_ARGUMENT)),
-                Item::End(_) if length <= MAX_ARGUMENT => break,
-                Item::End(end) => return Err(end.refuse(BAD_DATA)),
+                Item::End(end) => break end,
             }
-        }
-        self.program.arguments.push(Argument { pin, first_piece });
-        given.give(pin, length as u32);
+        };
+        let due = based.and_then(|based| based.scan).unwrap_or(length.all);
+        let zeros = || {
+            // A surplus is shorter than a digit, so the first word's first one holds it.
+            let mut digit = Vec::new();
+            let first = self.program.pieces.get(first_piece as usize).filter(|piece| piece.base.is_some());
+            first.into_iter().for_each(|piece| piece.spell(self.reader.text, 4, &mut digit));
+            self.zeros(&digit, form.base)
+        };
+        let dropped = length.surplus(due, form.base.as_ref(), zeros);
+        let dropped = dropped.filter(|_| due <= MAX_ARGUMENT).ok_or_else(|| end.refuse(BAD_DATA))?;
+        self.program.arguments.push(Argument { pin, first_piece, dropped: dropped as u32 });
+        given.give(pin, due as u32);
         Ok(())
     }
 }

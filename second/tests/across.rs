@@ -343,9 +343,8 @@ impl<'d> Plain<'d> {
     }
 
     fn body(&mut self, used: &Use) {
-        let start = |piece| Cursor { piece, offset: 0 };
         let given = used.arguments.of(&self.document.program.arguments);
-        let cursors = given.iter().map(|argument| (argument.pin, start(argument.first_piece))).collect();
+        let cursors = given.iter().map(|argument| (argument.pin, argument.start())).collect();
         let statements = self.document.bodies.bodies[used.body as usize].statements;
         self.all(statements, &mut Arguments { cursors, shifts: used.shifts });
     }

@@ -41,9 +41,8 @@ impl<'d> Plain<'d> {
     }
 
     fn arguments(&self, used: &Use) -> Arguments {
-        let start = |piece| Cursor { piece, offset: 0 };
         let given = used.arguments.of(&self.document.program.arguments);
-        let cursors = given.iter().map(|argument| (argument.pin, start(argument.first_piece))).collect();
+        let cursors = given.iter().map(|argument| (argument.pin, argument.start())).collect();
         Arguments { cursors, shifts: used.shifts }
     }
 

@@ -1,9 +1,9 @@
-//! Writes generated texts: `generate SEED`, `generate nested SEED`, `generate hurt SEED`, `generate flat SEED`, `generate crossing SEED`, `generate marked SEED` and `generate report SEED` for it, `generate DIR FIRST COUNT`, `generate big KIND`, `generate big KIND BYTES SIGNALS`,
+//! Writes generated texts: `generate SEED`, `generate nested SEED`, `generate hurt SEED`, `generate flat SEED`, `generate crossing SEED`, `generate hexed SEED`, `generate marked SEED` and `generate report SEED` for it, `generate DIR FIRST COUNT`, `generate big KIND`, `generate big KIND BYTES SIGNALS`,
 //! `generate run KIND SIGNALS`, `generate contrived KIND SIGNALS`.
 
 use second::generate::random::Random;
 use second::generate::{
-    contrived, crossing, flat, hurt, large, marked, nested, report, run, sized, text, CONTRIVED_KINDS, LARGE_KINDS, RUN_KINDS, SIZED_KINDS,
+    contrived, crossing, flat, hexed, hurt, large, marked, nested, report, run, sized, text, CONTRIVED_KINDS, LARGE_KINDS, RUN_KINDS, SIZED_KINDS,
 };
 use second::Document;
 use std::io::{self, Write};
@@ -23,7 +23,7 @@ fn main() -> ExitCode {
 }
 
 const USAGE: &str =
-    "generate SEED | generate nested SEED | generate hurt SEED | generate flat SEED | generate crossing SEED | generate marked SEED | generate report SEED | generate DIR FIRST COUNT | generate big KIND
+    "generate SEED | generate nested SEED | generate hurt SEED | generate flat SEED | generate crossing SEED | generate hexed SEED | generate marked SEED | generate report SEED | generate DIR FIRST COUNT | generate big KIND
 generate big KIND BYTES SIGNALS | generate run KIND SIGNALS | generate contrived KIND SIGNALS";
 
 fn answer(words: &[&str]) -> Result<(), String> {
@@ -44,6 +44,7 @@ fn answer(words: &[&str]) -> Result<(), String> {
             write_out(&made.ok_or_else(|| format!("no such kind: {kind}; there are {}", RUN_KINDS.join(" ")))?)
         }
         ["crossing", seed] => write_out(&crossing(number(seed)?)),
+        ["hexed", seed] => write_out(&hexed(number(seed)?)),
         ["flat", seed] => write_out(&flat(number(seed)?)),
         ["hurt", seed] => write_out(&hurt(number(seed)?)),
         ["contrived", kind, signals] => {
