@@ -27,8 +27,8 @@
  *            the address of anything instead.
  * Threads    The library has no state: no variable outlives a call, nothing is allocated, no file is touched. Any
  *            number of threads may call it at once, also with one text, each with buffers of its own.
- * Stack      A call keeps its tables on the stack, 1,400,000 bytes where a cycle may fail. The deepest text that was measured
- *            (8 bodies in each other) took 1,530,000, its caller with it. That is a measurement and no bound: have 2 MiB.
+ * Stack      A call keeps its tables on the stack, 1,230,000 bytes and more. The deepest text that was measured (8 bodies in
+ *            each other) took 1,530,000, its caller with it. That is a measurement and no bound: have 2 MiB.
  *            lutemeteor_save keeps a copy of the text besides, 65,536 bytes.
  *            lutemeteor_token and lutemeteor_line take less than 1,000 bytes.
  */
