@@ -7,8 +7,8 @@ ghost use Rattle.sections.specs.Listing.{frontMost};
 ghost use Rattle.listing.specs.Pages.{fitting as fittingOf, Begins, GoesOn};
 use sections::Page;
 use texts::Verdict;
-
-const NOT_PLAYABLE: u8 = 17;
+use verdicts::NOT_PLAYABLE;
+use views::Shown;
 
 // Filed listings have the dot for an unassigned pin.
 const DOT: u8 = b'.';
@@ -134,9 +134,9 @@ pub fn go_on(text: &[u8], p: Page, page: &mut [u8]) -> Page
     ensures { λ r. ⌜ GoesOn (now (text .entry)) (now (page .entry)) p r (now (page .exit)) ⌝ }
 {
     let n = fitting(p, page.len());
-    match stil::window(text, p.first, n, DOT, page) {
-        stil::Shown::Refused(a, b) => sections::last(0),
-        stil::Shown::Rows(count, visits) => Page {
+    match views::window(text, p.first, n, DOT, page) {
+        Shown::Refused(a, b) => sections::last(0),
+        Shown::Rows(count, visits) => Page {
             room: true,
             length: count * p.width,
             first: p.first + count,

@@ -4,7 +4,7 @@ ghost use Prim.Native.Nat.{_+_, _≤_, _<_};
 ghost use lib.ListN.{length};
 use crate::asked;
 use crate::files;
-use stil::Checked;
+use services::Checked;
 
 enum Found {
     Good,
@@ -36,7 +36,7 @@ struct Tally {
 fn judged_line(file: &[u8], text: &[u8], page: &mut [u8]) -> Line
     requires { ⌜ (length (now file) ≤ 131072) × (length (now page) ≡ 262144) ⌝ }
 {
-    match stil::check(text) {
+    match services::check(text) {
         Checked::Counted(signals, tables, patterns, cycles, size) => {
             let end = lines::good(page, 0, file, signals, tables, patterns, cycles, size);
             Line {

@@ -2,10 +2,10 @@
 use crate::answers;
 use crate::asked;
 use crate::files;
-use stil::Holding;
+use services::Holding;
 
 fn answer(text: &[u8], bytes: &[u8], cycle: usize) {
-    match stil::holds(text, bytes, cycle) {
+    match services::holds(text, bytes, cycle) {
         Holding::Pattern(k) => answers::pattern(k),
         Holding::NoPattern => answers::no_pattern(),
         Holding::Refused(no, place) => answers::refused(text, no, place),

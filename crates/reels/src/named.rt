@@ -4,7 +4,7 @@ ghost use lib.ListN.{length};
 use crate::answers;
 use crate::asked;
 use crate::files;
-use stil::Located;
+use services::Located;
 
 fn line(text: &[u8], at: usize, long: usize)
     requires { ⌜ length (now text) ≤ 65537 ⌝ }
@@ -23,7 +23,7 @@ fn line(text: &[u8], at: usize, long: usize)
 fn answer(text: &[u8], table: bool, number: usize)
     requires { ⌜ length (now text) ≤ 65537 ⌝ }
 {
-    match stil::name(text, table, number) {
+    match services::name(text, table, number) {
         Located::Found(at, long) => line(text, at, long),
         Located::Refused(no, place) => answers::refused(text, no, place),
     }

@@ -2,11 +2,11 @@
 use crate::answers;
 use crate::asked;
 use crate::files;
-use stil::Indexed;
+use services::Indexed;
 
 fn answer(text: &[u8]) {
     let mut page = asked::page();
-    match stil::index(text, &mut page) {
+    match services::index(text, &mut page) {
         Indexed::Written(n) => {
             streams::write(&page, n);
         }

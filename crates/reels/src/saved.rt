@@ -6,7 +6,7 @@ use crate::answers;
 use crate::asked;
 use crate::files;
 use crate::split;
-use stil::Saved;
+use services::Saved;
 
 // Two numbers for each span. A text has at most as many spans as bytes, so that all have room.
 const SPANS: usize = 131_072;
@@ -40,7 +40,7 @@ fn put_spans(spans: &[u64], k: usize) -> bool
 
 fn answer(text: &mut [u8]) {
     let mut spans = room();
-    match stil::save(text, &mut spans) {
+    match services::save(text, &mut spans) {
         Saved::Spans(k) => {
             if SPANS / 2 < k {
                 return streams::broken(b"more spans than a text has bytes\n");

@@ -5,7 +5,7 @@ ghost use lib.ListN.{length};
 use crate::answers;
 use crate::asked;
 use crate::files;
-use stil::Shaped;
+use services::Shaped;
 
 // EVENTS k, and a line for each event; where the last ends.
 fn put_events(page: &mut [u8], times: &[u64], letters: &[u8], k: usize) -> usize
@@ -34,7 +34,7 @@ fn events(times: &[u64], letters: &[u8], k: usize)
 fn answer(text: &[u8], table: usize, signal: usize, char: u8) {
     let mut times = [0u64; waves::EVENTS];
     let mut letters = [0u8; waves::EVENTS];
-    match stil::waveform(text, table, signal, char, &mut times, &mut letters) {
+    match services::waveform(text, table, signal, char, &mut times, &mut letters) {
         Shaped::Events(k) => events(&times, &letters, k),
         Shaped::Refused(no, place) => answers::refused(text, no, place),
     }
