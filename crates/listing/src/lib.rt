@@ -1,4 +1,4 @@
-// A text's listing, page by page: the sections, then the rows.
+// A text's listing, page by page: the sections, then the rows; and all pages to standard output.
 ghost use mathlib.Core.Path.{_≡_};
 ghost use Prim.Native.Nat.{_≤_};
 ghost use lib.ListN.{length};
@@ -143,5 +143,28 @@ pub fn go_on(text: &[u8], p: Page, page: &mut [u8]) -> Page
             left: p.left - count,
             width: p.width,
         },
+    }
+}
+
+// ---- to standard output
+
+// A text's listing to standard output, page by page. Where a page brings no row nearer to the end, that is told, and nothing is passed over silently.
+pub fn list(text: &[u8]) {
+    let mut space = streams::rows();
+    let page: &mut [u8] = &mut space;
+    let watched = streams::is_watched();
+    let mut p = begin(text, page);
+    let all = p.left;
+    let mut going = streams::write(page, p.length);
+    while going & (0 < p.left) {
+        let next = go_on(text, p, page);
+        going = streams::write(page, next.length);
+        if p.left <= next.left {
+            return streams::broken(b"the listing stands still\n");
+        }
+        p = next;
+        if watched {
+            streams::progress(all - p.left, all);
+        }
     }
 }

@@ -2,9 +2,9 @@
 ghost use Prim.Native.Nat.{_+_, _*_, _≤_, _<_};
 ghost use lib.ListN.{length};
 ghost use Rattle.meaning.specs.Bounds.{signalsMost};
-use crate::answers;
-use crate::asked;
-use crate::files;
+use commands::answers;
+use commands::asked;
+use commands::files;
 use lines::Value;
 use services::Checked;
 use streams::ROWS;

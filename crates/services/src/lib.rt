@@ -1,5 +1,5 @@
 // The services without rows: Check, Name, Waveform, waveforms by the list, the index and the saving of hurt texts, for any text, any numbers and any
-// buffers. Where one is `pub` for the sake of `spare` or of what it holds, callers in C have it by another name.
+// buffers. Callers in C have more handed out, and ask those with a `spare`.
 ghost use mathlib.Core.Path.{_≡_};
 ghost use mathlib.Core.Bool.{true};
 ghost use Prim.Native.Nat.{_≤_};

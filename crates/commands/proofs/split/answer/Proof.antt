@@ -7,8 +7,8 @@ use lib.ListN.{length}
 use Rattle.tokens.specs.Answers.{nextOf}
 use Rattle.tokens.proofs.Laws.{Seen, at-token}
 use borrow.Author.Needs.{needs}
-use Rattle.reels.proofs.split.answer.Statement.{statement}
-use Rattle.reels.proofs.split.answer.Tie as tie
+use Rattle.commands.proofs.split.answer.Statement.{statement}
+use Rattle.commands.proofs.split.answer.Tie as tie
 
 abbrev Inv-loop : tie.InvT-loop
 Inv-loop text page₀ end₀ at₀ k₀ page end at k = (length page ≡ 262144) × (end ≤ 200000) × (at ≤ length text) × (k ≤ at)

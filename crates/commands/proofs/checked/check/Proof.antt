@@ -1,8 +1,8 @@
 -- `check` is safe and ends: no more files are counted than there are words.
 use Prim.Native.Nat.{_+_, _-_, _≤_}
 use borrow.Author.Needs.{needs}
-use Rattle.reels.proofs.checked.check.Statement.{statement}
-use Rattle.reels.proofs.checked.check.Tie as tie
+use Rattle.commands.proofs.checked.check.Statement.{statement}
+use Rattle.commands.proofs.checked.check.Tie as tie
 
 abbrev Inv-loop : tie.InvT-loop
 Inv-loop words watched tally₀ i₀ tally i = (2 ≤ i) × (tally .good + tally .hurt + tally .unread ≤ i)

@@ -3,8 +3,8 @@ use Prim.Native.Nat.{_+_, _*_, _-_, _≤_}
 use mathlib.Core.Path.{_≡_}
 use lib.ListN.{length}
 use borrow.Author.Needs.{needs}
-use Rattle.reels.proofs.shaped.put_events.Statement.{statement}
-use Rattle.reels.proofs.shaped.put_events.Tie as tie
+use Rattle.commands.proofs.shaped.put_events.Statement.{statement}
+use Rattle.commands.proofs.shaped.put_events.Tie as tie
 
 abbrev Inv-loop : tie.InvT-loop
 Inv-loop page₀ times letters k end₀ i₀ page end i = (length page ≡ 262144) × (i ≤ k) × (end ≤ 128 * (i + 1))

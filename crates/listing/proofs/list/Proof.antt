@@ -1,8 +1,8 @@
 -- A listing ends: at each turn of its loop fewer rows are left.
 use borrow.Author.Needs.{needs}
 use Prim.Native.Nat.{_≤_}
-use Rattle.streams.proofs.list.Statement.{statement}
-use Rattle.streams.proofs.list.Tie as tie
+use Rattle.listing.proofs.list.Statement.{statement}
+use Rattle.listing.proofs.list.Tie as tie
 
 abbrev Inv-loop : tie.InvT-loop
 Inv-loop text page₀ watched p₀ all going₀ t9 page p going = p .left ≤ all

@@ -4,8 +4,8 @@ use native.Mathlib.Omega.{arith}
 use mathlib.Core.Path.{_≡_}
 use lib.ListN.{length}
 use borrow.Author.Needs.{needs}
-use Rattle.reels.proofs.saved.put_spans.Statement.{statement}
-use Rattle.reels.proofs.saved.put_spans.Tie as tie
+use Rattle.commands.proofs.saved.put_spans.Statement.{statement}
+use Rattle.commands.proofs.saved.put_spans.Tie as tie
 
 abbrev Inv-loop : tie.InvT-loop
 Inv-loop spans k page₀ end₀ i₀ page end i = (length page ≡ 262144) × (end ≤ 200000) × (i ≤ k)
