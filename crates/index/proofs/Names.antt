@@ -1,7 +1,7 @@
 -- Every name that a text declares or lists is short: it was read as a name.
 use Prim.Native.Nat.{ℕ, _≤_}
 use native.Mathlib.Omega.{arith}
-use mathlib.Core.Path.{_≡_}
+use mathlib.Core.Path.{_≡_, subst}
 use mathlib.Core.Bool.{true, false, not, _&&_}
 use mathlib.Core.List.{List, [], _∷_, _++_}
 use lib.Dec.{leb}
@@ -17,7 +17,11 @@ use Rattle.meaning.specs.Timing.{Tables, table, timing}
 use Rattle.meaning.specs.Meaning.{firsts}
 use Rattle.meaning.specs.Document.{listEntry, burst}
 use Rattle.meaning.proofs.Gives.{no-not, Gives, gives-bind, gives-after, gives-give, gives-if, gives-until}
+use Rattle.words.specs.Table.{names}
+use Rattle.timing.specs.declared.Watch.{Watch}
 use Rattle.arguments.proofs.Lists.{both}
+use Rattle.texts.specs.Tables.{Found}
+use Rattle.texts.specs.declared.Verdict.{Verdict}
 use Rattle.sections.specs.Listing.{Short}
 
 -- ---- one name
@@ -79,6 +83,11 @@ pub tables-few : (ns : Names) → Gives (λ (tabs : Tables). Short (firsts tabs)
 unfolding timing
 tables-few ns =
     gives-after AllFew _ _ λ a. gives-after AllFew _ _ λ b. gives-bind AllFew AllFew _ _ (table-few ns [] (no-names _)) λ tabs h. gives-until AllFew _ _ (table-few ns) tabs h
+
+-- as they stand in a text's tables
+pub tables-short : {w : Watch} {text places lists tplaces waves book rows list : List ℕ} {v : Verdict} → Found text w places lists tplaces waves book rows list v
+    → Short (firsts (names text tplaces (v .parts .known .tables)))
+tables-short f = subst Short (f .tabled .held .named) (tables-few _ .all _ _ _ (f .tabled .parts .timing-read))
 
 -- ---- and the listed ones
 

@@ -7,5 +7,5 @@ fn main() {
         return;
     }
     let n = t.length;
-    streams::list(&text[..n]);
+    listing::list(&text[..n]);
 }

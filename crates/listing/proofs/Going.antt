@@ -14,11 +14,11 @@ use Rattle.meaning.specs.Meaning.{Answer, given, refused, answering, fitting as
 use Rattle.meaning.specs.Services.{dot, rowsDue, windowOf, window}
 use Rattle.meaning.proofs.Accepted.{accepted}
 use Rattle.arguments.proofs.Lists.{both}
-use Rattle.stil.specs.Answers.{shownOf, afterwards}
-use Rattle.stil.specs.Views.{Views}
-use Rattle.stil.specs.declared.Shown.{Shown}
-use Rattle.stil.specs.declared.Shown.the-variants.{Rows, Refused}
-use Rattle.stil.proofs.Theorems.{visits-told}
+use Rattle.verdicts.specs.Buffers.{afterwards}
+use Rattle.views.specs.Views.{shownOf, Views}
+use Rattle.views.specs.declared.Shown.{Shown}
+use Rattle.views.specs.declared.Shown.the-variants.{Rows, Refused}
+use Rattle.views.proofs.Theorems.{visits-told}
 use Rattle.sections.specs.Listing.{lastOf}
 use Rattle.sections.specs.declared.Page.{Page}
 use Rattle.listing.specs.Pages.{fitting, asked, pageOf, GoesOn}

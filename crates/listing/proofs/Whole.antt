@@ -16,7 +16,7 @@ use Rattle.meaning.specs.Meaning.{Answer, given, refused, answering, Meaning, m
 use Rattle.meaning.specs.Services.{dot, badMark, rows, rowWidth, Window, rowsDue, widthOf, windowRows, rowsOut, windowOf, window}
 use Rattle.meaning.proofs.Windows.{rows-++, window-rows, window-width}
 use Rattle.walks.specs.Seen.{seen}
-use Rattle.stil.specs.Answers.{afterwards}
+use Rattle.verdicts.specs.Buffers.{afterwards}
 use Rattle.sections.specs.Listing.{frontMost, listedMost, listedOf, rowsListed, refusal, listing, firstOf, lastOf, Fronts}
 use Rattle.sections.specs.declared.Page.{Page}
 use Rattle.sections.proofs.Determined.{page-determined}

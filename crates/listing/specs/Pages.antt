@@ -7,7 +7,7 @@ use lib.ListN.{length, take}
 use Rattle.meaning.specs.Run.{cycles}
 use Rattle.meaning.specs.Meaning.{Answer, given, refused, Meaning, meaning}
 use Rattle.meaning.specs.Services.{dot, Window, window}
-use Rattle.stil.specs.Answers.{afterwards}
+use Rattle.verdicts.specs.Buffers.{afterwards}
 use Rattle.sections.specs.Listing.{frontMost, front, refusal, firstOf, lastOf, Fronts}
 use Rattle.sections.specs.declared.Page.{Page}
 

@@ -1,13 +1,13 @@
 // list FILE
-use crate::asked;
-use crate::files;
+use commands::asked;
+use commands::files;
 
 fn file() {
     let mut text = streams::room();
     let t = files::text(2, &mut text);
     if t.read {
         let n = t.length;
-        streams::list(&text[..n]);
+        listing::list(&text[..n]);
     }
 }
 

@@ -1,17 +1,17 @@
 // Asks files of STIL test patterns: the command lines of docs/COMMANDS.md.
-mod answers;
-mod asked;
-mod checked;
-mod files;
-mod holding;
 mod listed;
-mod named;
-mod rebuilt;
-mod saved;
-mod shaped;
 mod shown;
-mod split;
-mod stored;
+
+use commands::answers;
+use commands::asked;
+use commands::checked;
+use commands::holding;
+use commands::named;
+use commands::rebuilt;
+use commands::saved;
+use commands::shaped;
+use commands::split;
+use commands::stored;
 
 fn help() {
     if asked::no_more(2) {

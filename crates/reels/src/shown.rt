@@ -2,13 +2,13 @@
 ghost use Prim.Native.Nat.{_+_, _*_, _≤_, _<_};
 ghost use lib.ListN.{length};
 ghost use Rattle.meaning.specs.Bounds.{signalsMost};
-use crate::answers;
-use crate::asked;
-use crate::files;
+use commands::answers;
+use commands::asked;
+use commands::files;
 use lines::Value;
-use stil::Checked;
-use stil::Shown;
+use services::Checked;
 use streams::ROWS;
+use views::Shown;
 
 // The mark for an unassigned pin where none is chosen: `?`.
 const QUESTION: u64 = 63;
@@ -55,7 +55,7 @@ fn over() -> Piece {
 fn some_rows(text: &[u8], first: usize, n: usize, width: usize, mark: u8, page: &mut [u8]) -> Piece
     requires { ⌜ n * width ≤ length (now page) ⌝ }
 {
-    match stil::window(text, first, n, mark, page) {
+    match views::window(text, first, n, mark, page) {
         Shown::Rows(count, visits) => {
             if count != n {
                 streams::broken(b"fewer rows than are due\n");
@@ -96,7 +96,7 @@ fn rows(text: &[u8], first: usize, due: usize, width: usize, mark: u8)
 }
 
 fn answer(text: &[u8], first: usize, wanted: usize, mark: u8) {
-    match stil::check(text) {
+    match services::check(text) {
         Checked::Counted(signals, _, _, cycles, _) => {
             if sets::MOST < signals {
                 return streams::broken(b"more signals than a text has\n");

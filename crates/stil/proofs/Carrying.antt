@@ -12,7 +12,7 @@ use Rattle.intake.specs.declared.Progress.the-variants.{Open, Refused, Closed}
 use Rattle.meaning.specs.Refusals.{noRoom}
 use Rattle.meaning.specs.Meaning.{given, refused}
 use Rattle.texts.specs.Told.{packedRefusal}
-use Rattle.stil.specs.Answers.{afterwards}
+use Rattle.verdicts.specs.Buffers.{afterwards}
 use Rattle.stil.specs.Interface.{fronted}
 use Rattle.stil.specs.Intakes.{stateLeast, isOpen, isRefused, isClosed, byteOf, progressIs, progressOf, numbersOf, encoded, calledIn, rawRefusal, toldBy, toldIn, Tells, Carries}
 

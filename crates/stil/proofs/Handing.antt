@@ -3,7 +3,7 @@ use Prim.Native.Nat.{ℕ, _+_, _*_, _≤_, _<_}
 use mathlib.Core.Path.{_≡_, refl, ap, _∙_}
 use mathlib.Core.Bool.{Bool, true, false, _||_}
 use mathlib.Core.List.{List, [], _∷_}
-use lib.Dec.{ltb}
+use lib.Dec.{leb, ltb}
 use lib.ListN.{length, set}
 use borrow.Author.Tests.{le-leb, lt-leb}
 use Rattle.tokens.specs.Refusals.{textMost}
@@ -13,12 +13,12 @@ use Rattle.meaning.specs.Services.{Waveform, waveform}
 use Rattle.data.specs.Filled.{over}
 use Rattle.data.proofs.Over.{over-set}
 use Rattle.texts.specs.Told.{packedRefusal}
-use Rattle.stil.specs.Answers.{afterwards}
+use Rattle.verdicts.specs.Buffers.{afterwards}
 use Rattle.stil.specs.Interface.{withRoom, packed, fronted, Hands, Draws}
-use Rattle.stil.specs.Waveforms.{Outlines}
-use Rattle.stil.specs.declared.Outline.{Outline}
+use Rattle.services.specs.Waveforms.{Outlines}
+use Rattle.services.specs.declared.Outline.{Outline}
 use Rattle.charts.proofs.Fronts.{over-all}
-use Rattle.stil.proofs.Shaping.{waveform-full, waveform-given}
+use Rattle.services.proofs.Shaping.{waveform-full, waveform-given}
 
 -- ---- a refusal as one number
 
@@ -27,6 +27,14 @@ packed-near n p h = rw (le-leb p textMost h, packedRefusal)
 
 pub packed-far : (n p : ℕ) → textMost < p → n ≡ packedRefusal n p
 packed-far n p h = rw (lt-leb p textMost h, packedRefusal)
+
+pub packed-refused : {A : Type 0} {a : Answer A} {n p r : ℕ} → refused n p ≡ a → r ≡ packedRefusal n p → r ≡ packed a
+unfolding packed
+packed-refused e h = rw (← e) h
+
+pub packed-given : {A : Type 0} {a : Answer A} {x : A} → given x ≡ a → 0 ≡ packed a
+unfolding packed
+packed-given e = rw (← e)
 
 -- ---- numbers stored one by one
 
@@ -91,6 +99,23 @@ module _ {A : Type 0} {k : ℕ} {f : A → List ℕ} {a : Answer A} {l : List �
 
   pub hands-alike : {b : Answer A} {r : ℕ} {l′ : List ℕ} → a ≡ b → Hands k f b l r l′ → Hands k f a l r l′
   hands-alike e h = rw e h
+
+-- the same numbers of another answer
+pub hands-as : {A B : Type 0} {k : ℕ} {f : A → List ℕ} {g : B → List ℕ} {a : Answer A} {x : A} {y : B} {l : List ℕ} {r : ℕ} {l′ : List ℕ}
+    → a ≡ given x → g y ≡ f x → Hands k g (given y) l r l′ → Hands k f a l r l′
+unfolding withRoom answering packed afterwards
+hands-as {A} {B} {k} {f} {g} {a} {x} {y} {l} {r} {l′} e q h = rw e (record { number = h .number ∙ told (leb k (length l)); buffer = h .buffer ∙ put (leb k (length l)) })
+  where
+    roomed : {C : Type 0} → Bool → C → Answer C
+    roomed b z = elim b [ true ↦ given z | false ↦ refused noRoom 0 ]
+
+    told : (b : Bool) → packed (roomed b y) ≡ packed (roomed b x)
+    told true = refl
+    told false = refl
+
+    put : (b : Bool) → afterwards (λ z. fronted (g z) l) (roomed b y) l ≡ afterwards (λ z. fronted (f z) l) (roomed b x) l
+    put true = ap (λ (z : List ℕ). fronted z l) q
+    put false = refl
 
 -- ---- a waveform
 

@@ -1,12 +1,8 @@
-mod Viewing
-mod Answering
-mod Outlining
-mod Shaping
 mod Handing
 mod Opening
-mod Charting
+mod Sketching
 mod Carrying
-pub mod Indexing
-mod Mending
+mod Writing
+mod Restoring
 pub mod Chained
 pub mod Theorems

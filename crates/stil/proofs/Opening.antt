@@ -10,11 +10,11 @@ use borrow.Author.Tests.{leb-true}
 use Rattle.meaning.specs.Meaning.{Answer, given, refused, answering}
 use Rattle.meaning.specs.Services.{Window}
 use Rattle.texts.specs.Told.{packedRefusal}
-use Rattle.stil.specs.Answers.{shownOf, afterwards}
+use Rattle.verdicts.specs.Buffers.{afterwards, spared}
+use Rattle.views.specs.Views.{shownOf, Views}
 use Rattle.stil.specs.Interface.{withRoom, fronted, Opens}
-use Rattle.stil.specs.Views.{spared, Views}
-use Rattle.stil.specs.declared.Shown.{Shown}
-use Rattle.stil.specs.declared.Shown.the-variants.{Rows, Refused}
+use Rattle.views.specs.declared.Shown.{Shown}
+use Rattle.views.specs.declared.Shown.the-variants.{Rows, Refused}
 use Rattle.stil.proofs.Handing.{hands-none, hands-all}
 
 -- without room for what else is handed out, nothing is given

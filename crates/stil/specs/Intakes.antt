@@ -12,7 +12,7 @@ use Rattle.intake.specs.Intake.{rawMost, chunked, closed}
 use Rattle.meaning.specs.Refusals.{noRoom}
 use Rattle.meaning.specs.Meaning.{Answer, given, refused}
 use Rattle.texts.specs.Told.{packedRefusal}
-use Rattle.stil.specs.Answers.{afterwards}
+use Rattle.verdicts.specs.Buffers.{afterwards}
 use Rattle.stil.specs.Interface.{fronted}
 
 -- ---- the state

@@ -11,7 +11,7 @@ use Rattle.meaning.specs.Refusals.{noRoom}
 use Rattle.meaning.specs.Meaning.{Answer, given, refused, answering}
 use Rattle.meaning.specs.Services.{Counts, Window, Waveform}
 use Rattle.texts.specs.Told.{packedRefusal}
-use Rattle.stil.specs.Answers.{afterwards}
+use Rattle.verdicts.specs.Buffers.{afterwards}
 
 -- an answer of k numbers: 19 where the buffer has room for less
 unfoldable pub withRoom : {A : Type 0} → ℕ → List ℕ → Answer A → Answer A

@@ -113,26 +113,3 @@ pub fn progress(done: usize, all: usize) {
     let end = lines::progress(&mut line, 0, done, all);
     tell(&line, end);
 }
-
-// ---- a listing
-
-// A text's listing to standard output, page by page. Where a page brings no row nearer to the end, that is told, and nothing is passed over silently.
-pub fn list(text: &[u8]) {
-    let mut space = rows();
-    let page: &mut [u8] = &mut space;
-    let watched = is_watched();
-    let mut p = listing::begin(text, page);
-    let all = p.left;
-    let mut going = write(page, p.length);
-    while going & (0 < p.left) {
-        let next = listing::go_on(text, p, page);
-        going = write(page, next.length);
-        if p.left <= next.left {
-            return broken(b"the listing stands still\n");
-        }
-        p = next;
-        if watched {
-            progress(all - p.left, all);
-        }
-    }
-}

@@ -1,3 +1,4 @@
 mod Naming
 pub mod Found
 mod Judging
+pub mod Sparing

@@ -16,7 +16,10 @@ use plays::Failing;
 use texts::Verdict;
 use timing::Watch;
 
-const NOT_PLAYABLE: u8 = 17;
+// Refusals that more than one service has.
+pub const NOT_PLAYABLE: u8 = 17;
+
+pub const NO_ROOM: u8 = 19;
 
 // What is wanted of a text beside its counts: a name by its number, and where a waveform stands.
 pub struct Wanted {

@@ -1,6 +1,6 @@
 -- `shown` meets its contract: 17, or the sections of the text that the tables hold.
 use Rattle.verdicts.proofs.Found.{meaning-failing, meaning-given}
-use Rattle.stil.proofs.Indexing.{tables-short}
+use Rattle.index.proofs.Names.{tables-short}
 use Rattle.listing.proofs.Beginning.{begins-refused, begins-sections, signals-short}
 use native.Mathlib.Omega.{arith}
 use borrow.Author.Needs.{needs}

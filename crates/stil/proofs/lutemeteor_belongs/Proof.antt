@@ -1,8 +1,8 @@
 -- `lutemeteor_belongs` meets its contract: the answer, case by case.
 use mathlib.Core.Path.{sym, ap, _∙_}
-use Rattle.stil.specs.Indexes.{belongingOf}
-use Rattle.stil.specs.declared.Belonging.{Belonging}
-use Rattle.stil.proofs.Indexing.{packed-refused, packed-given}
+use Rattle.services.specs.Indexes.{belongingOf}
+use Rattle.services.specs.declared.Belonging.{Belonging}
+use Rattle.stil.proofs.Handing.{packed-refused, packed-given}
 use borrow.Author.Needs.{needs}
 use Rattle.stil.proofs.lutemeteor_belongs.Statement.{statement}
 use Rattle.stil.proofs.lutemeteor_belongs.Tie as tie

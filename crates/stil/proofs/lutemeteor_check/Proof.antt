@@ -3,7 +3,7 @@ use native.Mathlib.Omega.{arith}
 use mathlib.Core.Path.{sym, ap, _∙_}
 use lib.ListN.{length-set}
 use borrow.Author.Needs.{needs}
-use Rattle.stil.specs.Answers.{checkedOf}
+use Rattle.services.specs.Answers.{checkedOf}
 use Rattle.stil.proofs.Handing.{five-stored, room-refused, room-none, room-enough, hands-none, hands-all}
 use Rattle.stil.proofs.lutemeteor_check.Statement.{statement}
 use Rattle.stil.proofs.lutemeteor_check.Tie as tie

@@ -1,9 +1,8 @@
 -- `lutemeteor_holds` meets its contract: the answer, case by case, handed out.
 use mathlib.Core.Path.{refl, sym, ap, _∙_}
-use Rattle.stil.specs.Indexes.{holdingOf}
-use Rattle.stil.specs.declared.Holding.{Holding}
-use Rattle.stil.proofs.Handing.{room-refused, hands-none}
-use Rattle.stil.proofs.Indexing.{hands-as}
+use Rattle.services.specs.Indexes.{holdingOf}
+use Rattle.services.specs.declared.Holding.{Holding}
+use Rattle.stil.proofs.Handing.{room-refused, hands-none, hands-as}
 use borrow.Author.Needs.{needs}
 use Rattle.stil.proofs.lutemeteor_holds.Statement.{statement}
 use Rattle.stil.proofs.lutemeteor_holds.Tie as tie

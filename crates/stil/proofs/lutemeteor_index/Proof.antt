@@ -1,6 +1,6 @@
 -- `lutemeteor_index` meets its contract: the answer, case by case; where an index is written there is room for its length, and it is stored.
 use Rattle.stil.proofs.Handing.{one-stored}
-use Rattle.stil.proofs.Indexing.{writes-none, writes-room, writes-all}
+use Rattle.stil.proofs.Writing.{writes-none, writes-room, writes-all}
 use borrow.Author.Needs.{needs}
 use Rattle.stil.proofs.lutemeteor_index.Statement.{statement}
 use Rattle.stil.proofs.lutemeteor_index.Tie as tie

@@ -1,7 +1,7 @@
 -- `lutemeteor_name` meets its contract: the answer, case by case, and two stores to the front.
 use mathlib.Core.Path.{sym, ap, _∙_}
 use borrow.Author.Needs.{needs}
-use Rattle.stil.specs.Answers.{locatedOf}
+use Rattle.services.specs.Answers.{locatedOf}
 use Rattle.stil.proofs.Handing.{two-stored, room-refused, room-none, room-enough, hands-none, hands-all}
 use Rattle.stil.proofs.lutemeteor_name.Statement.{statement}
 use Rattle.stil.proofs.lutemeteor_name.Tie as tie

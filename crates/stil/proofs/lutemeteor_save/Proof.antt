@@ -1,6 +1,6 @@
 -- `lutemeteor_save` meets its contract: the answer, case by case; where a text is saved there is room for the count, and it is stored.
 use Rattle.stil.proofs.Handing.{one-stored}
-use Rattle.stil.proofs.Mending.{restores-none, restores-room, restores-all}
+use Rattle.stil.proofs.Restoring.{restores-none, restores-room, restores-all}
 use borrow.Author.Needs.{needs}
 use Rattle.stil.proofs.lutemeteor_save.Statement.{statement}
 use Rattle.stil.proofs.lutemeteor_save.Tie as tie

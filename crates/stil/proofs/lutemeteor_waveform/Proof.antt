@@ -3,7 +3,7 @@ use native.Mathlib.Omega.{arith}
 use mathlib.Core.Path.{refl}
 use borrow.Author.Needs.{needs}
 use Rattle.charts.proofs.Rooms.{roomy}
-use Rattle.stil.proofs.Shaping.{outline-few, waveform-refused, waveform-full, waveform-given}
+use Rattle.services.proofs.Shaping.{outline-few, waveform-refused, waveform-full, waveform-given}
 use Rattle.stil.proofs.Handing.{one-stored, room-refused, room-uncounted, draws-none, draws-all}
 use Rattle.stil.proofs.lutemeteor_waveform.Statement.{statement}
 use Rattle.stil.proofs.lutemeteor_waveform.Tie as tie

@@ -1,7 +1,7 @@
 -- `lutemeteor_waveforms` meets its contract: the answer, case by case; where calls were made there is room for a number, and it is stored.
 use borrow.Author.Needs.{needs}
 use Rattle.stil.proofs.Handing.{one-stored}
-use Rattle.stil.proofs.Charting.{stopped-room, drawn-room, sketch-refused, sketch-stopped, sketch-drawn}
+use Rattle.stil.proofs.Sketching.{stopped-room, drawn-room, sketch-refused, sketch-stopped, sketch-drawn}
 use Rattle.stil.proofs.lutemeteor_waveforms.Statement.{statement}
 use Rattle.stil.proofs.lutemeteor_waveforms.Tie as tie
 

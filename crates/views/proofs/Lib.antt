@@ -1,0 +1,2 @@
+mod Viewing
+pub mod Theorems
