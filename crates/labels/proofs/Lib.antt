@@ -1,0 +1,4 @@
+pub mod Laws
+pub mod Chains
+mod Scanning
+mod Samples
