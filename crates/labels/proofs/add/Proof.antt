@@ -79,7 +79,13 @@ same-length-3 : tie.Need-same-length-3
 same-length-3 c = search needs
 
 returns : tie.Need-returns
-returns c = added _ (c .before .before .before .before .before .before .before .before .before .before .pre .0) (c .before .before .before .before .before .before .before .before .before .before .pre .1) (c .before .before .before .short .ensures) (omega (arith, c .before .before .short2 .ensures, c .before .before .before .before .before .before .before .before .before .before .pre .2)) (c .before .before .before .before .hash-of .ensures .0 ∙ ap hashed (c .before .before .before .before .before .bytes-of .ensures)) (c .before .before .before .before .hash-of .ensures .1) (c .short3 .ensures)
+returns c =
+    let start = c .before .before .before .before .before .before .before .before .before .before in
+    let bytes-of = c .before .before .before .before .before .bytes-of in
+    let hash-of = c .before .before .before .before .hash-of in
+    let short = c .before .before .before .short in
+    let short2 = c .before .before .short2 in
+    added _ (start .pre .0) (start .pre .1) (short .ensures) (omega (arith, short2 .ensures, start .pre .2)) (hash-of .ensures .0 ∙ ap hashed (bytes-of .ensures)) (hash-of .ensures .1) (c .short3 .ensures)
 
 pub add-spec : {M : Type 1} → statement M
 add-spec =

@@ -17,22 +17,41 @@ cursor-at-requires : tie.Need-cursor-at-requires Inv-loop μ-loop
 cursor-at-requires c κs = search needs
 
 loop-holds : tie.Need-loop-holds Inv-loop μ-loop
-loop-holds c = scans-start _ _ _ (c .before .before .before .before .before .before .pre .0) (c .before .before .before .before .before .before .pre .1) (c .cursor-at .ensures)
+loop-holds c =
+    let start = c .before .before .before .before .before .before in
+    scans-start _ _ _ (start .pre .0) (start .pre .1) (c .cursor-at .ensures)
 
 note-requires : tie.Need-note-requires Inv-loop μ-loop
-note-requires c κs = (c .before .before .before .before .before .loop .inv .held, scans-room _ _ _ (c .before .before .before .before .before .loop .inv) (c .before .before .before .if1 .taken), c .before .before .before .if1 .taken, scans-within _ _ _ (c .before .before .before .before .before .loop .inv) (c .before .before .before .if1 .taken) (c .before .before .before .before .before .before .before .before .before .before .before .before .pre .1))
+note-requires c κs =
+    let start = c .before .before .before .before .before .before .before .before .before .before .before .before in
+    let loop = c .before .before .before .before .before .loop in
+    let if1 = c .before .before .before .if1 in
+    (loop .inv .held, scans-room _ _ _ (loop .inv) (if1 .taken), if1 .taken, scans-within _ _ _ (loop .inv) (if1 .taken) (start .pre .1))
 
 same-length : tie.Need-same-length Inv-loop μ-loop
-same-length c = omega (arith, c .before .before .before .before .before .before .before .before .before .before .before .before .before .loop .inv .held .places-long, c .before .before .before .before .before .before .before .before .before .before .before .before .before .before .before .before .before .before .before .before .pre .0 .places-long)
+same-length c =
+    let start = c .before .before .before .before .before .before .before .before .before .before .before .before .before .before .before .before .before .before .before .before in
+    let loop = c .before .before .before .before .before .before .before .before .before .before .before .before .before .loop in
+    omega (arith, loop .inv .held .places-long, start .pre .0 .places-long)
 
 same-length-2 : tie.Need-same-length-2 Inv-loop μ-loop
-same-length-2 c = omega (arith, c .before .before .before .before .before .before .before .before .before .before .before .before .before .loop .inv .held .heads-long, c .before .before .before .before .before .before .before .before .before .before .before .before .before .before .before .before .before .before .before .before .pre .0 .heads-long)
+same-length-2 c =
+    let start = c .before .before .before .before .before .before .before .before .before .before .before .before .before .before .before .before .before .before .before .before in
+    let loop = c .before .before .before .before .before .before .before .before .before .before .before .before .before .loop in
+    omega (arith, loop .inv .held .heads-long, start .pre .0 .heads-long)
 
 same-length-3 : tie.Need-same-length-3 Inv-loop μ-loop
-same-length-3 c = omega (arith, c .before .before .before .before .before .before .before .before .before .before .before .before .before .loop .inv .held .nexts-long, c .before .before .before .before .before .before .before .before .before .before .before .before .before .before .before .before .before .before .before .before .pre .0 .nexts-long)
+same-length-3 c =
+    let start = c .before .before .before .before .before .before .before .before .before .before .before .before .before .before .before .before .before .before .before .before in
+    let loop = c .before .before .before .before .before .before .before .before .before .before .before .before .before .loop in
+    omega (arith, loop .inv .held .nexts-long, start .pre .0 .nexts-long)
 
 returns : tie.Need-returns Inv-loop μ-loop
-returns c = gathers-again _ _ _ (c .before .before .before .before .before .before .before .before .before .before .before .before .before .loop .inv) (c .before .before .before .before .before .before .before .before .before .before .before .if1 .taken) (c .before .before .before .before .before .before .before .note .ensures) (c .if2 .taken)
+returns c =
+    let loop = c .before .before .before .before .before .before .before .before .before .before .before .before .before .loop in
+    let if1 = c .before .before .before .before .before .before .before .before .before .before .before .if1 in
+    let note = c .before .before .before .before .before .before .before .note in
+    gathers-again _ _ _ (loop .inv) (if1 .taken) (note .ensures) (c .if2 .taken)
 
 bytes-of-requires : tie.Need-bytes-of-requires Inv-loop μ-loop
 bytes-of-requires c κs = search needs
@@ -44,22 +63,42 @@ cursor-at-requires-2 : tie.Need-cursor-at-requires-2 Inv-loop μ-loop
 cursor-at-requires-2 c κs = search needs
 
 loop-less : tie.Need-loop-less Inv-loop μ-loop
-loop-less c = omega (arith, fewer _ (c .before .before .before .before .before .before .before .before .before .before .before .before .before .before .before .before .loop .c) (c .before .before .before .before .before .before .before .before .before .before .before .before .before .before .if1 .taken) (c .cursor-at2 .ensures))
+loop-less c =
+    let loop = c .before .before .before .before .before .before .before .before .before .before .before .before .before .before .before .before .loop in
+    let if1 = c .before .before .before .before .before .before .before .before .before .before .before .before .before .before .if1 in
+    omega (arith, fewer _ (loop .c) (if1 .taken) (c .cursor-at2 .ensures))
 
 loop-again : tie.Need-loop-again Inv-loop μ-loop
-loop-again c = scans-on _ _ _ (c .before .before .before .before .before .before .before .before .before .before .before .before .before .before .before .before .loop .inv) (c .before .before .before .before .before .before .before .before .before .before .before .before .before .before .if1 .taken) (c .before .before .before .before .before .before .before .before .before .before .note .ensures) (c .before .before .before .if2 .left) (c .before .before .bytes-of .ensures) (c .before .behind .ensures) (c .cursor-at2 .ensures)
+loop-again c =
+    let loop = c .before .before .before .before .before .before .before .before .before .before .before .before .before .before .before .before .loop in
+    let if1 = c .before .before .before .before .before .before .before .before .before .before .before .before .before .before .if1 in
+    let note = c .before .before .before .before .before .before .before .before .before .before .note in
+    let if2 = c .before .before .before .if2 in
+    let bytes-of = c .before .before .bytes-of in
+    scans-on _ _ _ (loop .inv) (if1 .taken) (note .ensures) (if2 .left) (bytes-of .ensures) (c .before .behind .ensures) (c .cursor-at2 .ensures)
 
 same-length-4 : tie.Need-same-length-4 Inv-loop μ-loop
-same-length-4 c = omega (arith, c .before .before .loop .inv .held .places-long, c .before .before .before .before .before .before .before .before .before .pre .0 .places-long)
+same-length-4 c =
+    let start = c .before .before .before .before .before .before .before .before .before in
+    let loop = c .before .before .loop in
+    omega (arith, loop .inv .held .places-long, start .pre .0 .places-long)
 
 same-length-5 : tie.Need-same-length-5 Inv-loop μ-loop
-same-length-5 c = omega (arith, c .before .before .loop .inv .held .heads-long, c .before .before .before .before .before .before .before .before .before .pre .0 .heads-long)
+same-length-5 c =
+    let start = c .before .before .before .before .before .before .before .before .before in
+    let loop = c .before .before .loop in
+    omega (arith, loop .inv .held .heads-long, start .pre .0 .heads-long)
 
 same-length-6 : tie.Need-same-length-6 Inv-loop μ-loop
-same-length-6 c = omega (arith, c .before .before .loop .inv .held .nexts-long, c .before .before .before .before .before .before .before .before .before .pre .0 .nexts-long)
+same-length-6 c =
+    let start = c .before .before .before .before .before .before .before .before .before in
+    let loop = c .before .before .loop in
+    omega (arith, loop .inv .held .nexts-long, start .pre .0 .nexts-long)
 
 returns-2 : tie.Need-returns-2 Inv-loop μ-loop
-returns-2 c = gathers-end _ _ _ (c .before .before .loop .inv) (c .if1 .left)
+returns-2 c =
+    let loop = c .before .before .loop in
+    gathers-end _ _ _ (loop .inv) (c .if1 .left)
 
 pub gather-spec : {M : Type 1} → statement M
 gather-spec =

@@ -28,7 +28,9 @@ wide-requires : tie.Need-wide-requires Inv-loop μ-loop
 wide-requires c κs = search needs
 
 add-h : tie.Need-add-h Inv-loop μ-loop
-add-h c = omega (arith, c .wide .ensures, c .before .shared-slice-known2 .given (c .before .before .before .loop .i))
+add-h c =
+    let loop = c .before .before .before .loop in
+    omega (arith, c .wide .ensures, c .before .shared-slice-known2 .given (loop .i))
 
 add-i : tie.Need-add-i Inv-loop μ-loop
 add-i c = search needs
@@ -39,7 +41,9 @@ loop-less c = search needs
 loop-again : tie.Need-loop-again Inv-loop μ-loop
 loop-again c =
     let loop = c .before .before .before .loop in
-    (loop .inv .0 ∙ hash-more _ _ _ (c .before .before .loop-test .taken) ∙ sym (rw (c .wide .ensures)), omega arith)
+    let loop-test = c .before .before .loop-test in
+    let loop = loop in
+    (loop .inv .0 ∙ hash-more _ _ _ (loop-test .taken) ∙ sym (rw (c .wide .ensures)), omega arith)
 
 returns : tie.Need-returns Inv-loop μ-loop
 returns c = (sym (c .before .loop .inv .0 ∙ hash-end _ _ _ (c .loop-test .left)), c .before .loop .inv .1)

@@ -38,7 +38,10 @@ number-requires-2 : tie.Need-number-requires-2
 number-requires-2 c κs = search needs
 
 add-bytes-of : tie.Need-add-bytes-of
-add-bytes-of c = omega (arith, c .number2 .ensures, c .before .before .before .before .shared-slice-known3 .given (c .before .before .before .before .before .before .before .args .k * 2 + 1))
+add-bytes-of c =
+    let start = c .before .before .before .before .before .before .before in
+    let shared-slice-known3 = c .before .before .before .before .shared-slice-known3 in
+    omega (arith, c .number2 .ensures, shared-slice-known3 .given (start .args .k * 2 + 1))
 
 bytes-of-requires : tie.Need-bytes-of-requires
 bytes-of-requires c κs = search needs
@@ -48,10 +51,13 @@ equal-requires c κs = search needs
 
 returns : tie.Need-returns
 returns c =
+    let start = c .before .before .before .before .before .before .before .before .before in
+    let number = c .before .before .before .before .number in
+    let number2 = c .before .before .number2 in
     c .equal .ensures
-    ∙ ap (λ (v : List ℕ). same v (c .before .before .before .before .before .before .before .before .before .args .w .now))
-    (c .before .bytes-of .ensures ∙ ap (λ (n : ℕ). span (c .before .before .before .before .before .before .before .before .before .args .text .now) n (c .before .before .number2 .result + 1)) (c .before .before .before .before .number .ensures)
-    ∙ ap (λ (n : ℕ). span (c .before .before .before .before .before .before .before .before .before .args .text .now) (getD (c .before .before .before .before .before .before .before .before .before .args .places .now) (c .before .before .before .before .before .before .before .before .before .args .k * 2) 0) (n + 1)) (c .before .before .number2 .ensures))
+    ∙ ap (λ (v : List ℕ). same v (start .args .w .now))
+    (c .before .bytes-of .ensures ∙ ap (λ (n : ℕ). span (start .args .text .now) n (number2 .result + 1)) (number .ensures)
+    ∙ ap (λ (n : ℕ). span (start .args .text .now) (getD (start .args .places .now) (start .args .k * 2) 0) (n + 1)) (number2 .ensures))
 
 pub is-label-spec : {M : Type 1} → statement M
 is-label-spec =

@@ -6,7 +6,9 @@ use Rattle.labels.proofs.note.Statement.{statement}
 use Rattle.labels.proofs.note.Tie as tie
 
 returns : tie.Need-returns
-returns c = notes-none (ahead (c .before .before .before .before .before .before .args .text .now) (c .before .before .before .before .before .before .args .c)) (c .before .before .before .before .before .before .pre .0) (c .if1 .taken)
+returns c =
+    let start = c .before .before .before .before .before .before in
+    notes-none (ahead (start .args .text .now) (start .args .c)) (start .pre .0) (c .if1 .taken)
 
 bytes-of-requires : tie.Need-bytes-of-requires
 bytes-of-requires c κs = search needs
@@ -24,7 +26,11 @@ same-length-3 : tie.Need-same-length-3
 same-length-3 c = search needs
 
 returns-2 : tie.Need-returns-2
-returns-2 c = notes-again (ahead (c .before .before .before .before .before .before .before .before .before .before .before .before .args .text .now) (c .before .before .before .before .before .before .before .before .before .before .before .before .args .c)) (c .before .before .before .before .before .before .before .before .before .before .before .before .pre .0) (c .before .before .before .before .before .before .if1 .left) (judged _ (c .before .before .before .before .before .bytes-of .ensures) (c .before .is-used .ensures) (c .if2 .taken))
+returns-2 c =
+    let start = c .before .before .before .before .before .before .before .before .before .before .before .before in
+    let if1 = c .before .before .before .before .before .before .if1 in
+    let bytes-of = c .before .before .before .before .before .bytes-of in
+    notes-again (ahead (start .args .text .now) (start .args .c)) (start .pre .0) (if1 .left) (judged _ (bytes-of .ensures) (c .before .is-used .ensures) (c .if2 .taken))
 
 add-requires : tie.Need-add-requires
 add-requires c κs = search needs
@@ -42,7 +48,14 @@ same-length-6 : tie.Need-same-length-6
 same-length-6 c = search needs
 
 returns-3 : tie.Need-returns-3
-returns-3 c = notes-one (c .before .before .before .before .before .before .before .before .before .before .before .before .before .before .before .before .before .before .before .before .before .before .args .c) (c .before .before .before .before .before .before .before .before .before .before .before .before .before .before .before .before .if1 .left) (judged _ (c .before .before .before .before .before .before .before .before .before .before .before .before .before .before .before .bytes-of .ensures) (c .before .before .before .before .before .before .before .before .before .before .before .is-used .ensures) (c .before .before .before .before .before .before .before .before .before .before .if2 .left)) (c .before .before .before .before .before .before .add .ensures)
+returns-3 c =
+    let start = c .before .before .before .before .before .before .before .before .before .before .before .before .before .before .before .before .before .before .before .before .before .before in
+    let if1 = c .before .before .before .before .before .before .before .before .before .before .before .before .before .before .before .before .if1 in
+    let bytes-of = c .before .before .before .before .before .before .before .before .before .before .before .before .before .before .before .bytes-of in
+    let is-used = c .before .before .before .before .before .before .before .before .before .before .before .is-used in
+    let if2 = c .before .before .before .before .before .before .before .before .before .before .if2 in
+    let add = c .before .before .before .before .before .before .add in
+    notes-one (start .args .c) (if1 .left) (judged _ (bytes-of .ensures) (is-used .ensures) (if2 .left)) (add .ensures)
 
 pub note-spec : {M : Type 1} → statement M
 note-spec =
