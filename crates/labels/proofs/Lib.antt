@@ -2,3 +2,4 @@ pub mod Laws
 pub mod Chains
 mod Scanning
 mod Samples
+pub mod Joining

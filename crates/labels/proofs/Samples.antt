@@ -5,10 +5,11 @@ use mathlib.Core.Path.{_≡_, refl}
 use mathlib.Core.Option.{Option, none, some}
 use mathlib.Core.List.{List, [], _∷_}
 use Rattle.tokens.specs.Written.{bytes}
-use Rattle.tokens.specs.Tokens.{Tok, toks}
+use Rattle.tokens.specs.Tokens.{Tok, stop, toks}
 use Rattle.meaning.specs.Open.{everything}
+use Rattle.meaning.specs.Reader.{Res, ok, refuse}
 use Rattle.labels.specs.Labels
-use Rattle.labels.specs.Labels.{labels, usedTwice}
+use Rattle.labels.specs.Labels.{labels, usedTwice, earlier}
 
 unfoldable opened : Unit {0}
 unfolding everything Labels.beginning Labels.parting Labels.labelling Labels.behind Labels.labelled Labels.labelsFrom Labels.labels Labels.taken Labels.usedBy Labels.repeated Labels.usedTwice
@@ -67,3 +68,15 @@ pub edges : answers (
     ∷ []
 unfolding opened answers wordsIn
 edges = refl
+
+-- a name used already at 20, where a reader of numbers refused before it, at it, behind it, or answered; and no name used twice
+pub further-left : _≡_ {A = List (Res ℕ)}
+    (earlier (some 20) (refuse 12 19)
+    ∷ earlier (some 20) (refuse 5 20)
+    ∷ earlier (some 20) (refuse 4 21)
+    ∷ earlier (some 20) (ok 1 (stop 4 30))
+    ∷ earlier none (refuse 4 21)
+    ∷ [])
+    (refuse 12 19 ∷ refuse 5 20 ∷ refuse 7 20 ∷ refuse 7 20 ∷ refuse 4 21 ∷ [])
+unfolding opened earlier
+further-left = refl

@@ -7,7 +7,7 @@ use lib.Dec.{ltb}
 use Rattle.tokens.specs.Written.{bytes, same, cases}
 use Rattle.tokens.specs.Tokens.{Tok, Toks, stop, tok}
 use Rattle.meaning.specs.Refusals.{usedName}
-use Rattle.meaning.specs.Reader.{Res, ok, refuse}
+use Rattle.meaning.specs.Reader.{Res, Reader, ok, refuse}
 
 -- ---- the labels of a text, in order
 
@@ -70,3 +70,7 @@ unfoldable pub earlier : {A : Type 0} → Option ℕ → Res A → Res A
 earlier none r = r
 earlier (some q) (ok a ts) = refuse usedName q
 earlier (some q) (refuse n p) = elim (ltb q p) [ true ↦ refuse usedName q | false ↦ refuse n p ]
+
+-- so the reader m, where each name is used once
+unfoldable pub eachOnce : {A : Type 0} → List ℕ → Reader A → Reader A
+eachOnce burst m ts = earlier (usedTwice burst ts) (m ts)

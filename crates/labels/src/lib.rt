@@ -10,6 +10,7 @@ ghost use Rattle.tokens.specs.Tokens.{toks};
 ghost use Rattle.words.specs.Cursor.{span, ahead};
 ghost use Rattle.words.specs.Values.{told};
 ghost use Rattle.labels.specs.Labels.{parting, labelling, behind as behindOf, taken, usedTwice};
+ghost use Rattle.labels.specs.Joined.{Joins};
 ghost use Rattle.labels.specs.Table.{labelsMost, wordOf, wordsOf, numberOf, hashed, Held, Added, hereOf, used, Notes, Gathers, foundOf};
 use words::Cursor;
 
@@ -23,6 +24,9 @@ pub const PLACES: usize = 2 * LABELS;
 pub const HASHES: usize = 4096;
 
 const SHORT: usize = 65_536;
+
+// Name already used.
+const USED: u8 = 7;
 
 // At a token: neither of these; something begins; a label is due.
 const WITHIN: u8 = 0;
@@ -283,4 +287,27 @@ pub fn used_twice(text: &[u8], from: usize, burst: &[u8]) -> Found
         is: all.again,
         place: all.place,
     }
+}
+
+// A reader went from s to c: where it goes if each name is used once. The refusal further left is given, and on one token the reader's.
+pub fn each_once(text: &[u8], burst: &[u8], s: Cursor, c: Cursor) -> Cursor
+    ensures { λ r. ⌜ Joins (now (text .entry)) (now (burst .entry)) s c r ⌝ }
+{
+    if s.no != 0 {
+        return c;
+    }
+    let at = s.at;
+    if s.end <= at {
+        return c;
+    }
+    let f = used_twice(text, at, burst);
+    if f.is & ((c.no == 0) | (f.place < c.at)) {
+        return Cursor {
+            no: USED,
+            fault: 0,
+            at: f.place,
+            end: 0,
+        };
+    }
+    c
 }
