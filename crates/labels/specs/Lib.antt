@@ -1,0 +1,3 @@
+pub mod Labels
+pub mod Table
+pub mod Joined
