@@ -1,19 +1,18 @@
 -- The pass over the labels joins a reader: what the two refuse, the one further left, is what the reader refuses where each name is used once.
 use Prim.Native.Nat.{ℕ, _≤_, _<_}
-use native.Mathlib.Omega.{arith}
 use mathlib.Core.Path.{_≡_, refl, sym, ap, _∙_}
 use mathlib.Core.Bool.{Bool, true, false, cond, _&&_, _||_}
 use mathlib.Core.Option.{Option, none, some}
-use mathlib.Core.List.{List, []}
-use lib.Dec.{ltb, eqb}
+use mathlib.Core.List.{List}
+use lib.Dec.{ltb}
 use lib.ListN.{length}
 use borrow.Author.Tests.{lt-ltb, le-ltb, eq-eqb, ne-eqb}
 use Rattle.tokens.specs.Refusals.{textMost}
-use Rattle.tokens.specs.Tokens.{Toks, tok, toks}
+use Rattle.tokens.specs.Tokens.{Toks, toks}
 use Rattle.meaning.specs.Refusals.{usedName}
-use Rattle.meaning.specs.Reader.{Res, Reader, ok, refuse, give}
+use Rattle.meaning.specs.Reader.{Res, Reader, refuse, give}
 use Rattle.meaning.proofs.SameTokens.{stands-there}
-use Rattle.words.specs.Cursor.{ahead, stopNo, stream, alive, from, Goes}
+use Rattle.words.specs.Cursor.{ahead, stream, alive, from, Goes}
 use Rattle.words.specs.Values.{told}
 use Rattle.words.specs.declared.Cursor.{Cursor}
 use Rattle.words.proofs.Flow.{from-on, from-stop, stream-on, stream-stop}
