@@ -57,6 +57,25 @@ goes-once {A} {text} {burst} {s} {c} {r} {m} {a} short p there g j = record { sa
         ∙ ap (earlier (usedTwice burst (stream text s))) (g .same ∙ from-on text s m e)
         ∙ sym (from-on text s (eachOnce burst m) e)
 
+-- where it goes on, it went on so before: what is known of the reader's answer stays
+pub once-kept : {text burst : List ℕ} {s c r : Cursor} → length text ≤ textMost → (p : ℕ) → (alive s ≡ true → stream text s ≡ toks text p)
+    → Joins text burst s c r → alive r ≡ true → r ≡ c
+once-kept {text} {burst} {s} {c} {r} short p there j on = by (alive s) refl
+  where
+    kept : (o : Option ℕ) → alive (sooner o c) ≡ true → sooner o c ≡ c
+    kept none e = refl
+    kept (some q) e = at-once (alive c || ltb q (c .at)) e
+      where
+        at-once : (x : Bool) → alive (cond x (usedAt q) c) ≡ true → cond x (usedAt q) c ≡ c
+        at-once true e = never e
+        at-once false e = refl
+
+    by : (x : Bool) → alive s ≡ x → r ≡ c
+    by false e = j .off e
+    by true e =
+        let q = j .on short e p (there e) in
+        q ∙ kept (usedTwice burst (stream text s)) (ap (λ (k : Cursor). alive k) (sym q) ∙ on)
+
 -- ---- the code's ways
 
 module _ (text burst : List ℕ) (s c : Cursor) where
