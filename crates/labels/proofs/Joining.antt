@@ -1,19 +1,18 @@
 -- The pass over the labels joins a reader: what the two refuse, the one further left, is what the reader refuses where each name is used once.
 use Prim.Native.Nat.{ℕ, _≤_, _<_}
-use native.Mathlib.Omega.{arith}
 use mathlib.Core.Path.{_≡_, refl, sym, ap, _∙_}
 use mathlib.Core.Bool.{Bool, true, false, cond, _&&_, _||_}
 use mathlib.Core.Option.{Option, none, some}
-use mathlib.Core.List.{List, []}
-use lib.Dec.{ltb, eqb}
+use mathlib.Core.List.{List}
+use lib.Dec.{ltb}
 use lib.ListN.{length}
 use borrow.Author.Tests.{lt-ltb, le-ltb, eq-eqb, ne-eqb}
 use Rattle.tokens.specs.Refusals.{textMost}
-use Rattle.tokens.specs.Tokens.{Toks, tok, toks}
+use Rattle.tokens.specs.Tokens.{Toks, toks}
 use Rattle.meaning.specs.Refusals.{usedName}
-use Rattle.meaning.specs.Reader.{Res, Reader, ok, refuse, give}
+use Rattle.meaning.specs.Reader.{Res, Reader, refuse, give}
 use Rattle.meaning.proofs.SameTokens.{stands-there}
-use Rattle.words.specs.Cursor.{ahead, stopNo, stream, alive, from, Goes}
+use Rattle.words.specs.Cursor.{ahead, stream, alive, from, Goes}
 use Rattle.words.specs.Values.{told}
 use Rattle.words.specs.declared.Cursor.{Cursor}
 use Rattle.words.proofs.Flow.{from-on, from-stop, stream-on, stream-stop}
@@ -57,6 +56,25 @@ goes-once {A} {text} {burst} {s} {c} {r} {m} {a} short p there g j = record { sa
         ∙ sooner-earlier text (usedTwice burst (stream text s)) c a
         ∙ ap (earlier (usedTwice burst (stream text s))) (g .same ∙ from-on text s m e)
         ∙ sym (from-on text s (eachOnce burst m) e)
+
+-- where it goes on, it went on so before: what is known of the reader's answer stays
+pub once-kept : {text burst : List ℕ} {s c r : Cursor} → length text ≤ textMost → (p : ℕ) → (alive s ≡ true → stream text s ≡ toks text p)
+    → Joins text burst s c r → alive r ≡ true → r ≡ c
+once-kept {text} {burst} {s} {c} {r} short p there j on = by (alive s) refl
+  where
+    kept : (o : Option ℕ) → alive (sooner o c) ≡ true → sooner o c ≡ c
+    kept none e = refl
+    kept (some q) e = at-once (alive c || ltb q (c .at)) e
+      where
+        at-once : (x : Bool) → alive (cond x (usedAt q) c) ≡ true → cond x (usedAt q) c ≡ c
+        at-once true e = never e
+        at-once false e = refl
+
+    by : (x : Bool) → alive s ≡ x → r ≡ c
+    by false e = j .off e
+    by true e =
+        let q = j .on short e p (there e) in
+        q ∙ kept (usedTwice burst (stream text s)) (ap (λ (k : Cursor). alive k) (sym q) ∙ on)
 
 -- ---- the code's ways
 

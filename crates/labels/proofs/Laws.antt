@@ -1,6 +1,6 @@
 -- What `repeated` says: an unknown name repeats nothing, a place that is given is that of the first label that is used already, and where none is given the labels are
 -- distinct.
-use Prim.Native.Nat.{ℕ, suc}
+use Prim.Native.Nat.{ℕ}
 use native.Mathlib.Omega.{arith}
 use mathlib.Core.Path.{_≡_, refl, sym, ap, _∙_}
 use mathlib.Core.Bool.{Bool, true, false, _||_}

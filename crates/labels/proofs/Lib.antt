@@ -3,3 +3,4 @@ pub mod Chains
 mod Scanning
 mod Samples
 pub mod Joining
+pub mod Numbers

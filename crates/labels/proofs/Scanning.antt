@@ -3,17 +3,17 @@ use Prim.Native.Nat.{ℕ, suc, _+_, _*_, _-_, _≤_, _<_, min}
 use native.Mathlib.Omega.{arith}
 use mathlib.Core.Path.{_≡_, refl, sym, ap, _∙_}
 use mathlib.Core.Bool.{Bool, true, false, _&&_, _||_, or-false}
-use mathlib.Core.Option.{Option, none, some}
+use mathlib.Core.Option.{some}
 use mathlib.Core.List.{List, [], _∷_, _++_}
 use lib.Dec.{ltb, eqb}
-use lib.ListN.{length, getD, take, drop, length-take, length-drop, drop-of-length-le}
-use borrow.Author.Tests.{eq-eqb, ne-eqb, lt-ltb, le-ltb, ltb-true, ltb-false}
+use lib.ListN.{length, getD, drop, length-take, length-drop, drop-of-length-le}
+use borrow.Author.Tests.{ne-eqb, lt-ltb, le-ltb, ltb-true, ltb-false}
 use Rattle.tokens.specs.Written.{bytes, same, cases}
 use Rattle.tokens.specs.Refusals.{textMost, notHere}
-use Rattle.tokens.specs.Tokens.{Tok, Toks, stop, tok, plain, ended, lex, toks, left}
+use Rattle.tokens.specs.Tokens.{Tok, Toks, stop, tok, ended, lex, toks, left}
 use Rattle.tokens.proofs.Laws.{unfolds, left-most}
 use Rattle.meaning.specs.Names.{isSome}
-use Rattle.words.specs.Cursor.{span, ahead, stopNo, stream, Stands}
+use Rattle.words.specs.Cursor.{span, ahead, stream, Stands}
 use Rattle.words.specs.declared.Cursor.{Cursor}
 use Rattle.words.specs.Values.{told}
 use Rattle.words.proofs.Flow.{stream-on, stream-stop}

@@ -1,13 +1,12 @@
 // Labels: the names of patterns and X names, and the first that is used already, in one pass over the tokens.
 ghost use mathlib.Core.Path.{_≡_};
-ghost use mathlib.Core.List.{List, _∷_, _++_, []};
-ghost use Prim.Native.Nat.{ℕ, _+_, _*_, _≤_, _<_};
+ghost use Prim.Native.Nat.{_+_, _*_, _≤_, _<_};
 ghost use lib.ListN.{length};
 ghost use lib.Dec.{ltb};
 ghost use Rattle.tokens.specs.Written.{same};
 ghost use Rattle.tokens.specs.Refusals.{textMost};
 ghost use Rattle.tokens.specs.Tokens.{toks};
-ghost use Rattle.words.specs.Cursor.{span, ahead};
+ghost use Rattle.words.specs.Cursor.{ahead};
 ghost use Rattle.words.specs.Values.{told};
 ghost use Rattle.labels.specs.Labels.{parting, labelling, behind as behindOf, taken, usedTwice};
 ghost use Rattle.labels.specs.Joined.{Joins};

@@ -1,5 +1,4 @@
 -- `add` meets its contract: the label is the latest of its chain.
-use Prim.Native.Nat.{_+_}
 use native.Mathlib.Omega.{arith}
 use mathlib.Core.Path.{ap, _∙_}
 use lib.ListN.{length-set}

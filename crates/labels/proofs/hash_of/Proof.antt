@@ -2,7 +2,7 @@
 use Prim.Native.Nat.{_-_, _<_}
 use mathlib.Core.Path.{_≡_, refl, sym, _∙_}
 use native.Mathlib.Omega.{arith}
-use lib.ListN.{length, drop, drop-of-length-le}
+use lib.ListN.{length, drop}
 use borrow.Author.Needs.{needs}
 use Rattle.labels.specs.Table.{hashes, hashFrom, hashed}
 use Rattle.labels.proofs.Chains.{hash-more, hash-end}
