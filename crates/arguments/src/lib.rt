@@ -73,7 +73,7 @@ fn argument<'a>(
     requires { ⌜ Ready (now text) (now places) (now lists) names × UsedRow (now row) × (length (now given) ≡ signalsMost) × (length (now args) ≡ signalsMost * 2) ⌝ }
     ensures { λ r. ⌜ ((b : Body) (xs : Args) → Uses b (now (row .entry)) → Supplied (now (text .entry)) xs (now (given .entry)) (now (args .entry)) → Makes (now (text .entry)) c (argumentDue (namesOf (now (text .entry)) (now (places .entry)) (now (lists .entry)) names) b xs) r (λ ys. Supplied (now (text .entry)) ys (now (given .exit)) (now (args .exit)))) ⌝ }
 {
-    let x = words::old_name(text, c, places, names);
+    let x = signals::old_name(text, c, places, names);
     let a = x.cursor;
     let i = x.number;
     if a.no != 0 {

@@ -27,7 +27,7 @@ pub ready : {text : List ℕ} {c r : Cursor} {places lists : List ℕ} {signals 
 ready {text} {c} {r} {places} {lists} {signals} {names} h live =
     let d = gave declared-front (h .goes) live in
     record {
-      usable = record { sized = h .sized; tidy = tidy-wider (d .signals .few) (d .names .tidy) };
+      usable = record { sized = h .sized; chained = h .chained live; tidy = tidy-wider (d .signals .few) (d .names .tidy) };
       fits = known h live .fits;
     }
 

@@ -69,7 +69,7 @@ fn assign<'a>(
     requires { ⌜ Ready (now text) (now places) (now lists) names × (length (now given) ≡ signalsMost) ⌝ }
     ensures { λ r. ⌜ ((xs : Assigns) → Gave xs (now (given .entry)) → Gives (now (text .entry)) c (assignDue (namesOf (now (text .entry)) (now (places .entry)) (now (lists .entry)) names) may xs) r (now (given .exit))) ⌝ }
 {
-    let x = words::old_name(text, c, places, names);
+    let x = signals::old_name(text, c, places, names);
     let a = x.cursor;
     let i = x.number;
     if a.no != 0 {

@@ -1,5 +1,5 @@
 -- What is told of the declarations, from what reading them promises: a refusal as it is, or where the next token stands and how many there are.
-use Prim.Native.Nat.{ℕ, zero, suc, _*_, _≤_, _<_}
+use Prim.Native.Nat.{ℕ, zero, suc, _+_, _*_, _≤_, _<_}
 use native.Mathlib.Omega.{arith}
 use mathlib.Core.Path.{_≡_, refl, sym, ap, _∙_}
 use mathlib.Core.Bool.{Bool, true, false}
@@ -16,7 +16,7 @@ use Rattle.meaning.specs.Timing.{Tables}
 use Rattle.words.specs.Cursor.{ahead, stopNo, stream, Stands}
 use Rattle.words.specs.declared.Cursor.{Cursor}
 use Rattle.words.proofs.Flow.{from-on, from-stop}
-use Rattle.signals.specs.Names.{namesOf}
+use Rattle.signals.specs.Names.{namesMost, placesLength, Unchained, namesOf}
 use Rattle.signals.proofs.Tables.{names-length}
 use Rattle.timing.specs.Marks.{tableSize}
 use Rattle.timing.specs.declared.Watch.{Watch}
@@ -31,6 +31,10 @@ zeros zero zero = refl
 zeros zero (suc i) = refl
 zeros (suc n) zero = refl
 zeros (suc n) (suc i) = zeros n i
+
+-- chains before any name is read
+pub blank-chains : Unchained (replicate placesLength 0)
+blank-chains = record { none = λ h l. zeros placesLength (namesMost * 3 + h) }
 
 -- marks of waveforms before any is read
 pub blank-waves : (i : ℕ) → _≡_ {A = ℕ} (getD (replicate (tablesMost * tableSize) 0) i 0) 0

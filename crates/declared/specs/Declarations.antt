@@ -11,7 +11,7 @@ use Rattle.meaning.specs.Timing.{Tables, timing}
 use Rattle.meaning.specs.Meaning.{tableAt}
 use Rattle.words.specs.Cursor.{alive, Goes}
 use Rattle.words.specs.declared.Cursor.{Cursor}
-use Rattle.signals.specs.Names.{namesOf, Sized, front}
+use Rattle.signals.specs.Names.{namesOf, Chained, Unchained, Sized, front}
 use Rattle.timing.specs.Marks.{tableSize}
 use Rattle.timing.specs.Held.{Held}
 use Rattle.timing.specs.Watch.{Watched}
@@ -31,9 +31,10 @@ declarations = do
   ts ← timing (f .1)
   give (f .0, f .1, ts)
 
--- arrays of the right length, and no mark set
+-- arrays of the right length; no name in a chain, and no mark set
 pub record Blank (places lists tplaces waves : List ℕ) : Type 0 where
   pub sized : Sized places lists
+  pub unchained : Unchained places
   pub tables : length tplaces ≡ tablesMost * 2
   pub marks : length waves ≡ tablesMost * tableSize
   pub unset : (i : ℕ) → getD waves i 0 ≡ 0
@@ -45,3 +46,4 @@ pub record Declares (text : List ℕ) (c r : Cursor) (places lists tplaces waves
   pub held : alive r ≡ true → Held text tplaces waves tables it
   pub watched : alive r ≡ true → Watched text w found place (tableAt it (w .table))
   pub sized : Sized places lists
+  pub chained : alive r ≡ true → Chained text places names

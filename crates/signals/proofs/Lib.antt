@@ -1,3 +1,4 @@
+mod Chains
 mod Rows
 mod Taking
 pub mod Tidy

@@ -6,8 +6,8 @@ use mathlib.Core.Path.{_≡_, refl, sym, ap, ap₂, _∙_, subst}
 use mathlib.Core.Bool.{Bool, true, false}
 use mathlib.Core.Option.{Option, some}
 use mathlib.Core.List.{List, [], _∷_, _++_}
-use lib.ListN.{length, getD, take, set, length-append, length-set}
-use lib.Seq.{take-at, getD-set-same, getD-set-other}
+use lib.ListN.{length, take, length-append}
+use lib.Seq.{take-at}
 use Rattle.tokens.specs.Written.{same}
 use Rattle.tokens.specs.Tokens.{Tok}
 use Rattle.meaning.specs.Bounds.{signalsMost}
@@ -17,11 +17,13 @@ use Rattle.meaning.proofs.Gives.{Gives, gives-bind, gives-after, gives-give}
 use Rattle.sets.specs.Sets.{listOf}
 use Rattle.sets.specs.declared.Set.{Set}
 use Rattle.sets.proofs.Tidy.{TidyBelow}
-use Rattle.words.specs.Cursor.{ahead, alive, Goes}
+use Rattle.words.specs.Cursor.{span, ahead, alive, Goes}
 use Rattle.words.specs.Table.{nameOf, namesFrom, names, named}
 use Rattle.words.specs.declared.Cursor.{Cursor}
 use Rattle.words.proofs.Names.{names-agree, names-more}
-use Rattle.signals.specs.Names.{namesMost, Sized, listAt, namesOf, Written, Added, AllTidy, more as another, Fronted}
+use Rattle.words.specs.Chains.{chainOf}
+use Rattle.signals.specs.Names.{namesMost, Chained, Sized, listAt, namesOf, Written, Put, Added, AllTidy, more as another, Fronted}
+use Rattle.signals.proofs.Chains.{chained-more}
 use Rattle.signals.proofs.Tidy.{gave, gives-known, Single, one, declared-front}
 
 -- k names from number i on, each with its signals
@@ -68,33 +70,25 @@ module _ (text p q l m : List ℕ) where
       rw (g i (omega arith)) (ap (λ (ns : Names). (nameOf text p i, listAt l i) ∷ ns) (rows-agree (suc i) k (λ j b. g j (omega arith))))
 
   -- the name at the cursor, with its place and end behind theirs, and its row
-  names-added : (count : ℕ) (c : Cursor) {s : Set} → q ≡ set (set p (count * 2) (c .at)) (count * 2 + 1) (c .end) → count * 2 + 1 < length p
+  names-added : (count : ℕ) (c : Cursor) {h : ℕ} {s : Set} → Put p count (c .at) (c .end) h q
       → Written l count s m → namesOf text p l count ++ (ahead text c, listOf s) ∷ [] ≡ namesOf text q m (count + 1)
-  names-added count c {s} e h w =
-      let first = set p (count * 2) (c .at) in
-      let start : getD q (count * 2) 0 ≡ c .at =
-      rw e (getD-set-other first (count * 2 + 1) (count * 2) (c .end) 0 (λ z. omega arith) ∙ getD-set-same p (count * 2) (c .at) 0 (omega arith)) in
-      let end : getD q (count * 2 + 1) 0 ≡ c .end =
-      rw e (getD-set-same first (count * 2 + 1) (c .end) 0 (omega (arith, length-set p (count * 2) (c .at)))) in
-      let others : (j : ℕ) → j < (0 + count) * 2 → getD q j 0 ≡ getD p j 0 = λ j b.
-      rw e (getD-set-other first (count * 2 + 1) j (c .end) 0 (λ z. omega arith) ∙ getD-set-other p (count * 2) j (c .at) 0 (λ z. omega arith)) in
+  names-added count c x w =
+      let start = x .place in
+      let end = x .end-is in
       let it : nameOf text q count ≡ ahead text c = rw (start, end) in
       sym (ap (named (listAt m)) (names-more text q count)
       ∙ named-more (listAt m) (names text q count) (nameOf text q count, count)
-      ∙ ap₂ (λ (ns : Names) (x : Tok × List ℕ). ns ++ x ∷ []) (ap (named (listAt m)) (names-agree text p q 0 count others) ∙ rows-agree 0 count (λ j b. w .earlier j (omega arith)))
+      ∙ ap₂ (λ (ns : Names) (x : Tok × List ℕ). ns ++ x ∷ []) (ap (named (listAt m)) (names-agree text p q 0 count (λ j b. x .names j (omega arith))) ∙ rows-agree 0 count (λ j b. w .earlier j (omega arith)))
       (ap₂ (λ (t : Tok) (k : List ℕ). (t, k)) it (w .row)))
 
 -- both tables hold one name more
-pub added : (p q l m : List ℕ) (count : ℕ) (c : Cursor) {s : Set} → Sized p l → count < namesMost → q ≡ set (set p (count * 2) (c .at)) (count * 2 + 1) (c .end)
-    → Written l count s m → Added p l count c s q m
-added p q l m count c h b e w =
+pub added : {text p q l m : List ℕ} {count : ℕ} {c : Cursor} {h : ℕ} {s : Set} → Sized p l → Chained text p count → count < namesMost
+    → h ≡ chainOf (span text (c .at) (c .end)) → Put p count (c .at) (c .end) h q → Written l count s m → Added text p l count c s q m
+added {text} {p} {q} {l} {m} {count} {c} sized x b e put w =
     record {
-      names = λ text. names-added text p q l m count c e (omega (arith, h .all)) w;
-      sized =
-          record {
-            all = ap length e ∙ length-set (set p (count * 2) (c .at)) (count * 2 + 1) (c .end) ∙ length-set p (count * 2) (c .at) ∙ h .all;
-            rows = w .long ∙ h .rows;
-          };
+      names = names-added text p q l m count c put w;
+      sized = record { all = put .long ∙ sized .all; rows = w .long ∙ sized .rows };
+      chained = chained-more x b put e;
     }
 
 -- ---- both blocks were read

@@ -1,17 +1,21 @@
 // The blocks Signals and SignalGroups, read into two tables that the caller lends: place and end of each name, and its signals in a row.
 ghost use mathlib.Core.Path.{_≡_};
-ghost use mathlib.Core.Bool.{true, false, _&&_};
+ghost use mathlib.Core.Bool.{true, false, cond, _&&_};
 ghost use mathlib.Core.List.{List};
 ghost use Prim.Native.Nat.{ℕ, _+_, _*_, _≤_, _<_, min};
-ghost use lib.ListN.{length, set};
+ghost use lib.ListN.{length};
+ghost use lib.Dec.{ltb};
 ghost use Rattle.meaning.specs.Bounds.{signalsMost};
 ghost use Rattle.meaning.specs.Lists.{meets};
-ghost use Rattle.meaning.specs.Names.{among, dueAmong};
+ghost use Rattle.meaning.specs.Names.{among, dueAmong, find as findOf, newName, oldName};
 ghost use Rattle.meaning.specs.Signals.{directions, signal as signalDue, signals as signalsDue};
 ghost use Rattle.meaning.specs.Groups.{sign as signDue, signAhead, joined as joinedDue, group as groupDue, groups as groupsDue};
 ghost use Rattle.sets.specs.Sets.{listOf};
-ghost use Rattle.words.specs.Cursor.{stream, alive, Goes};
-ghost use Rattle.signals.specs.Names.{namesMost, rowLength, Sized, listAt, namesOf, Written, Added, Named, AllTidy, Usable, termWithin, expressionWithin, Fronted};
+ghost use Rattle.words.specs.Cursor.{ahead as aheadTok, stream, alive, Goes};
+ghost use Rattle.words.specs.Values.{told};
+ghost use Rattle.words.specs.Table.{names};
+ghost use Rattle.words.specs.Chains.{chainsMost};
+ghost use Rattle.signals.specs.Names.{namesMost, placesLength, rowLength, Chained, Unchained, Sized, listAt, namesOf, Written, Put, Added, Named, AllTidy, Usable, termWithin, expressionWithin, Fronted};
 use sets::Set;
 use words::Cursor;
 
@@ -24,8 +28,13 @@ pub const NAMES: usize = sets::MOST + GROUPS;
 // A row of signals: their number, and a place for each that there may be.
 pub const ROW: usize = sets::MOST + 1;
 
+// Behind the places of the names: for each name the one before it in its chain, and for each chain its last name. A name stands there by its number and 1, none by 0.
+const EARLIER: usize = NAMES * 2;
+
+const LAST: usize = NAMES * 3;
+
 // How long the two tables are.
-pub const PLACES: usize = NAMES * 2;
+pub const PLACES: usize = LAST + words::CHAINS;
 
 pub const LISTS: usize = NAMES * ROW;
 
@@ -71,13 +80,16 @@ pub struct Blocks {
 
 // ---- the tables
 
-// The name from `at` to `end`, as number i.
-fn put_name(places: &mut [usize], i: usize, at: usize, end: usize)
-    requires { ⌜ i * 2 + 1 < length (now places) ⌝ }
-    ensures { λ _. ⌜ now (places .exit) ≡ set (set (now (places .entry)) (i * 2) at) (i * 2 + 1) «end» ⌝ }
+// The name from `at` to `end`, as number i, the last one of chain h.
+fn put_name(places: &mut [usize], i: usize, at: usize, end: usize, h: usize)
+    requires { ⌜ (length (now places) ≡ placesLength) × (i < namesMost) × (h < chainsMost) ⌝ }
+    ensures { λ _. ⌜ Put (now (places .entry)) i at «end» h (now (places .exit)) ⌝ }
 {
+    let earlier = places[LAST + h];
     places[i * 2] = at;
     places[i * 2 + 1] = end;
+    places[EARLIER + i] = earlier;
+    places[LAST + h] = i + 1;
 }
 
 // A number of signals, as a row holds it.
@@ -106,11 +118,12 @@ fn put_set(lists: &mut [u16], i: usize, set: Set)
 }
 
 // The name at the cursor and its signals, behind `count` names.
-fn add(places: &mut [usize], lists: &mut [u16], count: usize, c: Cursor, set: Set)
-    requires { ⌜ Sized (now places) (now lists) × (count < namesMost) ⌝ }
-    ensures { λ _. ⌜ Added (now (places .entry)) (now (lists .entry)) count c set (now (places .exit)) (now (lists .exit)) ⌝ }
+fn add(text: &[u8], places: &mut [usize], lists: &mut [u16], count: usize, c: Cursor, set: Set)
+    requires { ⌜ Sized (now places) (now lists) × Chained (now text) (now places) count × (count < namesMost) ⌝ }
+    ensures { λ _. ⌜ Added (now (text .entry)) (now (places .entry)) (now (lists .entry)) count c set (now (places .exit)) (now (lists .exit)) ⌝ }
 {
-    put_name(places, count, c.at, c.end);
+    let h = words::chain(words::bytes_of(text, c.at, c.end));
+    put_name(places, count, c.at, c.end, h);
     put_set(lists, count, set);
 }
 
@@ -135,6 +148,53 @@ pub fn set_at(lists: &[u16], i: usize) -> Set
     }
 }
 
+// ---- names in their name space
+
+// The nearer one of two names.
+fn nearer(is: bool, i: usize, found: usize) -> usize
+    ensures { λ r. ⌜ r ≡ cond is i found ⌝ }
+{
+    if is { i } else { found }
+}
+
+// The number of the first of `count` names that is w; `count` where none is. The names of its chain are looked at, the last one first.
+fn find<'a>(text: &'a [u8], w: &'a [u8], places: &'a [usize], count: usize) -> usize
+    requires { ⌜ Chained (now text) (now places) count ⌝ }
+    ensures { λ r. ⌜ told (ltb r count) r ≡ findOf (names (now (text .entry)) (now (places .entry)) count) (now (w .entry)) ⌝ }
+{
+    let n = w.len();
+    if n == 0 {
+        return words::find(text, w, places, count);
+    }
+    let last = w[n - 1];
+    let mut found = count;
+    let mut k = places[LAST + words::chain(w)];
+    while 0 < k {
+        let i = k - 1;
+        found = nearer(words::is_named(text, w, last, places, i * 2), i, found);
+        k = places[EARLIER + i];
+    }
+    found
+}
+
+// A name that none of `count` names is.
+fn new_name<'a>(text: &'a [u8], c: Cursor, places: &'a [usize], count: usize) -> Cursor
+    requires { ⌜ Chained (now text) (now places) count ⌝ }
+    ensures { λ r. ⌜ Goes (now (text .entry)) c (newName (names (now (text .entry)) (now (places .entry)) count)) r (aheadTok (now (text .entry)) c) ⌝ }
+{
+    let number = find(text, words::bytes_of(text, c.at, c.end), places, count);
+    words::unused_name(text, c, number, count)
+}
+
+// A name that one of `count` names is, and that one's number.
+pub fn old_name<'a>(text: &'a [u8], c: Cursor, places: &'a [usize], count: usize) -> words::Named
+    requires { ⌜ Chained (now text) (now places) count ⌝ }
+    ensures { λ r. ⌜ Goes (now (text .entry)) c (oldName (names (now (text .entry)) (now (places .entry)) count)) (r .cursor) (aheadTok (now (text .entry)) c, r .number) ⌝ }
+{
+    let number = find(text, words::bytes_of(text, c.at, c.end), places, count);
+    words::known_name(text, c, number, count)
+}
+
 // ---- Signals
 
 // Is w In, Out or InOut?
@@ -153,23 +213,23 @@ fn direction(text: &[u8], c: Cursor) -> Cursor
 
 // One signal more, behind `count` of them.
 fn signal(text: &[u8], c: Cursor, places: &mut [usize], lists: &mut [u16], count: usize) -> Cursor
-    requires { ⌜ Sized (now places) (now lists) ⌝ }
+    requires { ⌜ Sized (now places) (now lists) × Chained (now text) (now places) count ⌝ }
     ensures { λ r. ⌜ Named (now (text .entry)) c (signalDue (namesOf (now (text .entry)) (now (places .entry)) (now (lists .entry)) count)) r (now (places .exit)) (now (lists .exit)) (count + 1) ⌝ }
 {
-    let a = words::new_name(text, c, places, count);
+    let a = new_name(text, c, places, count);
     let b = words::refuse_if(a, sets::MOST <= count, TOO_MANY, c.at);
     let d = direction(text, b);
     let r = words::due(text, d, b";");
     if r.no != 0 {
         return r;
     }
-    add(places, lists, count, c, sets::single(count as u16));
+    add(text, places, lists, count, c, sets::single(count as u16));
     r
 }
 
 // Signals { NAME In; .. }
 fn signals(text: &[u8], c: Cursor, places: &mut [usize], lists: &mut [u16]) -> Counted
-    requires { ⌜ Sized (now places) (now lists) ⌝ }
+    requires { ⌜ Sized (now places) (now lists) × Unchained (now places) ⌝ }
     ensures { λ r. ⌜ Named (now (text .entry)) c signalsDue (r .cursor) (now (places .exit)) (now (lists .exit)) (r .count) ⌝ }
 {
     let a = words::due(text, c, b"Signals");
@@ -249,7 +309,7 @@ fn term<'a>(
         let last = b.at;
         return Placed { cursor, set, last };
     }
-    let x = words::old_name(text, c, places, count);
+    let x = old_name(text, c, places, count);
     let cursor = x.cursor;
     let set = set_at(lists, x.number);
     let last = c.at;
@@ -296,7 +356,7 @@ fn group(
     requires { ⌜ Usable (now text) (now places) (now lists) count × (n ≤ signalsMost) ⌝ }
     ensures { λ r. ⌜ Named (now (text .entry)) c (groupDue n (namesOf (now (text .entry)) (now (places .entry)) (now (lists .entry)) count)) r (now (places .exit)) (now (lists .exit)) (count + 1) ⌝ }
 {
-    let a = words::new_name(text, c, places, count);
+    let a = new_name(text, c, places, count);
     let b = words::refuse_if(a, n + GROUPS <= count, TOO_MANY, c.at);
     let d = words::due(text, b, b"=");
     let e = words::due(text, d, b"'");
@@ -309,13 +369,13 @@ fn group(
     if r.no != 0 {
         return r;
     }
-    add(places, lists, count, c, set);
+    add(text, places, lists, count, c, set);
     r
 }
 
 // SignalGroups { NAME = 'EXPR'; .. }, behind n signals.
 fn groups(text: &[u8], c: Cursor, places: &mut [usize], lists: &mut [u16], n: usize) -> Counted
-    requires { ⌜ Sized (now places) (now lists) × (alive c ≡ true → AllTidy signalsMost (namesOf (now text) (now places) (now lists) n) × (n ≤ signalsMost)) ⌝ }
+    requires { ⌜ Sized (now places) (now lists) × (alive c ≡ true → AllTidy signalsMost (namesOf (now text) (now places) (now lists) n) × (n ≤ signalsMost) × Chained (now text) (now places) n) ⌝ }
     ensures { λ r. ⌜ Named (now (text .entry)) c (groupsDue (namesOf (now (text .entry)) (now (places .entry)) (now (lists .entry)) n)) (r .cursor) (now (places .exit)) (now (lists .exit)) (r .count) ⌝ }
 {
     let a = words::due(text, c, b"SignalGroups");
@@ -331,7 +391,7 @@ fn groups(text: &[u8], c: Cursor, places: &mut [usize], lists: &mut [u16], n: us
 
 // Signals, and SignalGroups, which may be missing.
 pub fn front(text: &[u8], c: Cursor, places: &mut [usize], lists: &mut [u16]) -> Blocks
-    requires { ⌜ Sized (now places) (now lists) ⌝ }
+    requires { ⌜ Sized (now places) (now lists) × Unchained (now places) ⌝ }
     ensures { λ r. ⌜ Fronted (now (text .entry)) c (r .cursor) (now (places .exit)) (now (lists .exit)) (r .signals) (r .names) ⌝ }
 {
     let s = signals(text, c, places, lists);

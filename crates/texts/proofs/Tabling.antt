@@ -111,7 +111,7 @@ module _ {text places lists tplaces waves : List ℕ} {c a : Cursor} {signals na
         record {
           names-are = refl;
           ready = record {
-            usable = record { sized = d .sized; tidy = tidy-wider (k .signals .few) (k .names .tidy) };
+            usable = record { sized = d .sized; chained = d .chained on; tidy = tidy-wider (k .signals .few) (k .names .tidy) };
             fits = omega (arith, k .signals .few, k .names .few);
           };
           tables-are = d .held on .named;

@@ -12,7 +12,7 @@ ghost use Rattle.meaning.specs.Reader.{Reader};
 ghost use Rattle.meaning.specs.Timing.{drives as drivesOf, compares as comparesOf, eventLetter, letterDue, letters as lettersOf, spread, Events, Wave, Tables as TablesOf, oneEvent, event as eventOf, waveChar, allChars, blanks, entry as entryOf, waveforms as waveformsOf, table as tableOf, timing as timingOf};
 ghost use Rattle.words.specs.Cursor.{Goes, alive};
 ghost use Rattle.words.specs.Values.{told};
-ghost use Rattle.signals.specs.Names.{listAt, namesOf, Sized, namesMost, rowLength};
+ghost use Rattle.signals.specs.Names.{listAt, namesOf, Chained, Sized, namesMost, rowLength};
 ghost use Rattle.timing.specs.Makes.{Makes, Brings};
 ghost use Rattle.timing.specs.Events.{allEvents, Lettered, slot as slotOf, Timed, Adding, events as eventsOf};
 ghost use Rattle.timing.specs.Marks.{tableSize, mark, Marks, Described, markOf, markAmong, Marked, Below, AllBelow};
@@ -480,10 +480,10 @@ fn waveforms<'a>(
     table: &mut [u8],
     watch: Watch,
 ) -> Seen
-    requires { ⌜ (length (now table) ≡ tableSize) × Sized (now places) (now lists) × AllBelow (namesOf (now text) (now places) (now lists) names) × Described (now table) ⌝ }
+    requires { ⌜ (length (now table) ≡ tableSize) × (Sized (now places) (now lists) × Chained (now text) (now places) names) × AllBelow (namesOf (now text) (now places) (now lists) names) × Described (now table) ⌝ }
     ensures { λ r. ⌜ ((here : Bool) (ws : List Wave) → Noted (now (text .entry)) here watch (now (table .entry)) (x .sight) ws → Makes (now (text .entry)) (x .cursor) (waveformsOf (namesOf (now (text .entry)) (now (places .entry)) (now (lists .entry)) names) ws) (r .cursor) (Noted (now (text .entry)) here watch (now (table .exit)) (r .sight))) ⌝ }
 {
-    let old = words::old_name(text, x.cursor, places, names);
+    let old = signals::old_name(text, x.cursor, places, names);
     let cursor = words::due(text, old.cursor, b"{");
     let sight = x.sight;
     let y = Seen { cursor, sight };
@@ -504,7 +504,7 @@ fn block<'a>(
     table: &mut [u8],
     watch: Watch,
 ) -> Seen
-    requires { ⌜ (length (now table) ≡ tableSize) × Sized (now places) (now lists) × AllBelow (namesOf (now text) (now places) (now lists) names) × Described (now table) ⌝ }
+    requires { ⌜ (length (now table) ≡ tableSize) × (Sized (now places) (now lists) × Chained (now text) (now places) names) × AllBelow (namesOf (now text) (now places) (now lists) names) × Described (now table) ⌝ }
     ensures { λ r. ⌜ ((here : Bool) (ws : List Wave) → Noted (now (text .entry)) here watch (now (table .entry)) (x .sight) ws → Makes (now (text .entry)) (x .cursor) (blockOf (namesOf (now (text .entry)) (now (places .entry)) (now (lists .entry)) names) ws) (r .cursor) (Noted (now (text .entry)) here watch (now (table .exit)) (r .sight))) ⌝ }
 {
     let mut x = x;
@@ -541,7 +541,7 @@ fn table<'a>(
     waves: &mut [u8],
     watch: Watch,
 ) -> Seen
-    requires { ⌜ (length (now tplaces) ≡ tablesMost * 2) × (length (now waves) ≡ tablesMost * tableSize) × Sized (now places) (now lists) × AllBelow (namesOf (now text) (now places) (now lists) names) ⌝ }
+    requires { ⌜ (length (now tplaces) ≡ tablesMost * 2) × (length (now waves) ≡ tablesMost * tableSize) × (Sized (now places) (now lists) × Chained (now text) (now places) names) × AllBelow (namesOf (now text) (now places) (now lists) names) ⌝ }
     requires { ⌜ ((tabs : TablesOf) × Held (now text) (now tplaces) (now waves) k tabs) ⌝ }
     ensures { λ r. ⌜ ((tabs : TablesOf) → Kept (now (text .entry)) (now (tplaces .entry)) (now (waves .entry)) k watch (x .sight .found) (x .sight .place) tabs → Makes (now (text .entry)) (x .cursor) (tableOf (namesOf (now (text .entry)) (now (places .entry)) (now (lists .entry)) names) tabs) (r .cursor) (Kept (now (text .entry)) (now (tplaces .exit)) (now (waves .exit)) (k + 1) watch (r .sight .found) (r .sight .place))) ⌝ }
 {
@@ -594,7 +594,7 @@ pub fn timing<'a>(
 ) -> Tables
     requires { ⌜ (length (now tplaces) ≡ tablesMost * 2) × (length (now waves) ≡ tablesMost * tableSize) × Sized (now places) (now lists) ⌝ }
     requires { ⌜ ((i : ℕ) → getD (now waves) i 0 ≡ 0) ⌝ }
-    requires { ⌜ (alive c ≡ true → AllBelow (namesOf (now text) (now places) (now lists) names)) ⌝ }
+    requires { ⌜ (alive c ≡ true → AllBelow (namesOf (now text) (now places) (now lists) names) × Chained (now text) (now places) names) ⌝ }
     ensures { λ r. ⌜ Makes (now (text .entry)) c (timingOf (namesOf (now (text .entry)) (now (places .entry)) (now (lists .entry)) names)) (r .cursor) (Kept (now (text .entry)) (now (tplaces .exit)) (now (waves .exit)) (r .count) watch (r .found) (r .place)) ⌝ }
 {
     if c.no != 0 {

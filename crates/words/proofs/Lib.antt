@@ -7,3 +7,4 @@ mod Numbers
 mod Tables
 mod Packed
 pub mod Names
+mod Chains

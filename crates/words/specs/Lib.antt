@@ -2,3 +2,4 @@ pub mod Cursor
 pub mod Values
 pub mod Table
 pub mod Packed
+pub mod Chains

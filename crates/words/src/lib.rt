@@ -8,6 +8,7 @@ ghost use mathlib.Core.Bool.{false, _&&_, not};
 ghost use lib.Dec.{eqb, ltb};
 ghost use Rattle.tokens.specs.Written.{same};
 ghost use Rattle.tokens.specs.Bytes.{wordy, digit};
+ghost use Rattle.tokens.specs.Tokens.{Tok};
 ghost use Rattle.meaning.specs.Reader.{any, aheadOf, dueOf, isWord, word as wordDue};
 ghost use Rattle.meaning.specs.Lists.{has};
 ghost use Rattle.meaning.specs.Names.{reserved as reservedWords, among, isName, name as nameDue, find as findOf, newName, oldName, number as numberOf, within as withinDue, numberIn};
@@ -16,6 +17,10 @@ ghost use Rattle.words.specs.Cursor.{span, ahead as aheadTok, stream, al
 ghost use Rattle.words.specs.Values.{most, told, capped, valueOf, Longer};
 ghost use Rattle.words.specs.Table.{nameOf, names};
 ghost use Rattle.words.specs.Packed.{packed, capital, EndsWith, ZerosFrom};
+ghost use Rattle.words.specs.Chains.{mixedOf, chainOf, InChain};
+
+// How many chains there are.
+pub const CHAINS: usize = 509;
 
 // Where reading stands. With `no` 0 the token ahead is the text from `at` to `end`; where `end` is not behind `at` there is none: the text has
 // ended at `at`, or has the fault `fault` there. With another `no` reading was refused so at `at`, and every reader hands that on.
@@ -403,9 +408,37 @@ fn equal_by_eights(w: &[u8], v: &[u8]) -> bool
     eight(w, last) == eight(v, last)
 }
 
+// A chain by two numbers.
+fn mixed(x: u64, y: u64) -> usize
+    ensures { λ r. ⌜ InChain (mixedOf x y) r ⌝ }
+{
+    ((x / 2 + y / 2) % CHAINS as u64) as usize
+}
+
+// The chain of a word. Names are parted in chains, so that few of them are compared with a word; the bytes with which it begins and those with which it ends tell its chain.
+pub fn chain(w: &[u8]) -> usize
+    ensures { λ r. ⌜ InChain (chainOf (now (w .entry))) r ⌝ }
+{
+    let n = w.len();
+    if 8 <= n {
+        return mixed(eight(w, 0), eight(w, n - 8));
+    }
+    if 4 <= n {
+        return mixed(four(w, 0), four(w, n - 4));
+    }
+    if 2 <= n {
+        return mixed(two(w, 0), two(w, n - 2));
+    }
+    if n == 0 {
+        return 0;
+    }
+    let b = wide(w[0]);
+    mixed(b, b)
+}
+
 // Is the name whose place stands at j the word w, which ends with the byte `last`? Most names are told by their length, which needs no look at the text, or by
 // their own last byte.
-fn is_named<'a>(text: &'a [u8], w: &'a [u8], last: u8, places: &'a [usize], j: usize) -> bool
+pub fn is_named<'a>(text: &'a [u8], w: &'a [u8], last: u8, places: &'a [usize], j: usize) -> bool
     requires { ⌜ (j + 1 < length (now places)) × EndsWith (now w) last ⌝ }
     ensures { λ r. ⌜ r ≡ same (span (now (text .entry)) (getD (now (places .entry)) j 0) (getD (now (places .entry)) (j + 1) 0)) (now (w .entry)) ⌝ }
 {
@@ -458,27 +491,40 @@ pub fn find<'a>(text: &'a [u8], w: &'a [u8], places: &'a [usize], count: usize) 
     count
 }
 
+// A new name: it was looked up among `count` names, and `number` is past theirs where none is it.
+pub fn unused_name(text: &[u8], c: Cursor, number: usize, count: usize) -> Cursor
+    ensures { λ r. ⌜ ((ns : List (Tok × ℕ)) → told (ltb number count) number ≡ findOf ns (aheadTok (now (text .entry)) c .word) → Goes (now (text .entry)) c (newName ns) r (aheadTok (now (text .entry)) c)) ⌝ }
+{
+    let r = name(text, c);
+    refuse_if(r, number < count, 7, c.at)
+}
+
 // A name that none of `count` names is.
 pub fn new_name<'a>(text: &'a [u8], c: Cursor, places: &'a [usize], count: usize) -> Cursor
     ensures { λ r. ⌜ Goes (now (text .entry)) c (newName (names (now (text .entry)) (now (places .entry)) count)) r (aheadTok (now (text .entry)) c) ⌝ }
 {
-    let r = name(text, c);
-    let i = find(text, bytes_of(text, c.at, c.end), places, count);
-    refuse_if(r, i < count, 7, c.at)
+    let number = find(text, bytes_of(text, c.at, c.end), places, count);
+    unused_name(text, c, number, count)
+}
+
+// A known name: it was looked up among `count` names, and `number` is past theirs where none is it.
+pub fn known_name(text: &[u8], c: Cursor, number: usize, count: usize) -> Named
+    ensures { λ r. ⌜ ((ns : List (Tok × ℕ)) → told (ltb number count) number ≡ findOf ns (aheadTok (now (text .entry)) c .word) → Goes (now (text .entry)) c (oldName ns) (r .cursor) (aheadTok (now (text .entry)) c, r .number)) ⌝ }
+{
+    let at = c.at;
+    let right = is_name(bytes_of(text, at, c.end));
+    let d = word(text, c);
+    let r = refuse_if(d, !right, 5, at);
+    let cursor = refuse_if(r, count <= number, 6, at);
+    Named { cursor, number }
 }
 
 // A name that one of `count` names is, and that one's number.
 pub fn old_name<'a>(text: &'a [u8], c: Cursor, places: &'a [usize], count: usize) -> Named
     ensures { λ r. ⌜ Goes (now (text .entry)) c (oldName (names (now (text .entry)) (now (places .entry)) count)) (r .cursor) (aheadTok (now (text .entry)) c, r .number) ⌝ }
 {
-    let at = c.at;
-    let w = bytes_of(text, at, c.end);
-    let right = is_name(w);
-    let number = find(text, w, places, count);
-    let d = word(text, c);
-    let r = refuse_if(d, !right, 5, at);
-    let cursor = refuse_if(r, count <= number, 6, at);
-    Named { cursor, number }
+    let number = find(text, bytes_of(text, c.at, c.end), places, count);
+    known_name(text, c, number, count)
 }
 
 // ---- numbers and times

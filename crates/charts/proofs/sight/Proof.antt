@@ -1,6 +1,6 @@
 -- `sight` meets its contract: the declarations are read into blank arrays, and the waveform is watched on the way.
 use mathlib.Core.Path.{refl}
-use Rattle.declared.proofs.Numbers.{blank-waves}
+use Rattle.declared.proofs.Numbers.{blank-chains, blank-waves}
 use Rattle.charts.proofs.Sighting.{sighted}
 use borrow.Author.Needs.{needs}
 use Rattle.charts.proofs.sight.Statement.{statement}
@@ -29,6 +29,7 @@ declarations-requires : tie.Need-declarations-requires
 declarations-requires c κs =
     record {
       sized = record { all = refl; rows = refl };
+      unchained = blank-chains;
       tables = refl;
       marks = refl;
       unset = blank-waves;

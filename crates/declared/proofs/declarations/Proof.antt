@@ -1,6 +1,6 @@
 -- `declarations` meets its contract: the parts one after the other, and the marks are over signals that have them.
 use borrow.Author.Needs.{needs}
-use Rattle.words.proofs.Flow.{then, given}
+use Rattle.words.proofs.Flow.{then, given, alive-before}
 use Rattle.declared.specs.Declarations.{declarations}
 use Rattle.declared.proofs.Below.{names-below}
 use Rattle.declared.proofs.declarations.Statement.{statement}
@@ -17,7 +17,7 @@ timing-requires c κs =
     let read = c .before .before .before .before .before .before .before .before .before in
     let names = read .front .ensures in
     let blank = read .before .before .before .before .before .before .before .before .before .before .pre in
-    ((blank .tables, blank .marks, names .sized), (blank .unset, names-below names))
+    ((blank .tables, blank .marks, names .sized), (blank .unset, λ on. (names-below names on, names .chained on)))
 
 same-length : tie.Need-same-length
 same-length c = search needs
@@ -44,6 +44,7 @@ returns c =
       held = λ h. tables .held h .held;
       watched = λ h. tables .held h .watched;
       sized = names .sized;
+      chained = λ h. names .chained (alive-before (tables .goes) h);
     }
 
 pub declarations-spec : {M : Type 1} → statement M

@@ -1,6 +1,6 @@
 -- `read_all` meets its contract: arrays of zeros are blank, and what reading them full promises is told.
 use mathlib.Core.Path.{refl, _∙_}
-use Rattle.declared.proofs.Numbers.{blank-waves, told-refused, told-read}
+use Rattle.declared.proofs.Numbers.{blank-chains, blank-waves, told-refused, told-read}
 use borrow.Author.Needs.{needs}
 use Rattle.declared.proofs.read_all.Statement.{statement}
 use Rattle.declared.proofs.read_all.Tie as tie
@@ -23,6 +23,7 @@ slice-aggregate-declarations-4 c = search needs
 declarations-requires : tie.Need-declarations-requires
 declarations-requires c κs = record {
   sized = record { all = refl; rows = refl };
+  unchained = blank-chains;
   tables = refl;
   marks = refl;
   unset = blank-waves;

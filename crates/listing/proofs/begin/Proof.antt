@@ -1,6 +1,6 @@
 -- `begin` meets its contract: a small page stays; arrays of zeros are blank; a text is refused as it is decided, or shown.
 use mathlib.Core.Path.{refl}
-use Rattle.declared.proofs.Numbers.{blank-waves}
+use Rattle.declared.proofs.Numbers.{blank-chains, blank-waves}
 use Rattle.verdicts.proofs.Found.{meaning-refused}
 use Rattle.listing.proofs.Beginning.{begins-refused, begins-small}
 use borrow.Author.Needs.{needs}
@@ -38,7 +38,7 @@ slice-aggregate-decide-8 : tie.Need-slice-aggregate-decide-8
 slice-aggregate-decide-8 c = search needs
 
 decide-requires : tie.Need-decide-requires
-decide-requires c κs = (record { sized = record { all = refl; rows = refl }; tables = refl; marks = refl; unset = blank-waves }, refl, refl, refl, refl)
+decide-requires c κs = (record { sized = record { all = refl; rows = refl }; unchained = blank-chains; tables = refl; marks = refl; unset = blank-waves }, refl, refl, refl, refl)
 
 refused-requires : tie.Need-refused-requires
 refused-requires c κs = c .before .before .before .before .before .before .before .before .before .before .before .before .before .before .before .before .before .before .before .before .before .if1 .left

@@ -1,6 +1,6 @@
 -- `rebuild` meets its contract: arrays of zeros are blank; a text is refused as it is decided, or its index is rebuilt.
 use mathlib.Core.Path.{refl}
-use Rattle.declared.proofs.Numbers.{blank-waves}
+use Rattle.declared.proofs.Numbers.{blank-chains, blank-waves}
 use Rattle.services.proofs.Indexing.{rebuild-refused}
 use borrow.Author.Needs.{needs}
 use Rattle.services.proofs.rebuild.Statement.{statement}
@@ -34,7 +34,7 @@ slice-aggregate-decide-8 : tie.Need-slice-aggregate-decide-8
 slice-aggregate-decide-8 c = search needs
 
 decide-requires : tie.Need-decide-requires
-decide-requires c κs = (record { sized = record { all = refl; rows = refl }; tables = refl; marks = refl; unset = blank-waves }, refl, refl, refl, refl)
+decide-requires c κs = (record { sized = record { all = refl; rows = refl }; unchained = blank-chains; tables = refl; marks = refl; unset = blank-waves }, refl, refl, refl, refl)
 
 unbuilt-requires : tie.Need-unbuilt-requires
 unbuilt-requires c κs = search needs

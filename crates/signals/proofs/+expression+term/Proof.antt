@@ -39,7 +39,7 @@ use Rattle.signals.proofs.sign.Reads as sign-reads
 use Rattle.signals.proofs.sign_ahead.Reads as sign-ahead-reads
 use Rattle.words.proofs.due.Reads as due-reads
 use Rattle.words.proofs.is.Reads as is-reads
-use Rattle.words.proofs.old_name.Reads as old-name-reads
+use Rattle.signals.proofs.old_name.Reads as old-name-reads
 use Rattle.words.proofs.refuse_if.Reads as refuse-if-reads
 use Rattle.signals.proofs.+expression+term.{statement}
 use Rattle.signals.proofs.+expression+term.Tie.{close}

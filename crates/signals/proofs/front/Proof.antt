@@ -31,20 +31,20 @@ groups-requires c κs =
       signals′ .ensures .sized,
       λ on.
           let h = gave numbered-signals (signals′ .ensures .goes) on in
-          (tidy-wider (h .few) (numbered-tidy h), omega (arith, h .few)),
+          (tidy-wider (h .few) (numbered-tidy h), omega (arith, h .few), signals′ .ensures .chained on),
     )
 
 same-length : tie.Need-same-length
 same-length c =
     let pre′ = c .before .before .before .before .before .before .before .before .before .before .before .before .before .before .before .before .before .before .before .before .before .before .pre in
     let groups′ = c .before .before .before .before .before .groups in
-    groups′ .ensures .sized .all ∙ sym (pre′ .all)
+    groups′ .ensures .sized .all ∙ sym (pre′ .0 .all)
 
 same-length-2 : tie.Need-same-length-2
 same-length-2 c =
     let pre′ = c .before .before .before .before .before .before .before .before .before .before .before .before .before .before .before .before .before .before .before .before .before .before .pre in
     let groups′ = c .before .before .before .before .before .groups in
-    groups′ .ensures .sized .rows ∙ sym (pre′ .rows)
+    groups′ .ensures .sized .rows ∙ sym (pre′ .0 .rows)
 
 returns : tie.Need-returns
 unfolding frontDue bytes
@@ -70,19 +70,20 @@ returns c =
           ap (λ (ns : Names). (ns, namesOf text places lists m))
           (sym (names-first text places lists m n ss (g .added) (g .same) (names-length text (signals′ .last .1 .1 .0) (signals′ .last .1 .1 .1 .0) n))))));
       sized = groups′ .ensures .sized;
+      chained = groups′ .ensures .chained;
     }
 
 same-length-3 : tie.Need-same-length-3
 same-length-3 c =
     let pre′ = c .before .before .before .before .before .before .before .before .before .before .before .before .before .before .pre in
     let signals′ = c .before .before .before .before .before .before .before .before .signals in
-    signals′ .ensures .sized .all ∙ sym (pre′ .all)
+    signals′ .ensures .sized .all ∙ sym (pre′ .0 .all)
 
 same-length-4 : tie.Need-same-length-4
 same-length-4 c =
     let pre′ = c .before .before .before .before .before .before .before .before .before .before .before .before .before .before .pre in
     let signals′ = c .before .before .before .before .before .before .before .before .signals in
-    signals′ .ensures .sized .rows ∙ sym (pre′ .rows)
+    signals′ .ensures .sized .rows ∙ sym (pre′ .0 .rows)
 
 returns-2 : tie.Need-returns-2
 unfolding frontDue bytes
@@ -92,6 +93,7 @@ returns-2 c =
     record {
       goes = then _ (signals′ .ensures .goes) (then _ (missing "SignalGroups" _ _ (is′ .ensures) (c .if1 .left)) given);
       sized = signals′ .ensures .sized;
+      chained = signals′ .ensures .chained;
     }
 
 pub front-spec : {M : Type 1} → statement M

@@ -80,14 +80,14 @@ same-length-2 c = search needs
 returns : tie.Need-returns
 returns c =
     let pre′ = c .before .before .before .before .before .before .before .before .before .before .before .before .before .before .before .before .before .before .before .before .before .before .before .pre in
-    record { goes = group-goes (declared (c .before)) (λ on. absurd (c .if1 .taken (eqb-true _ _ on))); sized = pre′ .0 .sized }
+    record { goes = group-goes (declared (c .before)) (λ on. absurd (c .if1 .taken (eqb-true _ _ on))); sized = pre′ .0 .sized; chained = λ on. absurd (c .if1 .taken (eqb-true _ _ on)) }
 
 add-requires : tie.Need-add-requires
 add-requires c κs =
     let pre′ = c .before .before .before .before .before .before .before .before .before .before .before .before .before .before .before .before .before .before .before .before .before .before .before .before .before .pre in
     let if1′ = c .before .before .if1 in
     let few = group-fits (declared (c .before .before .before)) (eq-eqb _ _ (if1′ .left)) in
-    (pre′ .0 .sized, omega (arith, pre′ .1))
+    (pre′ .0 .sized, pre′ .0 .chained, omega (arith, pre′ .1))
 
 same-length-3 : tie.Need-same-length-3
 same-length-3 c =
@@ -105,7 +105,7 @@ returns-2 : tie.Need-returns-2
 returns-2 c =
     let args′ = c .before .before .before .before .before .before .before .before .before .before .before .before .before .before .before .before .before .before .before .before .before .before .before .before .before .before .before .before .before .before .args in
     let add′ = c .before .before .before .before .add in
-    record { goes = group-goes (declared (c .before .before .before .before .before .before .before .before)) (λ on. add′ .ensures .names (args′ .text .now)); sized = add′ .ensures .sized }
+    record { goes = group-goes (declared (c .before .before .before .before .before .before .before .before)) (λ on. add′ .ensures .names); sized = add′ .ensures .sized; chained = λ on. add′ .ensures .chained }
 
 pub group-spec : {M : Type 1} → statement M
 group-spec =

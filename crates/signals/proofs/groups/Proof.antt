@@ -10,7 +10,7 @@ use Rattle.meaning.specs.Groups.{group as groupDue, groups as groupsDue, groups
 use Rattle.words.specs.Cursor.{alive}
 use Rattle.words.proofs.Flow.{then, alive-before}
 use Rattle.words.proofs.Loops.{Leads, begins, turned, over, less, on, room, ends}
-use Rattle.signals.specs.Names.{Sized, namesOf}
+use Rattle.signals.specs.Names.{Chained, Sized, namesOf}
 use Rattle.signals.proofs.Taking.{takes-group}
 use Rattle.signals.proofs.Tidy.{gave, Grown, ungrown, grown-group}
 use Rattle.signals.proofs.Tables.{names-length}
@@ -23,7 +23,7 @@ Inv-loop text places₀ lists₀ n cursor₀ count₀ t12 t13 places lists curso
     Leads text cursor₀ (while (λ ts. not (aheadOf t12 ts)) (groupDue n) (namesOf text places₀ lists₀ count₀)) cursor
     (while (λ ts. not (aheadOf t12 ts)) (groupDue n) (namesOf text places lists count))
     × Sized places lists
-    × (alive cursor ≡ true → Grown signalsMost n (namesOf text places₀ lists₀ count₀) (namesOf text places lists count) × (n ≤ signalsMost))
+    × (alive cursor ≡ true → Grown signalsMost n (namesOf text places₀ lists₀ count₀) (namesOf text places lists count) × (n ≤ signalsMost) × Chained text places count)
 
 abbrev μ-loop : tie.MeasureT-loop
 μ-loop text places₀ lists₀ n cursor₀ count₀ t12 t13 places lists cursor count = room text cursor
@@ -51,7 +51,7 @@ loop-holds c =
       pre′ .0,
       λ h.
           let p = pre′ .1 (alive-before (due′ .ensures) (alive-before (c .due2 .ensures) h)) in
-          (ungrown signalsMost (args′ .n) ns (p .0) (omega arith), p .1),
+          (ungrown signalsMost (args′ .n) ns (p .0) (omega arith), p .1, p .2),
     )
 
 slice-aggregate-until : tie.Need-slice-aggregate-until Inv-loop μ-loop
@@ -66,7 +66,7 @@ group-requires c κs =
     let until′ = c .before .before .before .until in
     let if1′ = c .before .before .if1 in
     let p = loop′ .inv .2 (on _ _ (until′ .ensures) (if1′ .taken)) in
-    (record { sized = loop′ .inv .1; tidy = p .0 .tidy }, p .1)
+    (record { sized = loop′ .inv .1; chained = p .2; tidy = p .0 .tidy }, p .1)
 
 add-count : tie.Need-add-count Inv-loop μ-loop
 add-count c =
@@ -94,7 +94,7 @@ loop-again c =
     let p = loop′ .inv .2 (on _ _ (until′ .ensures) (if1′ .taken)) in (
       turned _ _ (takes-group _) (loop′ .inv .0) (until′ .ensures) (if1′ .taken) (group′ .ensures .goes),
       group′ .ensures .sized,
-      λ h. (gave (grown-group signalsMost (args′ .n) _ _ (p .0)) (group′ .ensures .goes) h, p .1),
+      λ h. (gave (grown-group signalsMost (args′ .n) _ _ (p .0)) (group′ .ensures .goes) h, p .1, group′ .ensures .chained h),
     )
 
 slice-aggregate-due-3 : tie.Need-slice-aggregate-due-3 Inv-loop μ-loop
@@ -131,6 +131,7 @@ returns c =
           (then _ (due2′ .ensures)
           (ends "}" (groupDue (args′ .n)) _ (over _ _ (takes-group _) (loop′ .inv .0) (until′ .ensures) (if1′ .left)) (c .due3 .ensures))));
       sized = loop′ .inv .1;
+      chained = λ h. loop′ .inv .2 (alive-before (c .due3 .ensures) h) .2;
     }
 
 pub groups-spec : {M : Type 1} → statement M

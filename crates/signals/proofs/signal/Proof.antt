@@ -37,7 +37,8 @@ returns c =
     let pre′ = c .before .before .before .before .before .before .before .before .before .before .before .pre in
     record {
       goes = signal-goes (declared (c .before)) (args′ .lists .now) refl (λ on. absurd (c .if1 .taken (eqb-true _ _ on)));
-      sized = pre′;
+      sized = pre′ .0;
+      chained = λ on. absurd (c .if1 .taken (eqb-true _ _ on));
     }
 
 cast-single : tie.Need-cast-single
@@ -54,19 +55,19 @@ add-requires c κs =
     let pre′ = c .before .before .before .before .before .before .before .before .before .before .before .before .before .before .pre in
     let if1′ = c .before .before .before .if1 in
     let few = signal-fits (declared (c .before .before .before .before)) (eq-eqb _ _ (if1′ .left)) in
-    (pre′, omega arith)
+    (pre′ .0, pre′ .1, omega arith)
 
 same-length-2 : tie.Need-same-length-2
 same-length-2 c =
     let pre′ = c .before .before .before .before .before .before .before .before .before .before .before .before .before .before .before .before .before .before .before .pre in
     let add′ = c .before .before .before .before .add in
-    add′ .ensures .sized .all ∙ sym (pre′ .all)
+    add′ .ensures .sized .all ∙ sym (pre′ .0 .all)
 
 same-length-3 : tie.Need-same-length-3
 same-length-3 c =
     let pre′ = c .before .before .before .before .before .before .before .before .before .before .before .before .before .before .before .before .before .before .before .pre in
     let add′ = c .before .before .before .before .add in
-    add′ .ensures .sized .rows ∙ sym (pre′ .rows)
+    add′ .ensures .sized .rows ∙ sym (pre′ .0 .rows)
 
 returns-2 : tie.Need-returns-2
 returns-2 c =
@@ -76,8 +77,9 @@ returns-2 c =
     record {
       goes =
           signal-goes (declared (c .before .before .before .before .before .before .before .before .before)) (args′ .lists .now) (single′ .ensures)
-          (λ on. add′ .ensures .names (args′ .text .now));
+          (λ on. add′ .ensures .names);
       sized = add′ .ensures .sized;
+      chained = λ on. add′ .ensures .chained;
     }
 
 pub signal-spec : {M : Type 1} → statement M

@@ -8,9 +8,10 @@ use Rattle.meaning.specs.Reader.{while, aheadOf}
 use Rattle.meaning.specs.Signals.{signal as signalDue, signals as signalsDue, signalsUpTo}
 use Rattle.words.specs.Cursor.{alive}
 use Rattle.words.specs.Table.{named, namesFrom}
-use Rattle.words.proofs.Flow.{then}
+use Rattle.words.proofs.Flow.{then, alive-before}
 use Rattle.words.proofs.Loops.{Leads, begins, turned, over, less, on, room, ends}
-use Rattle.signals.specs.Names.{Sized, namesOf}
+use Rattle.signals.specs.Names.{Chained, Sized, namesOf}
+use Rattle.signals.proofs.Chains.{chained-none}
 use Rattle.signals.proofs.Taking.{takes-signal}
 use Rattle.signals.proofs.Tidy.{gave, Numbered, no-signal, numbered-signal}
 use Rattle.signals.proofs.Tables.{names-length}
@@ -24,6 +25,7 @@ Inv-loop text places₀ lists₀ cursor₀ count₀ t12 t13 places lists cursor 
     (while (λ ts. not (aheadOf t12 ts)) signalDue (namesOf text places lists count))
     × Sized places lists
     × (alive cursor ≡ true → Numbered (namesOf text places lists count))
+    × (alive cursor ≡ true → Chained text places count)
 
 abbrev μ-loop : tie.MeasureT-loop
 μ-loop text places₀ lists₀ cursor₀ count₀ t12 t13 places lists cursor count = room text cursor
@@ -43,13 +45,13 @@ due-requires-2 c κs = search needs
 signal-requires : tie.Need-signal-requires Inv-loop μ-loop
 signal-requires c κs =
     let pre′ = c .before .before .before .before .before .before .before .before .before .pre in
-    pre′
+    (pre′ .0, chained-none (pre′ .0 .all) (pre′ .1))
 
 loop-holds : tie.Need-loop-holds Inv-loop μ-loop
 unfolding named namesFrom
 loop-holds c =
     let signal′ = c .before .before .before .before .signal in
-    (begins, signal′ .ensures .sized, λ h. gave (numbered-signal [] no-signal) (signal′ .ensures .goes) h)
+    (begins, signal′ .ensures .sized, λ h. gave (numbered-signal [] no-signal) (signal′ .ensures .goes) h, signal′ .ensures .chained)
 
 slice-aggregate-until : tie.Need-slice-aggregate-until Inv-loop μ-loop
 slice-aggregate-until c = search needs
@@ -60,7 +62,9 @@ until-requires c κs = search needs
 signal-requires-2 : tie.Need-signal-requires-2 Inv-loop μ-loop
 signal-requires-2 c κs =
     let loop′ = c .before .before .before .before .before .loop in
-    loop′ .inv .1
+    let until′ = c .before .before .before .until in
+    let if1′ = c .before .before .if1 in
+    (loop′ .inv .1, loop′ .inv .3 (on _ _ (until′ .ensures) (if1′ .taken)))
 
 add-count : tie.Need-add-count Inv-loop μ-loop
 add-count c =
@@ -86,6 +90,7 @@ loop-again c =
       turned _ _ takes-signal (loop′ .inv .0) (until′ .ensures) (if1′ .taken) (signal2′ .ensures .goes),
       signal2′ .ensures .sized,
       λ h. gave (numbered-signal _ (loop′ .inv .2 (on _ _ (until′ .ensures) (if1′ .taken)))) (signal2′ .ensures .goes) h,
+      signal2′ .ensures .chained,
     )
 
 slice-aggregate-due-3 : tie.Need-slice-aggregate-due-3 Inv-loop μ-loop
@@ -98,13 +103,13 @@ same-length : tie.Need-same-length Inv-loop μ-loop
 same-length c =
     let pre′ = c .before .before .before .before .before .before .before .before .before .before .before .before .before .before .before .before .before .before .before .before .pre in
     let loop′ = c .before .before .before .before .before .loop in
-    loop′ .inv .1 .all ∙ sym (pre′ .all)
+    loop′ .inv .1 .all ∙ sym (pre′ .0 .all)
 
 same-length-2 : tie.Need-same-length-2 Inv-loop μ-loop
 same-length-2 c =
     let pre′ = c .before .before .before .before .before .before .before .before .before .before .before .before .before .before .before .before .before .before .before .before .pre in
     let loop′ = c .before .before .before .before .before .loop in
-    loop′ .inv .1 .rows ∙ sym (pre′ .rows)
+    loop′ .inv .1 .rows ∙ sym (pre′ .0 .rows)
 
 returns : tie.Need-returns Inv-loop μ-loop
 unfolding signalsUpTo named namesFrom bytes
@@ -122,6 +127,7 @@ returns c =
           (then _ (signal′ .ensures .goes)
           (ends "}" signalDue _ (over _ _ takes-signal (loop′ .inv .0) (until′ .ensures) (if1′ .left)) (c .due3 .ensures))));
       sized = loop′ .inv .1;
+      chained = λ h. loop′ .inv .3 (alive-before (c .due3 .ensures) h);
     }
 
 pub signals-spec : {M : Type 1} → statement M

@@ -1,7 +1,7 @@
 -- `decided` meets its contract: arrays of zeros are blank, and what is decided is told.
 use mathlib.Core.Path.{refl, ap, _∙_}
 use Rattle.meaning.specs.Meaning.{given}
-use Rattle.declared.proofs.Numbers.{blank-waves}
+use Rattle.declared.proofs.Numbers.{blank-chains, blank-waves}
 use Rattle.texts.specs.Texts.{countsOf}
 use Rattle.texts.proofs.Deciding.{counted, answered-given, answered-refused}
 use borrow.Author.Needs.{needs}
@@ -33,7 +33,7 @@ slice-aggregate-decide-8 : tie.Need-slice-aggregate-decide-8
 slice-aggregate-decide-8 c = search needs
 
 decide-requires : tie.Need-decide-requires
-decide-requires c κs = (record { sized = record { all = refl; rows = refl }; tables = refl; marks = refl; unset = blank-waves }, refl, refl, refl, refl)
+decide-requires c κs = (record { sized = record { all = refl; rows = refl }; unchained = blank-chains; tables = refl; marks = refl; unset = blank-waves }, refl, refl, refl, refl)
 
 returns : tie.Need-returns
 returns c =

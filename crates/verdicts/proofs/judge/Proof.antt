@@ -1,7 +1,7 @@
 -- `judge` meets its contract: arrays of zeros are blank; a text is refused as it is decided, or played.
 use mathlib.Core.Path.{refl}
 use borrow.Author.Needs.{needs}
-use Rattle.declared.proofs.Numbers.{blank-waves}
+use Rattle.declared.proofs.Numbers.{blank-chains, blank-waves}
 use Rattle.verdicts.proofs.Judging.{judged-refused}
 use Rattle.verdicts.proofs.judge.Statement.{statement}
 use Rattle.verdicts.proofs.judge.Tie as tie
@@ -31,7 +31,7 @@ slice-aggregate-decide-8 : tie.Need-slice-aggregate-decide-8
 slice-aggregate-decide-8 c = search needs
 
 decide-requires : tie.Need-decide-requires
-decide-requires c κs = (record { sized = record { all = refl; rows = refl }; tables = refl; marks = refl; unset = blank-waves }, refl, refl, refl, refl)
+decide-requires c κs = (record { sized = record { all = refl; rows = refl }; unchained = blank-chains; tables = refl; marks = refl; unset = blank-waves }, refl, refl, refl, refl)
 
 refused-requires : tie.Need-refused-requires
 refused-requires c κs = search needs

@@ -1,7 +1,7 @@
 -- `viewed` meets its contract: arrays of zeros are blank; a text is refused as it is decided, or its run is viewed.
 use mathlib.Core.Path.{refl}
 use borrow.Author.Needs.{needs}
-use Rattle.declared.proofs.Numbers.{blank-waves}
+use Rattle.declared.proofs.Numbers.{blank-chains, blank-waves}
 use Rattle.verdicts.proofs.Found.{meaning-refused}
 use Rattle.views.proofs.Viewing.{view-refused}
 use Rattle.views.proofs.viewed.Statement.{statement}
@@ -35,7 +35,7 @@ slice-aggregate-decide-8 : tie.Need-slice-aggregate-decide-8
 slice-aggregate-decide-8 c = search needs
 
 decide-requires : tie.Need-decide-requires
-decide-requires c κs = (record { sized = record { all = refl; rows = refl }; tables = refl; marks = refl; unset = blank-waves }, refl, refl, refl, refl)
+decide-requires c κs = (record { sized = record { all = refl; rows = refl }; unchained = blank-chains; tables = refl; marks = refl; unset = blank-waves }, refl, refl, refl, refl)
 
 returns : tie.Need-returns
 returns c =

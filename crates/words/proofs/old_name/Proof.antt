@@ -1,46 +1,20 @@
--- `old_name` meets its contract: a name, and then what is found for it. Both are looked at before the step, which needs neither.
-use mathlib.Core.Path.{refl}
+-- `old_name` meets its contract: what is found for the word ahead, and then the name.
 use borrow.Author.Needs.{needs}
-use Rattle.meaning.specs.Names.{name, oldName}
-use Rattle.words.proofs.Flow.{then, checked, given}
-use Rattle.words.proofs.Tables.{known-by}
 use Rattle.words.proofs.old_name.Statement.{statement}
 use Rattle.words.proofs.old_name.Tie as tie
 
 bytes-of-requires : tie.Need-bytes-of-requires
 bytes-of-requires c κs = search needs
 
-is-name-requires : tie.Need-is-name-requires
-is-name-requires c κs = search needs
-
 find-requires : tie.Need-find-requires
 find-requires c κs = search needs
 
-word-requires : tie.Need-word-requires
-word-requires c κs = search needs
-
-refuse-if-requires : tie.Need-refuse-if-requires
-refuse-if-requires c κs = search needs
-
-refuse-if-requires-2 : tie.Need-refuse-if-requires-2
-refuse-if-requires-2 c κs = search needs
+known-name-requires : tie.Need-known-name-requires
+known-name-requires c κs = search needs
 
 returns : tie.Need-returns
-unfolding oldName name
-returns c =
-    let count = c .before .before .before .before .before .before .before .before .args .count in
-    then _
-    (then _ (c .before .before .word .ensures) (then _ (checked (c .before .refuse-if .ensures) (cc) refl) given))
-    (then _ (known-by count (c .refuse-if2 .ensures) (cc) refl) given)
+returns c = c .known-name .ensures _ (cc)
 
 pub old-name-spec : {M : Type 1} → statement M
 old-name-spec =
-    tie.close
-    (tie.spec
-    bytes-of-requires
-    is-name-requires
-    find-requires
-    word-requires
-    refuse-if-requires
-    refuse-if-requires-2
-    returns)
+    tie.close (tie.spec bytes-of-requires find-requires known-name-requires returns)
