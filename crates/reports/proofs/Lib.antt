@@ -1,0 +1,4 @@
+pub mod Laws
+pub mod Passing
+pub mod Whole
+mod Samples
