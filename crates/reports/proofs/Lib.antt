@@ -1,0 +1,5 @@
+pub mod Laws
+pub mod Passing
+pub mod Whole
+pub mod Answers
+mod Samples
