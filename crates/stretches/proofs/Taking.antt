@@ -12,7 +12,7 @@ use Rattle.pages.specs.Pages.{Puts}
 use Rattle.pages.proofs.Laws.{puts-length}
 use Rattle.folded.specs.Pieces.{Piece, laid}
 use Rattle.folded.specs.Flat.{Row, sameRow, loses}
-use Rattle.folded.specs.Walk.{opened, closed, flushed, rest, begun}
+use Rattle.folded.specs.Walk.{opened, closed, flushed, rest, walked, begun, begunAll}
 use Rattle.folded.proofs.Stretches.{row-is}
 use Rattle.pens.specs.Pens.{Writes}
 use Rattle.pens.specs.declared.Pen.{Pen}
@@ -202,7 +202,28 @@ module _ (signals tables : List (List ℕ)) where
       few-patterns = omega (arith, a .few-patterns);
     }
 
-  -- ---- a Pattern's end
+  -- some rows, and then others
+  pub takes-none : (n : ℕ) (entry : List ℕ) (f : Folding) (hand : List ℕ) → Takes signals tables n entry f hand [] entry f hand
+  takes-none n entry f hand = amid-none (amid-all n entry f hand []) refl (omega arith)
+
+  pub takes-both : {n : ℕ} {entry mid exit hand hand₁ hand₂ : List ℕ} {f g r : Folding} {ys zs : List Row}
+      → Takes signals tables n entry f hand ys mid g hand₁ → Takes signals tables n mid g hand₁ zs exit r hand₂ → Takes signals tables n entry f hand (ys ++ zs) exit r hand₂
+  takes-both {n = n} {hand = hand} {f = f} {ys = ys} {zs = zs} s t = record {
+    kept = t .kept ∙ s .kept;
+    hand-kept = t .hand-kept ∙ s .hand-kept;
+    on = λ more behind. onward-both (onward-from (ap (λ (l : List Row). leftBy signals tables f (rowIn n hand) l behind) (append-assoc ys zs more)) refl (s .on (zs ++ more) behind)) (t .on more behind);
+    counts = λ more. ap (λ (l : List Row). f .pattern + begins (rowIn n hand) (f .times) l) (append-assoc ys zs more) ∙ s .counts (zs ++ more) ∙ t .counts more;
+    few-times = omega (arith, s .few-times, t .few-times, length-append ys zs);
+    few-patterns = omega (arith, s .few-patterns, t .few-patterns, length-append ys zs);
+  }
+
+  -- ---- a Pattern's beginning and end
+
+  -- a listed pattern, before its first row
+  pub walked-ahead : (i : ℕ) (x : Row) (l : List Row) (behind : ℕ → List Piece) → walked signals tables i l behind ≡ opened i (ahead signals tables i none x 0 l behind)
+  unfolding walked ahead
+  walked-ahead i x [] behind = refl
+  walked-ahead i x (y ∷ ys) behind = refl
 
   -- no row came
   pub ends-empty : {n : ℕ} {entry exit hand : List ℕ} {f : Folding} {r : Pen} → f .times ≡ 0 → Writes entry (f .pen) (125 ∷ 10 ∷ []) exit r → Ends signals tables n entry f hand exit r
@@ -223,3 +244,21 @@ module _ (signals tables : List (List ℕ)) where
         (ap laid (ahead-some (f .pattern) (told (f .chosen) (f .table)) (rowIn n hand) (f .times) [] behind h) ∙ own-flush signals tables (told (f .chosen) (f .table)) (rowIn n hand) (f .times) _))
         v (own-closed (behind (suc (f .pattern))));
   }
+
+-- ---- how many Patterns begin
+
+pub begins-none : (x : Row) (c : ℕ) → begins x c [] ≡ 0
+unfolding begins begun
+begins-none x zero = refl
+begins-none x (suc c) = refl
+
+-- of one listed pattern, and of those behind it
+pub begins-one : (x : Row) (l : List Row) → begunAll (l ∷ []) ≡ suc (begins x 0 l)
+unfolding begins begunAll
+begins-one x [] = refl
+begins-one x (y ∷ ys) = omega arith
+
+pub begins-all : (l : List Row) (ls : List (List Row)) → begunAll (l ∷ ls) ≡ begunAll (l ∷ []) + begunAll ls
+unfolding begunAll
+begins-all [] ls = omega arith
+begins-all (x ∷ xs) ls = omega arith

@@ -1,0 +1,3 @@
+mod Showing
+mod Parting
+mod Running
