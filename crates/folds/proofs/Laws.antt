@@ -67,14 +67,14 @@ writes-nothing page pen = record { kept = refl; on = λ before front h. subst (�
 
 -- pieces one behind the other, where each thing's are its own and then those behind
 module _ {X : Type 0} (put : X → List Piece → List Piece) (own : (x : X) (k : List Piece) → laid (put x k) ≡ laid (put x []) ++ laid k) where
-  laid-behind : (xs : List X) (k : List Piece) → laid (each put xs k) ≡ laid (each put xs []) ++ laid k
+  pub laid-behind : (xs : List X) (k : List Piece) → laid (each put xs k) ≡ laid (each put xs []) ++ laid k
   unfolding each laid
   laid-behind [] k = refl
   laid-behind (x ∷ xs) k =
       own x (each put xs k) ∙ ap (λ (l : List ℕ). laid (put x []) ++ l) (laid-behind xs k)
       ∙ sym (append-assoc (laid (put x [])) (laid (each put xs [])) (laid k)) ∙ ap (λ (l : List ℕ). l ++ laid k) (sym (own x (each put xs [])))
 
-  laid-more : (xs : List X) (x : X) → laid (each put (xs ++ x ∷ []) []) ≡ laid (each put xs []) ++ laid (put x [])
+  pub laid-more : (xs : List X) (x : X) → laid (each put (xs ++ x ∷ []) []) ≡ laid (each put xs []) ++ laid (put x [])
   unfolding each laid
   laid-more [] x = refl
   laid-more (y ∷ xs) x =
