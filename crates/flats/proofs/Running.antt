@@ -44,7 +44,7 @@ cycles-listed : (n : ℕ) (b r : Body) → cyclesOf n (inner (entered byList 0 [
 unfolding cyclesOf alone play playing entering follow shiftOf
 cycles-listed n b r = ap (λ (l : List Cycle). l ++ play 0 r (start n) .1) (sym (append-nil (entering byList [] (play 0 b) (start n) .1)))
 
-first-is : {ps : Decls} {t : Tok} {l : List Tok} {run : Body} → runOf ps (t ∷ l) ≡ given run → (f : First ps t l run) → run ≡ inner (entered byList 0 []) (f .decl .body) (f .rest)
+pub first-is : {ps : Decls} {t : Tok} {l : List Tok} {run : Body} → runOf ps (t ∷ l) ≡ given run → (f : First ps t l run) → run ≡ inner (entered byList 0 []) (f .decl .body) (f .rest)
 unfolding runOf answering
 first-is {ps} {t} {l} {run} e f =
     let made : runOf ps (t ∷ l) ≡ given (inner (entered byList 0 []) (f .decl .body) (f .rest)) = rw (f .found, f .rest-is, runOf) in

@@ -6,14 +6,16 @@ use mathlib.Core.List.{List, [], _∷_}
 use lib.ListN.{length}
 use Rattle.meaning.specs.Bounds.{signalsMost}
 use Rattle.meaning.specs.Run.{size, cycles, cyclesOf}
-use Rattle.meaning.specs.Meaning.{given, Meaning, meaning}
+use Rattle.meaning.specs.Meaning.{given, Meaning, meaning, firsts}
+use Rattle.words.specs.Table.{names}
 use Rattle.meaning.specs.Document.{Read}
 use Rattle.walks.specs.Seen.{seen}
 use Rattle.texts.specs.declared.Parts.{Parts as Read′}
 use Rattle.plays.specs.Plays.{Ground}
 use Rattle.plays.specs.Run.{Runs}
-use Rattle.folded.specs.Pieces.{Piece, laid}
-use Rattle.folded.specs.Flat.{Row, rowsOf, listedRows}
+use Rattle.folded.specs.Pieces.{Piece, laid, each}
+use Rattle.folded.specs.Flat.{Row, rowsOf, listedRows, linesOf, patternsOf}
+use Rattle.folded.specs.Layout.{patternPut, namedFrom, orOne}
 use Rattle.folded.specs.Walk.{walked, walkedAll, begunAll}
 use Rattle.folded.specs.Fold.{foldedMost}
 use Rattle.pens.specs.Pens.{Writes}
@@ -31,6 +33,12 @@ pub record Meant (g : Ground) (list : List ℕ) (listed patterns sized : ℕ) (m
   pub meant : meaning (g .text) ≡ given m
   pub size-is : size (m .run) ≡ sized
   pub few : cycles 0 (m .run) ≤ foldedMost
+  pub signals-are : m .signals ≡ firsts (names (g .text) (g .places) (g .signals))
+  pub tables-are : firsts (m .tables) ≡ firsts (names (g .text) (g .tplaces) (g .known .tables))
+
+pub record SomeMeant (g : Ground) (list : List ℕ) (listed patterns sized : ℕ) : Type 0 where
+  pub it : Meaning
+  pub is-meant : Meant g list listed patterns sized it
 
 -- the names of its signals and tables
 abbrev pub signalsIn : Ground → List (List ℕ)
@@ -83,3 +91,8 @@ pub record Run (g : Ground) (list : List ℕ) (listed patterns sized : ℕ) (han
 pub record Patterned (g : Ground) (list : List ℕ) (listed patterns sized : ℕ) (entry exit : List ℕ) (r : Part) : Type 0 where
   pub written : (m : Meaning) → Meant g list listed patterns sized m → Writes entry (record { at = 0; full = false }) (laid (walkedAll (signalsIn g) (tablesIn g) 0 (listedRows (g .signals) (m .run)) [])) exit (r .pen)
   pub counts : (m : Meaning) → Meant g list listed patterns sized m → r .pattern ≡ begunAll (listedRows (g .signals) (m .run))
+
+-- with the one that is written where none is listed
+pub record Bodied (g : Ground) (list : List ℕ) (listed patterns sized : ℕ) (entry exit : List ℕ) (r : Part) : Type 0 where
+  pub written : (m : Meaning) → Meant g list listed patterns sized m → Writes entry (record { at = 0; full = false }) (laid (each (patternPut (signalsIn g) (tablesIn g)) (namedFrom 0 (orOne (linesOf (patternsOf m)))) [])) exit (r .pen)
+  pub counts : (m : Meaning) → Meant g list listed patterns sized m → r .pattern ≡ length (patternsOf m)
