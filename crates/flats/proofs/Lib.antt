@@ -3,4 +3,5 @@ mod Parting
 mod Running
 mod Whole
 mod Pages
-pub mod Folding
+mod Folding
+pub mod Theorems

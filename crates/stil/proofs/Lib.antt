@@ -10,3 +10,4 @@ pub mod Indexing
 mod Mending
 pub mod Chained
 pub mod Theorems
+mod Flattening

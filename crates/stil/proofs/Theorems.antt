@@ -23,6 +23,8 @@ use Rattle.stil.specs.Waveforms.{Shapes}
 use Rattle.stil.specs.Charts.{chartedOf, Plots, Sketches}
 use Rattle.index.specs.Index.{Rebuilt as Bytes}
 use Rattle.stil.specs.Indexes.{indexedOf, belongingOf, holdingOf, Indexes, Writes}
+use Rattle.folded.specs.Fold.{Folded as FoldedBytes}
+use Rattle.stil.specs.Folds.{Flattens}
 use Rattle.saving.specs.Saving.{Restored}
 use Rattle.stil.specs.Saves.{savedOf, Saves, Restores}
 use Rattle.stil.specs.declared.Saved.{Saved}
@@ -215,6 +217,9 @@ pub restores-determined : {a : Answer Restored} {text t u spans b c numbers n m 
     → Restores a text t spans b numbers r n → Restores a text u spans c numbers s m → ((r ≡ s) × (n ≡ m)) × (t ≡ u) × (b ≡ c)
 restores-determined h j = (hands-determined (h .counted) (j .counted), h .text-is ∙ sym (j .text-is), h .spans-are ∙ sym (j .spans-are))
 
+pub flattens-determined : {a : Answer FoldedBytes} {folded x y numbers n m : List ℕ} {r s : ℕ} → Flattens a folded x numbers r n → Flattens a folded y numbers s m → ((r ≡ s) × (n ≡ m)) × (x ≡ y)
+flattens-determined h j = (hands-determined (h .counted) (j .counted), h .folded-is ∙ sym (j .folded-is))
+
 -- ---- a refused call leaves every buffer as it was
 
 pub save-untouched : {a : Answer Restored} {text t spans b : List ℕ} {n p : ℕ} → Saves a text t spans b (SaveRefused n p) → (t ≡ text) × (b ≡ spans)
@@ -282,3 +287,6 @@ pub restores-untouched : {a : Answer Restored} {text t spans b numbers n : List 
 restores-untouched {a} {text} {t} {spans} {b} {numbers} h z =
     let off = not-given (withRoom 1 numbers a) in
     (hands-untouched (h .counted) z, h .text-is ∙ off _ text (λ e. z (h .counted .number ∙ e)), h .spans-are ∙ off _ spans (λ e. z (h .counted .number ∙ e)))
+
+pub flattens-untouched : {a : Answer FoldedBytes} {folded x numbers n : List ℕ} {r : ℕ} → Flattens a folded x numbers r n → (r ≡ 0 → ⊥) → (n ≡ numbers) × (x ≡ folded)
+flattens-untouched {a} {folded} {x} {numbers} h z = (hands-untouched (h .counted) z, h .folded-is ∙ not-given (withRoom 1 numbers a) _ folded (λ e. z (h .counted .number ∙ e)))

@@ -1,5 +1,5 @@
 // The services: Check, Name, Window, Waveform, waveforms by the list, the index and the saving of hurt texts, for any text, any numbers and any buffers; and
-// these, the next token, the line of a place and the intake for callers in C.
+// these, folding (`flats`), the next token, the line of a place and the intake for callers in C.
 ghost use mathlib.Core.Path.{_≡_};
 ghost use mathlib.Core.List.{_∷_, []};
 ghost use mathlib.Core.Bool.{true, false, not};
@@ -19,6 +19,7 @@ ghost use Rattle.texts.specs.Tables.{Found};
 ghost use Rattle.texts.specs.Told.{packedRefusal};
 ghost use Rattle.index.specs.Index.{index as indexOf, belongs as belongsTo, holds as holdsIn};
 ghost use Rattle.index.specs.Lines.{indexMost};
+ghost use Rattle.folded.specs.Fold.{fold as foldOf};
 ghost use Rattle.saving.specs.Saving.{Saved as SavedText, saving, save as saveOf};
 ghost use Rattle.saving.specs.Spans.{notedAll};
 ghost use Rattle.saving.specs.Mends.{Turns, Mends};
@@ -32,6 +33,7 @@ ghost use Rattle.stil.specs.Interface.{Hands, packed, fronted, fiveOf, t
 ghost use Rattle.stil.specs.Intakes.{stateLeast, byteOf, progressIs, Tells, Carries, rawRefusal};
 ghost use Rattle.stil.specs.Indexes.{Rebuilds, belongingOf, holdingOf, Indexes, Writes, holderTwo};
 ghost use Rattle.stil.specs.Saves.{SomeCopy, Saves, Restores};
+ghost use Rattle.stil.specs.Folds.{Flattens};
 use index::Held;
 use intake::Intake;
 use intake::Progress;
@@ -943,6 +945,20 @@ pub extern "C" fn lutemeteor_save(text: &mut [u8], spans: &mut [u64], numbers: &
         Saved::Refused(n, p) => pack(n, p),
         Saved::Spans(count) => {
             numbers[0] = count as u64;
+            0
+        }
+    }
+}
+
+// A text folded flat: its bytes, and its length. A buffer without room for its part is 19.
+#[no_mangle]
+pub extern "C" fn lutemeteor_fold(text: &[u8], folded: &mut [u8], numbers: &mut [u64]) -> u64
+    ensures { λ r. ⌜ Flattens (foldOf (now (text .entry)) (now (folded .entry))) (now (folded .entry)) (now (folded .exit)) (now (numbers .entry)) r (now (numbers .exit)) ⌝ }
+{
+    match flats::fold_text(text, 1 <= numbers.len(), folded) {
+        flats::Folded::Refused(n, p) => pack(n, p),
+        flats::Folded::Text(length) => {
+            numbers[0] = length as u64;
             0
         }
     }
