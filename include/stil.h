@@ -9,17 +9,17 @@
  *
  *   0           The call has its answer, which stands at the front of the buffers that were lent. What stands
  *               behind it there is left as it was.
- *   any other   The call is refused, and all buffers are as they were (but see lutemeteor_waveforms). answer % 32 is the refusal's number, 1 to 19, or 21;
+ *   any other   The call is refused, and all buffers are as they were (but see lutemeteor_waveforms). answer % 32 is the refusal's number, 1 to 19, or 21 to 23;
  *               answer / 32 is its place, a byte of the text counted from 0, or the text's length for its end.
  *
  * The intake, at the end of this file, is for a text that arrives in blocks: its state stands between the calls in
  * numbers of the caller's, also where it is refused. It has a refusal of its own, 20.
  *
  * Where several refusals fit, the first of these is given: 1, 2, 3; then, of 4 to 14, the one that stands first in
- * the text; then 15, 16, 17, 18, 21, 19. A text that lutemeteor_check accepts is refused by lutemeteor_name and
+ * the text; then 15, 16, 17, 18, 21, 23, 22, 19. A text that lutemeteor_check accepts is refused by lutemeteor_name and
  * lutemeteor_waveform for 18 or 19 only, by lutemeteor_waveforms for 8 too, and by lutemeteor_window for 19,
  * or for 12 at 0 before that: its mark is none; by lutemeteor_index for 19 only, by lutemeteor_belongs for 21 only, and by
- * lutemeteor_holds for 21 or 19. lutemeteor_save never refuses it but for 19, and many others neither.
+ * lutemeteor_holds for 21 or 19, and by lutemeteor_fold for 23, 22 or 19. lutemeteor_save never refuses it but for 19, and many others neither.
  *
  * Pointers   Behind each pointer stands how many bytes or numbers are there; for a buffer, how many it has room
  *            for. All of them must be there during the call, numbers must be aligned as uint64_t is, and no buffer
@@ -29,7 +29,8 @@
  *            number of threads may call it at once, also with one text, each with buffers of its own.
  * Stack      A call keeps its tables on the stack, 1,230,000 bytes and more. The deepest text that was measured (8 bodies in
  *            each other) took 1,530,000, its caller with it. That is a measurement and no bound: have 2 MiB.
- *            lutemeteor_save keeps a copy of the text besides, 65,536 bytes.
+ *            lutemeteor_save keeps a copy of the text besides, 65,536 bytes; lutemeteor_fold two pages of as many, a window of
+ *            262,144 bytes and the places of a table's waveforms, 524,288: have 3 MiB for it.
  *            lutemeteor_token and lutemeteor_line take less than 1,000 bytes.
  */
 #ifndef LUTEMETEOR_STIL_H
@@ -85,7 +86,9 @@ enum {
     LUTEMETEOR_NO_ROOM = 19,         /* a buffer is too short for what is due; 0 */
     LUTEMETEOR_NO_STORE = 20,        /* of the intake: the store lacks room; the raw byte that adds to it, or the raw
                                         length */
-    LUTEMETEOR_NOT_THE_INDEX = 21    /* an index is not what a rebuild of it writes; 0 */
+    LUTEMETEOR_NOT_THE_INDEX = 21,   /* an index is not what a rebuild of it writes; 0 */
+    LUTEMETEOR_MANY_PATTERNS = 22,   /* the folded text would have more than 16 Patterns; 0 */
+    LUTEMETEOR_MANY_CYCLES = 23      /* the run has more than 1,000,000 cycles, which are not folded; 0 */
 };
 
 /* Of an answer that is not 0: the refusal's number, and its place. */
@@ -230,6 +233,21 @@ uint64_t lutemeteor_holds(const uint8_t *text, size_t length, const uint8_t *ind
  * Else 19, at place 0, where `spans_room` is less than two numbers for each span, or `room` is 0.
  */
 uint64_t lutemeteor_save(uint8_t *text, size_t length, uint64_t *spans, size_t spans_room, uint64_t *numbers,
+                         size_t room);
+
+/*
+ * Fold: the text rewritten flat, without macros, procedures and groups: the same signals and tables in the same order, with
+ * all their waveforms, and Patterns of V's that give every pin with a value, and of Loops around one V for stretches of
+ * equal rows. lutemeteor_check accepts it, and lutemeteor_window and lutemeteor_waveform answer of it as they do of the text
+ * (but for the visits). Folding it again gives the same bytes. docs/FOLDED.md has its layout.
+ *
+ *   folded       the folded text; 65,536 bytes are always enough
+ *   numbers[0]   its length
+ *
+ * Refused 1 to 17; then, at place 0, 23 above 1,000,000 cycles, 22 for more than 16 Patterns, and 19 where the folded text is
+ * longer than 65,536 bytes or than `folded_room`, or where `room` is 0.
+ */
+uint64_t lutemeteor_fold(const uint8_t *text, size_t length, uint8_t *folded, size_t folded_room, uint64_t *numbers,
                          size_t room);
 
 /*

@@ -23,7 +23,6 @@ use Rattle.folded.specs.Layout.{signalPut, signalsPut, patternName, burstName, 
 use Rattle.pens.specs.Pens.{Holds, Writes}
 use Rattle.pens.proofs.Laws.{writes-both, writes-same}
 use Rattle.pens.specs.declared.Pen.{Pen}
-use Rattle.folds.specs.Folds.{Ends}
 
 -- ---- directions
 
@@ -40,17 +39,14 @@ first-of text c = by (ltb (c .at) (c .end)) refl
     by true e = refl
     by false e = sym (no-span text (c .at) (c .end) (ltb-false (c .at) (c .end) e))
 
-module _ (text places : List ℕ) (i : ℕ) (h : Ends text places i) where
-  name-end : nameOf text places i .at + length (nameOf text places i .word) ≡ getD places (i * 2 + 1) 0
-  name-end =
-      let at = getD places (i * 2) 0 in
-      let end = getD places (i * 2 + 1) 0 in
-      let l = length-take-le (end - at) (drop at text) (omega (arith, length-drop at text, h .forth, h .within)) in
-      omega (arith, h .forth)
+-- a name lies in the text, or is empty
+pub name-long : (text : List ℕ) (at end : ℕ) {w : List ℕ} → w ≡ span text at end → length w ≤ length text - at
+name-long text at end e = omega (arith, ap length e, length-take (end - at) (drop at text), length-drop at text)
 
-  pub direction-is : {c : Cursor} {r : List ℕ} {at : ℕ} → at ≡ getD places (i * 2 + 1) 0 → Stands text at c → r ≡ span text (c .at) (c .end) → r ≡ direction text (nameOf text places i)
-  unfolding direction
-  direction-is {c} e s q = q ∙ sym (first-of text c) ∙ ap firstWord (s .there) ∙ ap (λ (k : ℕ). firstWord (toks text k)) (e ∙ sym name-end)
+pub direction-is : (text places : List ℕ) (i : ℕ) {c : Cursor} {r w : List ℕ} {at : ℕ} → w ≡ nameOf text places i .word → at ≡ getD places (i * 2) 0 → Stands text (at + length w) c
+    → r ≡ span text (c .at) (c .end) → r ≡ direction text (nameOf text places i)
+unfolding direction
+direction-is text places i {c} e f s q = q ∙ sym (first-of text c) ∙ ap firstWord (s .there) ∙ ap₂ (λ (a : ℕ) (w : List ℕ). firstWord (toks text (a + length w))) f e
 
 -- ---- NAME DIRECTION;
 
@@ -67,14 +63,14 @@ writes-nothing page pen = record { kept = refl; on = λ before front h. subst (�
 
 -- pieces one behind the other, where each thing's are its own and then those behind
 module _ {X : Type 0} (put : X → List Piece → List Piece) (own : (x : X) (k : List Piece) → laid (put x k) ≡ laid (put x []) ++ laid k) where
-  laid-behind : (xs : List X) (k : List Piece) → laid (each put xs k) ≡ laid (each put xs []) ++ laid k
+  pub laid-behind : (xs : List X) (k : List Piece) → laid (each put xs k) ≡ laid (each put xs []) ++ laid k
   unfolding each laid
   laid-behind [] k = refl
   laid-behind (x ∷ xs) k =
       own x (each put xs k) ∙ ap (λ (l : List ℕ). laid (put x []) ++ l) (laid-behind xs k)
       ∙ sym (append-assoc (laid (put x [])) (laid (each put xs [])) (laid k)) ∙ ap (λ (l : List ℕ). l ++ laid k) (sym (own x (each put xs [])))
 
-  laid-more : (xs : List X) (x : X) → laid (each put (xs ++ x ∷ []) []) ≡ laid (each put xs []) ++ laid (put x [])
+  pub laid-more : (xs : List X) (x : X) → laid (each put (xs ++ x ∷ []) []) ≡ laid (each put xs []) ++ laid (put x [])
   unfolding each laid
   laid-more [] x = refl
   laid-more (y ∷ xs) x =

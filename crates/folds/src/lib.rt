@@ -1,27 +1,29 @@
 // A text folded flat, part by part into a page.
 ghost use mathlib.Core.Path.{_≡_};
 ghost use mathlib.Core.List.{[]};
+ghost use Prim.Native.Nat.{_≤_, _<_};
+ghost use Rattle.meaning.specs.Bounds.{signalsMost};
 ghost use Rattle.meaning.specs.Meaning.{firsts};
 ghost use Rattle.words.specs.Table.{nameOf, names};
 ghost use Rattle.folded.specs.Pieces.{laid};
 ghost use Rattle.folded.specs.Flat.{direction as directionOf, directed};
 ghost use Rattle.folded.specs.Layout.{signalPut, signalsPut, patternName, namesFrom, listedPut, burstPut, execPut};
 ghost use Rattle.pens.specs.Pens.{Writes};
-ghost use Rattle.folds.specs.Folds.{Ends, AllEnd};
 use pens::Pen;
 
 // A signal's direction: the word behind the name of number i.
 fn direction<'a>(text: &'a [u8], places: &'a [usize], i: usize) -> &'a [u8]
-    requires { ⌜ Ends (now text) (now places) i ⌝ }
+    requires { ⌜ i < signalsMost ⌝ }
     ensures { λ r. ⌜ now r ≡ directionOf (now (text .entry)) (nameOf (now (text .entry)) (now (places .entry)) i) ⌝ }
 {
-    let c = words::cursor_at(text, words::number_at(places, i * 2 + 1));
+    let name = words::name_bytes(text, places, i);
+    let c = words::cursor_at(text, words::number_at(places, i * 2) + name.len());
     words::bytes_of(text, c.at, c.end)
 }
 
 // NAME DIRECTION;
 fn signal<'a>(page: &mut [u8], pen: Pen, text: &'a [u8], places: &'a [usize], i: usize) -> Pen
-    requires { ⌜ Ends (now text) (now places) i ⌝ }
+    requires { ⌜ i < signalsMost ⌝ }
     ensures { λ r. ⌜ Writes (now (page .entry)) pen (laid (signalPut (nameOf (now (text .entry)) (now (places .entry)) i .word, directionOf (now (text .entry)) (nameOf (now (text .entry)) (now (places .entry)) i)) [])) (now (page .exit)) r ⌝ }
 {
     let p = pens::add(page, pen, words::name_bytes(text, places, i));
@@ -38,7 +40,7 @@ pub fn signals<'a>(
     places: &'a [usize],
     count: usize,
 ) -> Pen
-    requires { ⌜ AllEnd (now text) (now places) count ⌝ }
+    requires { ⌜ count ≤ signalsMost ⌝ }
     ensures { λ r. ⌜ Writes (now (page .entry)) pen (laid (signalsPut (directed (now (text .entry)) (firsts (names (now (text .entry)) (now (places .entry)) count))) [])) (now (page .exit)) r ⌝ }
 {
     let mut p = pens::add(page, pen, b"Signals{");

@@ -29,9 +29,9 @@ struct Keyword {
 }
 
 // A listed pattern's number among the patterns, and its cycles.
-struct Share {
-    number: usize,
-    cycles: usize,
+pub struct Share {
+    pub number: usize,
+    pub cycles: usize,
 }
 
 // The number in the list of the pattern that holds a cycle, if there is one (`held`).
@@ -81,7 +81,7 @@ fn keywords<'a>(text: &'a [u8], names: &'a [usize], patterns: usize, keys: &mut 
 // ---- the listed patterns
 
 // The listed pattern of number k.
-fn listed_at<'a>(
+pub fn listed_at<'a>(
     text: &'a [u8],
     book: &'a [usize],
     list: &'a [usize],

@@ -6,3 +6,4 @@ mod Writing
 mod Restoring
 pub mod Chained
 pub mod Theorems
+mod Flattening

@@ -6,6 +6,8 @@ use Rattle.meaning.specs.Meaning.{Answer, given, refused}
 use Rattle.meaning.specs.Services.{Window, Waveform}
 use Rattle.meaning.specs.Charts.{Chart}
 use Rattle.index.specs.Index.{Rebuilt as Bytes}
+use Rattle.folded.specs.Fold.{Folded as FoldedBytes}
+use Rattle.stil.specs.Folds.{Flattens}
 use Rattle.saving.specs.Saving.{Restored}
 use Rattle.verdicts.specs.Buffers.{afterwards}
 use Rattle.stil.specs.Interface.{withRoom, packed, Hands, Opens, Draws}
@@ -41,6 +43,9 @@ pub restores-determined : {a : Answer Restored} {text t u spans b c numbers n m 
     → Restores a text t spans b numbers r n → Restores a text u spans c numbers s m → ((r ≡ s) × (n ≡ m)) × (t ≡ u) × (b ≡ c)
 restores-determined h j = (hands-determined (h .counted) (j .counted), h .text-is ∙ sym (j .text-is), h .spans-are ∙ sym (j .spans-are))
 
+pub flattens-determined : {a : Answer FoldedBytes} {folded x y numbers n m : List ℕ} {r s : ℕ} → Flattens a folded x numbers r n → Flattens a folded y numbers s m → ((r ≡ s) × (n ≡ m)) × (x ≡ y)
+flattens-determined h j = (hands-determined (h .counted) (j .counted), h .folded-is ∙ sym (j .folded-is))
+
 -- ---- a refused call leaves every buffer as it was
 
 -- any number but 0 is a refusal
@@ -71,3 +76,6 @@ pub restores-untouched : {a : Answer Restored} {text t spans b numbers n : List 
 restores-untouched {a} {text} {t} {spans} {b} {numbers} h z =
     let off = not-given (withRoom 1 numbers a) in
     (hands-untouched (h .counted) z, h .text-is ∙ off _ text (λ e. z (h .counted .number ∙ e)), h .spans-are ∙ off _ spans (λ e. z (h .counted .number ∙ e)))
+
+pub flattens-untouched : {a : Answer FoldedBytes} {folded x numbers n : List ℕ} {r : ℕ} → Flattens a folded x numbers r n → (r ≡ 0 → ⊥) → (n ≡ numbers) × (x ≡ folded)
+flattens-untouched {a} {folded} {x} {numbers} h z = (hands-untouched (h .counted) z, h .folded-is ∙ not-given (withRoom 1 numbers a) _ folded (λ e. z (h .counted .number ∙ e)))

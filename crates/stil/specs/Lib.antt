@@ -3,3 +3,4 @@ pub mod Charts
 pub mod Intakes
 pub mod Indexes
 pub mod Saves
+pub mod Folds

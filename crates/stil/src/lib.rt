@@ -1,4 +1,4 @@
-// The services, the next token, the line of a place and the intake for callers in C or Rust: the answer is 0, with what it holds at the front of buffers,
+// The services, folding (`flats`), the next token, the line of a place and the intake for callers in C or Rust: the answer is 0, with what it holds at the front of buffers,
 // or a refusal, and all buffers are as they were.
 ghost use mathlib.Core.Path.{_≡_};
 ghost use mathlib.Core.List.{_∷_, []};
@@ -14,6 +14,7 @@ ghost use Rattle.meaning.specs.Services.{check as checkOf, nameOf, window as wi
 ghost use Rattle.meaning.specs.Charts.{waveforms as waveformsOf};
 ghost use Rattle.texts.specs.Told.{packedRefusal};
 ghost use Rattle.index.specs.Index.{index as indexOf, belongs as belongsTo, holds as holdsIn};
+ghost use Rattle.folded.specs.Fold.{fold as foldOf};
 ghost use Rattle.saving.specs.Saving.{save as saveOf};
 ghost use Rattle.verdicts.specs.Judged.{whichOf};
 ghost use Rattle.stil.specs.Interface.{Hands, packed, fronted, fiveOf, twoOf, threeOf, tokenOf, positionOf, Opens, Draws};
@@ -21,6 +22,7 @@ ghost use Rattle.stil.specs.Charts.{Sketches};
 ghost use Rattle.stil.specs.Intakes.{stateLeast, byteOf, progressIs, Tells, Carries, rawRefusal};
 ghost use Rattle.stil.specs.Indexes.{Writes, holderTwo};
 ghost use Rattle.stil.specs.Saves.{Restores};
+ghost use Rattle.stil.specs.Folds.{Flattens};
 use intake::Intake;
 use intake::Progress;
 use services::Belonging;
@@ -225,6 +227,20 @@ pub extern "C" fn lutemeteor_save(text: &mut [u8], spans: &mut [u64], numbers: &
         Saved::Refused(n, p) => pack(n, p),
         Saved::Spans(count) => {
             numbers[0] = count as u64;
+            0
+        }
+    }
+}
+
+// A text folded flat: its bytes, and its length. A buffer without room for its part is 19.
+#[no_mangle]
+pub extern "C" fn lutemeteor_fold(text: &[u8], folded: &mut [u8], numbers: &mut [u64]) -> u64
+    ensures { λ r. ⌜ Flattens (foldOf (now (text .entry)) (now (folded .entry))) (now (folded .entry)) (now (folded .exit)) (now (numbers .entry)) r (now (numbers .exit)) ⌝ }
+{
+    match flats::fold_text(text, 1 <= numbers.len(), folded) {
+        flats::Folded::Refused(n, p) => pack(n, p),
+        flats::Folded::Text(length) => {
+            numbers[0] = length as u64;
             0
         }
     }

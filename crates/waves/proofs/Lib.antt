@@ -1,5 +1,5 @@
 mod Numbers
-mod Turns
-mod Lines
+pub mod Turns
+pub mod Lines
 pub mod Fronts
 pub mod Entries

@@ -27,14 +27,14 @@ fn number_of(w: &[u8], b: u8) -> usize
 }
 
 // An event that was read: its time in ps and the letter of one character, and the cursor behind it.
-struct EventRead {
-    cursor: Cursor,
-    time: u64,
-    letter: u8,
+pub struct EventRead {
+    pub cursor: Cursor,
+    pub time: u64,
+    pub letter: u8,
 }
 
 // `'T' E;`, where E is one letter for all characters, or one for each: that of number i.
-fn event(text: &[u8], c: Cursor, i: usize) -> EventRead
+pub fn event(text: &[u8], c: Cursor, i: usize) -> EventRead
     requires { ⌜ i < entryMost ⌝ }
     ensures { λ r. ⌜ OneEvent (now (text .entry)) c i r ⌝ }
 {

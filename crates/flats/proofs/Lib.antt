@@ -1,0 +1,7 @@
+mod Showing
+mod Parting
+mod Running
+mod Whole
+mod Pages
+mod Folding
+pub mod Theorems

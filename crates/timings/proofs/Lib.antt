@@ -1,0 +1,6 @@
+mod Following
+mod Spotting
+mod Entering
+mod Writing
+mod Tabling
+mod Accepting

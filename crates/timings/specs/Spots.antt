@@ -1,0 +1,52 @@
+-- Where the entries of a table stand: for each signal and character one more than the place of its CHARS, 0 where it has no waveform.
+use Prim.Native.Nat.{ℕ, _+_, _-_, _*_, _≤_, _<_}
+use mathlib.Core.Path.{_≡_}
+use mathlib.Core.Bool.{cond, not, _&&_}
+use mathlib.Core.List.{List}
+use lib.ListN.{length, getD, drop}
+use lib.Dec.{eqb}
+use Rattle.meaning.specs.Bounds.{signalsMost}
+use Rattle.meaning.specs.Lists.{has}
+use Rattle.meaning.specs.Timing.{Wave}
+use Rattle.signals.specs.Names.{namesMost, rowLength, listAt}
+use Rattle.timing.specs.Watch.{Watched}
+use Rattle.timing.specs.declared.Watch.{Watch}
+use Rattle.folded.specs.Flat.{entriesOf}
+
+-- bytes that a character can be
+abbrev pub bytesMost : ℕ
+bytesMost = 256
+
+abbrev pub spotsMost : ℕ
+spotsMost = signalsMost * bytesMost
+
+-- what stands there for signal s and character b
+abbrev pub spotAt : List ℕ → ℕ → ℕ → ℕ
+spotAt spots s b = getD spots (s * bytesMost + b) 0
+
+abbrev pub watchOf : ℕ → ℕ → Watch
+watchOf s b = record { table = 0; signal = s; char = b }
+
+-- of these waveforms each is found where its spot says, and none where that is 0
+pub record Spots (text spots : List ℕ) (ws : List Wave) : Type 0 where
+  pub each : (s b : ℕ) → b < bytesMost → Watched text (watchOf s b) (not (eqb (spotAt spots s b) 0)) (spotAt spots s b - 1) ws
+
+-- v for each of these signals and characters, and nothing else changed
+pub record Stored (before sigs w : List ℕ) (v : ℕ) (after : List ℕ) : Type 0 where
+  pub each : (s b : ℕ) → b < bytesMost → spotAt after s b ≡ cond (has s sigs && has b w) v (spotAt before s b)
+
+-- signals that have spots
+abbrev pub Below : List ℕ → Type 0
+Below sigs = (i : ℕ) → i < length sigs → getD sigs i 0 < signalsMost
+
+-- rows of signals, of which each of the first names has its own
+pub record Listed (lists : List ℕ) (names : ℕ) : Type 0 where
+  pub sized : length lists ≡ namesMost * rowLength
+  pub below : (i : ℕ) → i < names → Below (listAt lists i)
+
+-- r is the number of the first character from number i on that has a spot
+pub record Next (spots chars : List ℕ) (s i r : ℕ) : Type 0 where
+  pub on : i ≤ r
+  pub within : r ≤ length chars
+  pub here : r < length chars → spotAt spots s (getD chars r 0) ≡ 0 → ⊥
+  pub same : (text : List ℕ) (ws : List Wave) → Spots text spots ws → entriesOf s ws (drop i chars) ≡ entriesOf s ws (drop r chars)
