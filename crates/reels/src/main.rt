@@ -3,6 +3,7 @@ mod answers;
 mod asked;
 mod checked;
 mod files;
+mod flattened;
 mod holding;
 mod listed;
 mod named;
@@ -20,7 +21,7 @@ fn help() {
 }
 
 // The commands that ask for tokens, for what is stored of a raw text, for an index or the pattern that holds a cycle, for a listing, for a hurt text's saving,
-// or for what the commands are.
+// for a text folded flat, or for what the commands are.
 fn other(command: &[u8]) -> bool {
     if words::equal(command, b"tokens") {
         split::tokens();
@@ -44,6 +45,10 @@ fn other(command: &[u8]) -> bool {
     }
     if words::equal(command, b"save") {
         saved::save();
+        return true;
+    }
+    if words::equal(command, b"fold") {
+        flattened::fold();
         return true;
     }
     if words::equal(command, b"help") {
