@@ -3,7 +3,7 @@
 use second::listing::refusal_line;
 use second::refusal::Answer;
 use second::report::{Fail, Refused};
-use second::requests::{FOLD, REPORTS};
+use second::requests::REPORTS;
 use second::timing::Asked;
 use second::tokens::next_token;
 use second::{accept_mark, bounds, listing, Declared, Document, Refusal, MARK};
@@ -25,6 +25,7 @@ tokens FILE
 intake FILE
 list FILE
 save FILE
+fold FILE
 ";
 
 /// Rows written at a time, so that no count asked for needs more memory.
@@ -66,13 +67,12 @@ fn answer(words: &[OsString], out: &mut dyn Write) -> Done {
         b"index" => index(exactly(rest, ["FILE"])?, out),
         b"holds" => holds(exactly(rest, ["FILE", "INDEXFILE", "N"])?, out),
         b"save" => save(exactly(rest, ["FILE"])?, out),
-        b"fold" if FOLD => fold(exactly(rest, ["FILE"])?, out),
+        b"fold" => fold(exactly(rest, ["FILE"])?, out),
         b"report" if REPORTS => report(exactly(rest, ["FILE", "REPORTFILE"])?, out),
         b"help" => {
             exactly(rest, [])?;
-            let fold = if FOLD { "fold FILE\n" } else { "" };
             let report = if REPORTS { "report FILE REPORTFILE\n" } else { "" };
-            Ok(write!(out, "{HELP}{fold}{report}help\n")?)
+            Ok(write!(out, "{HELP}{report}help\n")?)
         }
         _ => Err(Fault(format!("no such command: {}", command.to_string_lossy()))),
     }

@@ -6,8 +6,5 @@ pub const HEX: bool = cfg!(feature = "hex");
 /// Request 8: events across the cycle's edge, and times before it.
 pub const EDGES: bool = cfg!(feature = "edges");
 
-/// Request 11: texts folded flat, as a command.
-pub const FOLD: bool = cfg!(feature = "fold");
-
 /// Request 9: `X NAME;` and fail reports.
 pub const REPORTS: bool = cfg!(feature = "reports");

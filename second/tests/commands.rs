@@ -44,7 +44,6 @@ fn help_names_the_commands() {
         "intake FILE",
         "list FILE",
         "save FILE",
-        #[cfg(feature = "fold")]
         "fold FILE",
         #[cfg(feature = "reports")]
         "report FILE REPORTFILE",
@@ -156,7 +155,6 @@ fn what_is_saved_of_a_hurt_text() {
     answers(&["save", &file("save-long.stil", &[b' '; 65_537])], "REFUSED 1 AT 0 LINE 1 COLUMN 1\n");
 }
 
-#[cfg(feature = "fold")]
 #[test]
 fn a_folded_text() {
     let output = run(&["fold", &file("fold.stil", SAMPLE.as_bytes())]);
@@ -284,7 +282,7 @@ fn faults_of_the_command_line() {
 #[test]
 fn faults_of_commands_with_one_file() {
     let good = &file("one-file.stil", SAMPLE.as_bytes());
-    for command in ["tokens", "intake", "list", "index", "save"] {
+    for command in ["tokens", "intake", "list", "index", "save", "fold"] {
         turned_down(&[command], "FILE");
         turned_down(&[command, good, "more"], "more");
         turned_down(&[command, "/nowhere.stil"], "cannot be read: /nowhere.stil");

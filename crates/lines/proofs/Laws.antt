@@ -55,6 +55,6 @@ pub fault-is : (what word : List ℕ) → what ++ (bytes ": " ++ (word ++ (10 �
 unfolding bytes faultLine
 fault-is what word = simp append-assoc
 
-pub help-is : bytes "check FILE..\nname FILE signal N\nname FILE table N\nwindow FILE FIRST COUNT [MARK]\n" ++ bytes "waveform FILE TABLE SIGNAL CHARACTER\nindex FILE\nholds FILE INDEXFILE N\ntokens FILE\nintake FILE\nlist FILE\nsave FILE\nhelp\n" ≡ helpLines
+pub help-is : bytes "check FILE..\nname FILE signal N\nname FILE table N\nwindow FILE FIRST COUNT [MARK]\nwaveform FILE TABLE SIGNAL CHARACTER\n" ++ bytes "index FILE\nholds FILE INDEXFILE N\ntokens FILE\nintake FILE\nlist FILE\nsave FILE\nfold FILE\nhelp\n" ≡ helpLines
 unfolding bytes lines helpLines
 help-is = refl

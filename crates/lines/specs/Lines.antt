@@ -67,6 +67,7 @@ helpLines = lines (
     ∷ "intake FILE"
     ∷ "list FILE"
     ∷ "save FILE"
+    ∷ "fold FILE"
     ∷ "help"
     ∷ [])
 

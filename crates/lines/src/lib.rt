@@ -187,12 +187,12 @@ pub fn help(page: &mut [u8], at: usize) -> usize
     let end = pages::put(
         page,
         at,
-        b"check FILE..\nname FILE signal N\nname FILE table N\nwindow FILE FIRST COUNT [MARK]\n",
+        b"check FILE..\nname FILE signal N\nname FILE table N\nwindow FILE FIRST COUNT [MARK]\nwaveform FILE TABLE SIGNAL CHARACTER\n",
     );
     pages::put(
         page,
         end,
-        b"waveform FILE TABLE SIGNAL CHARACTER\nindex FILE\nholds FILE INDEXFILE N\ntokens FILE\nintake FILE\nlist FILE\nsave FILE\nhelp\n",
+        b"index FILE\nholds FILE INDEXFILE N\ntokens FILE\nintake FILE\nlist FILE\nsave FILE\nfold FILE\nhelp\n",
     )
 }
 

@@ -1,4 +1,5 @@
 // Asks files of STIL test patterns: the command lines of docs/COMMANDS.md.
+mod flattened;
 mod listed;
 mod shown;
 
@@ -20,7 +21,7 @@ fn help() {
 }
 
 // The commands that ask for tokens, for what is stored of a raw text, for an index or the pattern that holds a cycle, for a listing, for a hurt text's saving,
-// or for what the commands are.
+// for a text folded flat, or for what the commands are.
 fn other(command: &[u8]) -> bool {
     if words::equal(command, b"tokens") {
         split::tokens();
@@ -44,6 +45,10 @@ fn other(command: &[u8]) -> bool {
     }
     if words::equal(command, b"save") {
         saved::save();
+        return true;
+    }
+    if words::equal(command, b"fold") {
+        flattened::fold();
         return true;
     }
     if words::equal(command, b"help") {
