@@ -72,9 +72,12 @@ closing-token close step s takes o e h g = record { it = o .so-far; goes = ends 
 
 -- ---- what a turn of each reads
 
-pub more-passes : {text : List ℕ} {c r : Cursor} {o : Offset} → Goes text c offset r o → (l : List Offset) → Passes text c (oneMore l) r
+pub more-goes : {text : List ℕ} {c r : Cursor} {o : Offset} → Goes text c offset r o → (l : List Offset) → Goes text c (oneMore l) r (l ++ o ∷ [])
 unfolding oneMore
-more-passes {text} {c} {r} {o} g l = record { it = l ++ o ∷ []; goes = then _ g given }
+more-goes g l = then _ g given
+
+pub more-passes : {text : List ℕ} {c r : Cursor} {o : Offset} → Goes text c offset r o → (l : List Offset) → Passes text c (oneMore l) r
+more-passes {o = o} g l = record { it = l ++ o ∷ []; goes = more-goes g l }
 
 pub record-passes : {text : List ℕ} {c d r : Cursor} {x : Tok × ℕ} (ss : Signals) → Goes text c (head ss) d x → Passes text d (until ";" oneMore []) r
     → (l : List Record) → Passes text c (oneRecord ss l) r

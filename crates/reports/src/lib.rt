@@ -7,9 +7,9 @@ ghost use Rattle.meaning.specs.Reader.{until};
 ghost use Rattle.meaning.specs.Names.{number as numberOf};
 ghost use Rattle.words.specs.Cursor.{span, ahead, Goes};
 ghost use Rattle.words.specs.Table.{names};
-ghost use Rattle.words.specs.Values.{valueOf};
+ghost use Rattle.words.specs.Values.{valueOf, told};
 ghost use Rattle.reports.specs.Report.{isState, state as stateDue, offset as offsetDue, oneMore, head as headDue, Record, oneRecord, closing as closingDue};
-ghost use Rattle.reports.specs.Read.{bounded, Passes, Opens, Decides};
+ghost use Rattle.reports.specs.Read.{bounded, Passes, earlier, outsideAt, Places, Opens, Decides};
 use words::Cursor;
 use words::Value;
 
@@ -39,6 +39,20 @@ pub struct Counted {
 pub struct Headed {
     pub cursor: Cursor,
     pub signal: usize,
+}
+
+// Is there an offset that falls outside the pattern, and where does the first such stand?
+struct Outside {
+    is: bool,
+    place: usize,
+}
+
+// A record's offsets: how many there are, the first that falls outside the pattern, and the cursor behind the record.
+pub struct Placed {
+    pub cursor: Cursor,
+    pub count: usize,
+    pub outside: bool,
+    pub place: usize,
 }
 
 // The pattern's name by its place and end; the place behind `FailData {` and the cursor there.
@@ -171,6 +185,45 @@ fn offsets(report: &[u8], c: Cursor) -> Cursor
         cursor = o.cursor;
     }
     words::due(report, cursor, b";")
+}
+
+// The first of those that fall outside, with one offset more, where `left` cycles of the pattern are left.
+fn first_outside(f: Outside, n: u64, at: usize, left: u64) -> Outside
+    ensures { λ r. ⌜ told (r .is) (r .place) ≡ earlier (told (f .is) (f .place)) (outsideAt left n at) ⌝ }
+{
+    if f.is {
+        return f;
+    }
+    Outside {
+        is: left <= n,
+        place: at,
+    }
+}
+
+// Offsets up to `;`, where `left` cycles of the pattern are left behind the reference.
+pub fn count_offsets(report: &[u8], c: Cursor, left: u64) -> Placed
+    ensures { λ r. ⌜ Places (now (report .entry)) c left r ⌝ }
+{
+    let mut cursor = c;
+    let mut count = 0;
+    let mut first = Outside {
+        is: false,
+        place: 0,
+    };
+    while words::until(report, cursor, b";") {
+        let at = cursor.at;
+        let o = offset(report, cursor);
+        first = first_outside(first, o.n, at, left);
+        count += 1;
+        cursor = o.cursor;
+    }
+    let end = words::due(report, cursor, b";");
+    Placed {
+        cursor: end,
+        count,
+        outside: first.is,
+        place: first.place,
+    }
 }
 
 // REFERENCE SIGNAL OFFSET .. ;
