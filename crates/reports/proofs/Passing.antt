@@ -76,11 +76,8 @@ pub more-goes : {text : List ℕ} {c r : Cursor} {o : Offset} → Goes text c of
 unfolding oneMore
 more-goes g l = then _ g given
 
-pub more-passes : {text : List ℕ} {c r : Cursor} {o : Offset} → Goes text c offset r o → (l : List Offset) → Passes text c (oneMore l) r
-more-passes {o = o} g l = record { it = l ++ o ∷ []; goes = more-goes g l }
-
-pub record-passes : {text : List ℕ} {c d r : Cursor} {x : Tok × ℕ} (ss : Signals) → Goes text c (head ss) d x → Passes text d (until ";" oneMore []) r
-    → (l : List Record) → Passes text c (oneRecord ss l) r
+pub record-passes : {text : List ℕ} {c d r : Cursor} {x : Tok × ℕ} {os : List Offset} (ss : Signals) → Goes text c (head ss) d x
+    → Goes text d (until ";" oneMore []) r os → (l : List Record) → Passes text c (oneRecord ss l) r
 unfolding oneRecord
-record-passes {text} {c} {d} {r} {x} ss g p l =
-    record { it = l ++ record { reference = x .0; signal = x .1; offsets = p .it } ∷ []; goes = then _ g (then _ (p .goes) given) }
+record-passes {x = x} {os = os} ss g p l =
+    record { it = l ++ record { reference = x .0; signal = x .1; offsets = os } ∷ []; goes = then _ g (then _ p given) }

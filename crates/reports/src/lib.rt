@@ -175,18 +175,6 @@ pub fn head<'a>(
     Headed { cursor, signal }
 }
 
-// Offsets up to `;`.
-fn offsets(report: &[u8], c: Cursor) -> Cursor
-    ensures { λ r. ⌜ Passes (now (report .entry)) c (until ";" oneMore []) r ⌝ }
-{
-    let mut cursor = c;
-    while words::until(report, cursor, b";") {
-        let o = offset(report, cursor);
-        cursor = o.cursor;
-    }
-    words::due(report, cursor, b";")
-}
-
 // The first of those that fall outside, with one offset more, where `left` cycles of the pattern are left.
 fn first_outside(f: Outside, n: u64, at: usize, left: u64) -> Outside
     ensures { λ r. ⌜ told (r .is) (r .place) ≡ earlier (told (f .is) (f .place)) (outsideAt left n at) ⌝ }
@@ -238,7 +226,8 @@ fn one_record<'a>(
 {
     let h = head(report, c, text, places, count);
     let a = h.cursor;
-    offsets(report, a)
+    let p = count_offsets(report, a, 0);
+    p.cursor
 }
 
 // Records up to `}`.
