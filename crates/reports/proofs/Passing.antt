@@ -1,19 +1,18 @@
 -- Loops that read what they do not keep: there is always something that was read so far, and reading on from it is reading the whole.
 use Prim.Native.Nat.{ℕ, _≤_}
 use Prim.Native.String.{String}
-use native.Mathlib.Omega.{arith}
 use mathlib.Core.Path.{_≡_}
 use mathlib.Core.Bool.{Bool, true, false, not, _&&_}
 use mathlib.Core.List.{List, [], _∷_, _++_}
 use Rattle.tokens.specs.Written.{bytes}
 use Rattle.tokens.specs.Tokens.{Tok, Toks, left}
-use Rattle.meaning.specs.Reader.{Res, Reader, ok, ahead as aheadIs, aheadOf, due, ifAhead, give, while, until}
+use Rattle.meaning.specs.Reader.{Res, Reader, ok, ahead as aheadIs, aheadOf, due, ifAhead, while, until}
 use Rattle.meaning.proofs.Takes.{Takes, Keeps}
 use Rattle.meaning.proofs.Taking.{taking, takes-word, takes-keeps, takes-bind, keeps-bind, keeps-give, keeps-within, takes-until}
 use Rattle.words.specs.Cursor.{stream, alive, Goes}
 use Rattle.words.specs.declared.Cursor.{Cursor}
 use Rattle.words.proofs.Flow.{given, then}
-use Rattle.words.proofs.Loops.{Leads, begins, turned, over, ends}
+use Rattle.words.proofs.Loops.{Leads, turned, over, ends}
 use Rattle.reports.specs.Report.{Offset, Record, Signals, state, offset, oneMore, head, oneRecord}
 use Rattle.reports.specs.Read.{Passes}
 

@@ -6,14 +6,14 @@ use mathlib.Core.Option.{Option, none, some}
 use mathlib.Core.List.{List, [], _∷_}
 use lib.Dec.{leb}
 use lib.ListN.{length}
-use Rattle.tokens.specs.Tokens.{Tok, Toks, toks}
+use Rattle.tokens.specs.Tokens.{Toks, toks}
 use Rattle.meaning.specs.Bounds.{cyclesMost}
 use Rattle.meaning.specs.Reader.{Reader, ok, until}
 use Rattle.meaning.specs.Meaning.{given, refused}
 use Rattle.words.specs.Cursor.{span, stream, alive, Goes}
 use Rattle.words.specs.Values.{told}
 use Rattle.words.specs.declared.Cursor.{Cursor}
-use Rattle.reports.specs.Report.{Signals, Offset, oneMore, Record, Report, oneRecord, opening, reported}
+use Rattle.reports.specs.Report.{Signals, Offset, oneMore, Record, oneRecord, opening, reported}
 use Rattle.reports.specs.declared.Placed.{Placed}
 use Rattle.reports.specs.declared.Opened.{Opened}
 use Rattle.reports.specs.declared.Finding.{Finding}

@@ -1,14 +1,14 @@
 // A fail report: read once for its own faults, and again record by record.
 ghost use mathlib.Core.Path.{_≡_};
-ghost use Prim.Native.Nat.{ℕ, _-_};
+ghost use Prim.Native.Nat.{_-_};
 ghost use mathlib.Core.List.{List, []};
 ghost use lib.ListN.{getD};
 ghost use Rattle.meaning.specs.Reader.{until};
 ghost use Rattle.meaning.specs.Names.{number as numberOf};
-ghost use Rattle.words.specs.Cursor.{span, ahead, Goes};
+ghost use Rattle.words.specs.Cursor.{ahead, Goes};
 ghost use Rattle.words.specs.Table.{names};
 ghost use Rattle.words.specs.Values.{valueOf, told};
-ghost use Rattle.reports.specs.Report.{isState, state as stateDue, offset as offsetDue, oneMore, head as headDue, Record, oneRecord, closing as closingDue};
+ghost use Rattle.reports.specs.Report.{isState, state as stateDue, offset as offsetDue, head as headDue, Record, oneRecord, closing as closingDue};
 ghost use Rattle.reports.specs.Read.{bounded, Passes, earlier, outsideAt, Places, Opens, Decides};
 use words::Cursor;
 use words::Value;

@@ -1,5 +1,4 @@
 -- `first_outside` meets its contract: an earlier one stays the first.
-use mathlib.Core.Path.{refl}
 use Rattle.reports.specs.Read.{earlier}
 use borrow.Author.Needs.{needs}
 use Rattle.reports.proofs.first_outside.Statement.{statement}
