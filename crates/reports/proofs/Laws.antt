@@ -2,7 +2,7 @@
 use Prim.Native.Nat.{ℕ, _+_, _*_, _-_, _≤_, _<_}
 use native.Mathlib.Omega.{arith}
 use mathlib.Core.Path.{_≡_, refl, sym, ap, _∙_}
-use mathlib.Core.Bool.{Bool, true, false, not, _&&_}
+use mathlib.Core.Bool.{Bool, true, false, not}
 use mathlib.Core.Option.{Option, none, some}
 use mathlib.Core.List.{List, [], _∷_}
 use lib.Dec.{leb, ltb, eqb}
@@ -11,7 +11,7 @@ use borrow.Author.Tests.{lt-leb, le-leb, lt-ltb}
 use Rattle.tokens.specs.Written.{same}
 use Rattle.tokens.specs.Bytes.{digit}
 use Rattle.tokens.specs.Refusals.{notHere}
-use Rattle.tokens.specs.Tokens.{Tok, Toks, stop, tok, toks}
+use Rattle.tokens.specs.Tokens.{Tok, Toks, tok, toks}
 use Rattle.meaning.specs.Bounds.{cyclesMost}
 use Rattle.meaning.specs.Refusals.{badNumber}
 use Rattle.meaning.specs.Reader.{ok, refuse, after, _>>=_, give, refuseIf, any, dueOf}

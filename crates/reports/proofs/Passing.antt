@@ -1,19 +1,18 @@
 -- Loops that read what they do not keep: there is always something that was read so far, and reading on from it is reading the whole.
 use Prim.Native.Nat.{ℕ, _≤_}
 use Prim.Native.String.{String}
-use native.Mathlib.Omega.{arith}
 use mathlib.Core.Path.{_≡_}
 use mathlib.Core.Bool.{Bool, true, false, not, _&&_}
 use mathlib.Core.List.{List, [], _∷_, _++_}
 use Rattle.tokens.specs.Written.{bytes}
 use Rattle.tokens.specs.Tokens.{Tok, Toks, left}
-use Rattle.meaning.specs.Reader.{Res, Reader, ok, ahead as aheadIs, aheadOf, due, ifAhead, give, while, until}
+use Rattle.meaning.specs.Reader.{Res, Reader, ok, ahead as aheadIs, aheadOf, due, ifAhead, while, until}
 use Rattle.meaning.proofs.Takes.{Takes, Keeps}
 use Rattle.meaning.proofs.Taking.{taking, takes-word, takes-keeps, takes-bind, keeps-bind, keeps-give, keeps-within, takes-until}
 use Rattle.words.specs.Cursor.{stream, alive, Goes}
 use Rattle.words.specs.declared.Cursor.{Cursor}
 use Rattle.words.proofs.Flow.{given, then}
-use Rattle.words.proofs.Loops.{Leads, begins, turned, over, ends}
+use Rattle.words.proofs.Loops.{Leads, turned, over, ends}
 use Rattle.reports.specs.Report.{Offset, Record, Signals, state, offset, oneMore, head, oneRecord}
 use Rattle.reports.specs.Read.{Passes}
 
@@ -72,12 +71,12 @@ closing-token close step s takes o e h g = record { it = o .so-far; goes = ends 
 
 -- ---- what a turn of each reads
 
-pub more-passes : {text : List ℕ} {c r : Cursor} {o : Offset} → Goes text c offset r o → (l : List Offset) → Passes text c (oneMore l) r
+pub more-goes : {text : List ℕ} {c r : Cursor} {o : Offset} → Goes text c offset r o → (l : List Offset) → Goes text c (oneMore l) r (l ++ o ∷ [])
 unfolding oneMore
-more-passes {text} {c} {r} {o} g l = record { it = l ++ o ∷ []; goes = then _ g given }
+more-goes g l = then _ g given
 
-pub record-passes : {text : List ℕ} {c d r : Cursor} {x : Tok × ℕ} (ss : Signals) → Goes text c (head ss) d x → Passes text d (until ";" oneMore []) r
-    → (l : List Record) → Passes text c (oneRecord ss l) r
+pub record-passes : {text : List ℕ} {c d r : Cursor} {x : Tok × ℕ} {os : List Offset} (ss : Signals) → Goes text c (head ss) d x
+    → Goes text d (until ";" oneMore []) r os → (l : List Record) → Passes text c (oneRecord ss l) r
 unfolding oneRecord
-record-passes {text} {c} {d} {r} {x} ss g p l =
-    record { it = l ++ record { reference = x .0; signal = x .1; offsets = p .it } ∷ []; goes = then _ g (then _ (p .goes) given) }
+record-passes {x = x} {os = os} ss g p l =
+    record { it = l ++ record { reference = x .0; signal = x .1; offsets = os } ∷ []; goes = then _ g (then _ p given) }

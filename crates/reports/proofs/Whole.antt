@@ -6,7 +6,7 @@ use mathlib.Core.Option.{none, some}
 use mathlib.Core.List.{List, []}
 use lib.Dec.{eqb}
 use Rattle.tokens.specs.Tokens.{toks, faultOf}
-use Rattle.meaning.specs.Reader.{refuse, give, until}
+use Rattle.meaning.specs.Reader.{give, until}
 use Rattle.meaning.specs.Meaning.{refused}
 use Rattle.words.specs.Cursor.{span, stream, Stands, alive, from, Goes}
 use Rattle.words.specs.declared.Cursor.{Cursor}

@@ -3,15 +3,18 @@ use Prim.Native.Nat.{ℕ}
 use mathlib.Core.Path.{_≡_}
 use mathlib.Core.Bool.{true, false}
 use mathlib.Core.Option.{Option, none, some}
-use mathlib.Core.List.{List, []}
+use mathlib.Core.List.{List, [], _∷_}
 use lib.Dec.{leb}
-use Rattle.tokens.specs.Tokens.{Tok, Toks, toks}
+use lib.ListN.{length}
+use Rattle.tokens.specs.Tokens.{Toks, toks}
 use Rattle.meaning.specs.Bounds.{cyclesMost}
 use Rattle.meaning.specs.Reader.{Reader, ok, until}
 use Rattle.meaning.specs.Meaning.{given, refused}
 use Rattle.words.specs.Cursor.{span, stream, alive, Goes}
+use Rattle.words.specs.Values.{told}
 use Rattle.words.specs.declared.Cursor.{Cursor}
-use Rattle.reports.specs.Report.{Signals, Record, Report, oneRecord, opening, reported}
+use Rattle.reports.specs.Report.{Signals, Offset, oneMore, Record, oneRecord, opening, reported}
+use Rattle.reports.specs.declared.Placed.{Placed}
 use Rattle.reports.specs.declared.Opened.{Opened}
 use Rattle.reports.specs.declared.Finding.{Finding}
 use Rattle.reports.specs.declared.Finding.the-variants.{Refused, Sound}
@@ -25,6 +28,30 @@ bounded (some n) = elim (leb n cyclesMost) [ true ↦ some n | false ↦ none ]
 pub record Passes {A : Type 0} (text : List ℕ) (c : Cursor) (m : Reader A) (r : Cursor) : Type 0 where
   pub it : A
   pub goes : Goes text c m r it
+
+-- ---- offsets that fall outside the pattern, of which `left` cycles are left behind the reference
+
+-- the place of an offset, if it does
+abbrev pub outsideAt : ℕ → ℕ → ℕ → Option ℕ
+outsideAt left n at = told (leb left n) at
+
+-- the first of two places
+unfoldable pub earlier : Option ℕ → Option ℕ → Option ℕ
+earlier none o = o
+earlier (some p) o = some p
+
+unfoldable pub firstOutside : ℕ → List Offset → Option ℕ
+firstOutside left [] = none
+firstOutside left (o ∷ os) = earlier (outsideAt left (o .n) (o .at)) (firstOutside left os)
+
+-- THE PROMISE of a function that reads a record's offsets: how many there are, and the first that falls outside
+pub record Places (text : List ℕ) (c : Cursor) (left : ℕ) (r : Placed) : Type 0 where
+  pub list : List Offset
+  pub goes : Goes text c (until ";" oneMore []) (r .cursor) list
+  pub many : r .count ≡ length list
+  pub first : told (r .outside) (r .place) ≡ firstOutside left list
+
+-- ---- the whole report
 
 -- THE PROMISE of what comes before the records: the pattern's name from `at` to `end`; and where reading goes on, it goes on as from the place `records`
 pub record Opens (text : List ℕ) (c : Cursor) (r : Opened) : Type 0 where

@@ -1,15 +1,15 @@
 // A fail report: read once for its own faults, and again record by record.
 ghost use mathlib.Core.Path.{_≡_};
-ghost use Prim.Native.Nat.{ℕ, _-_};
+ghost use Prim.Native.Nat.{_-_};
 ghost use mathlib.Core.List.{List, []};
 ghost use lib.ListN.{getD};
 ghost use Rattle.meaning.specs.Reader.{until};
 ghost use Rattle.meaning.specs.Names.{number as numberOf};
-ghost use Rattle.words.specs.Cursor.{span, ahead, Goes};
+ghost use Rattle.words.specs.Cursor.{ahead, Goes};
 ghost use Rattle.words.specs.Table.{names};
-ghost use Rattle.words.specs.Values.{valueOf};
-ghost use Rattle.reports.specs.Report.{isState, state as stateDue, offset as offsetDue, oneMore, head as headDue, Record, oneRecord, closing as closingDue};
-ghost use Rattle.reports.specs.Read.{bounded, Passes, Opens, Decides};
+ghost use Rattle.words.specs.Values.{valueOf, told};
+ghost use Rattle.reports.specs.Report.{isState, state as stateDue, offset as offsetDue, head as headDue, Record, oneRecord, closing as closingDue};
+ghost use Rattle.reports.specs.Read.{bounded, Passes, earlier, outsideAt, Places, Opens, Decides};
 use words::Cursor;
 use words::Value;
 
@@ -39,6 +39,20 @@ pub struct Counted {
 pub struct Headed {
     pub cursor: Cursor,
     pub signal: usize,
+}
+
+// Is there an offset that falls outside the pattern, and where does the first such stand?
+struct Outside {
+    is: bool,
+    place: usize,
+}
+
+// A record's offsets: how many there are, the first that falls outside the pattern, and the cursor behind the record.
+pub struct Placed {
+    pub cursor: Cursor,
+    pub count: usize,
+    pub outside: bool,
+    pub place: usize,
 }
 
 // The pattern's name by its place and end; the place behind `FailData {` and the cursor there.
@@ -161,16 +175,43 @@ pub fn head<'a>(
     Headed { cursor, signal }
 }
 
-// Offsets up to `;`.
-fn offsets(report: &[u8], c: Cursor) -> Cursor
-    ensures { λ r. ⌜ Passes (now (report .entry)) c (until ";" oneMore []) r ⌝ }
+// The first of those that fall outside, with one offset more, where `left` cycles of the pattern are left.
+fn first_outside(f: Outside, n: u64, at: usize, left: u64) -> Outside
+    ensures { λ r. ⌜ told (r .is) (r .place) ≡ earlier (told (f .is) (f .place)) (outsideAt left n at) ⌝ }
+{
+    if f.is {
+        return f;
+    }
+    Outside {
+        is: left <= n,
+        place: at,
+    }
+}
+
+// Offsets up to `;`, where `left` cycles of the pattern are left behind the reference.
+pub fn count_offsets(report: &[u8], c: Cursor, left: u64) -> Placed
+    ensures { λ r. ⌜ Places (now (report .entry)) c left r ⌝ }
 {
     let mut cursor = c;
+    let mut count = 0;
+    let mut first = Outside {
+        is: false,
+        place: 0,
+    };
     while words::until(report, cursor, b";") {
+        let at = cursor.at;
         let o = offset(report, cursor);
+        first = first_outside(first, o.n, at, left);
+        count += 1;
         cursor = o.cursor;
     }
-    words::due(report, cursor, b";")
+    let end = words::due(report, cursor, b";");
+    Placed {
+        cursor: end,
+        count,
+        outside: first.is,
+        place: first.place,
+    }
 }
 
 // REFERENCE SIGNAL OFFSET .. ;
@@ -185,7 +226,8 @@ fn one_record<'a>(
 {
     let h = head(report, c, text, places, count);
     let a = h.cursor;
-    offsets(report, a)
+    let p = count_offsets(report, a, 0);
+    p.cursor
 }
 
 // Records up to `}`.

@@ -37,10 +37,11 @@ due-requires-2 c κs = search needs
 returns : tie.Need-returns
 unfolding stateDue bytes
 returns c =
-    let letter = c .before .before .before .first-byte .ensures ∙ ap (λ (w : List ℕ). getD w 0 0) (c .before .before .before .before .before .bytes-of .ensures) in
-    then _ (c .before .before .before .before .before .before .due .ensures)
-    (then _ (tested _ (λ t. isState (t .word)) (λ t. getD (t .word) 0 0) (c .before .before .expect .ensures) (c .before .before .before .before .is-state .ensures ∙ ap isState (c .before .before .before .before .before .bytes-of .ensures)))
-    (then _ (c .due2 .ensures) (valued given (λ h. sym letter))))
+    let word = c .before .before .before .before .before in
+    let letter = c .before .before .before .first-byte .ensures ∙ ap (λ (w : List ℕ). getD w 0 0) (word .bytes-of .ensures) in
+    let right = c .before .before .before .before .is-state .ensures ∙ ap isState (word .bytes-of .ensures) in
+    then _ (word .before .due .ensures)
+    (then _ (tested _ (λ t. isState (t .word)) (λ t. getD (t .word) 0 0) (c .before .before .expect .ensures) right) (then _ (c .due2 .ensures) (valued given (λ h. sym letter))))
 
 pub state-spec : {M : Type 1} → statement M
 state-spec =
