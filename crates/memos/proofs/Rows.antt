@@ -2,7 +2,7 @@
 use Prim.Native.Nat.{ℕ, zero, suc, _+_, _*_, _/_, _%_, _<_, _≤_}
 use native.Mathlib.Omega.{arith}
 use native.Mathlib.Nat.{mod-lt, div-mul-le-self}
-use mathlib.Core.Path.{_≡_, refl, sym, ap, _∙_}
+use mathlib.Core.Path.{_≡_, refl, sym, ap, _∙_, subst}
 use mathlib.Core.Bool.{Bool, true, false, _&&_, _||_}
 use mathlib.Core.Logic.{_⊎_, inl, inr}
 use mathlib.Core.List.{List}
@@ -10,13 +10,15 @@ use lib.Dec.{eqb, ltb, leb}
 use lib.ListN.{length, getD, set, replicate, length-set, length-replicate, getD-replicate, List·getD-eq-default}
 use lib.Seq.{getD-set-same, getD-set-other}
 use borrow.Author.Tests.{eqb-true, eqb-false, ltb-true, ltb-false, leb-true, leb-false}
+use Rattle.meaning.specs.Bounds.{signalsMost, depthMost}
 use Rattle.words.specs.declared.Cursor.{Cursor}
 use Rattle.words.proofs.Loops.{both}
 use Rattle.words.proofs.Words.{neither}
 use Rattle.memos.specs.declared.Use.{Use}
 use Rattle.memos.specs.declared.Found.{Found}
 use Rattle.memos.specs.declared.Recalled.{Recalled}
-use Rattle.memos.specs.Memo.{Short, Near, memoRow, pointsAt, beforeAt, behindAt, pictureSize, Notes, Points, Pictures, Told, telling, Row, Writes, SameUse, Remembered, Finds, Brings}
+use Rattle.memos.specs.Tracks.{isMarked, assignedMark, marksMost, tracksLength, marksFrom}
+use Rattle.memos.specs.Memo.{Short, Near, memoRow, rowAt, pointsAt, beforeAt, behindAt, pictureSize, Notes, Points, Traces, Pictures, Told, telling, Row, Writes, AtLevel, SameUse, Remembered, Finds, Restores, Brings}
 
 pub some : (n : ℕ) → (n ≡ 0 → ⊥) → 0 < n
 some zero h = absurd (h refl)
@@ -64,11 +66,11 @@ short-all u h =
     let r = both _ _ (q .0) in
     record { seconds = ltb-true _ _ (r .0); fault = ltb-true _ _ (r .1); at = ltb-true _ _ (q .1); end = ltb-true _ _ (p .1) }
 
--- its row is there, and holds these numbers
-pub room-short : (m : List ℕ) (o t t′ : ℕ) → ((ltb (length m) (o + memoRow) || leb 65_536 t) || leb 65_536 t′) ≡ false → (o + memoRow ≤ length m) × (t < 65_536) × (t′ < 65_536)
-room-short m o t t′ h =
-    let a = neither (ltb (length m) (o + memoRow) || leb 65_536 t) (leb 65_536 t′) h in
-    let b = neither (ltb (length m) (o + memoRow)) (leb 65_536 t) (a .0) in
+-- there is room for what is tracked, and a row can hold these numbers
+pub room-short : (m : List ℕ) (t t′ : ℕ) → ((ltb (length m) tracksLength || leb 65_536 t) || leb 65_536 t′) ≡ false → (tracksLength ≤ length m) × (t < 65_536) × (t′ < 65_536)
+room-short m t t′ h =
+    let a = neither (ltb (length m) tracksLength || leb 65_536 t) (leb 65_536 t′) h in
+    let b = neither (ltb (length m) tracksLength) (leb 65_536 t) (a .0) in
     (ltb-false _ _ (b .0), leb-false 65_536 t (b .1), leb-false 65_536 t′ (a .1))
 
 module _ (m : List ℕ) (o : ℕ) (u : Use) (a b c d : ℕ) (room : o + memoRow ≤ length m) (is-a : a ≡ u .seconds) (is-b : b ≡ u .fault) (is-c : c ≡ u .at) (is-d : d ≡ u .end) where
@@ -158,77 +160,150 @@ one-cursor {b = b} {c = c} x y f a e =
 
 -- ---- pictures, one signal at a time
 
-pub pictures-none : {m : List ℕ} {o t : ℕ} {v : List ℕ} → getD m o 0 ≡ t → Pictures m o 0 t v
+pub pictures-none : {m : List ℕ} {o t : ℕ} {v : ℕ → ℕ} → getD m o 0 ≡ t → Pictures m o 0 t v
 pictures-none e = record { table-is = e; pins-are = λ s h. absurd (omega arith) }
 
-pub pictures-next : {m : List ℕ} {o s t : ℕ} {v : List ℕ} → Pictures m o s t v → getD m (o + 1 + s) 0 % 256 ≡ getD v s 0 → Pictures m o (s + 1) t v
-pictures-next {m} {o} {s} {t} {v} x e = record { table-is = x .table-is; pins-are = λ i h. by i h (eqb i s) refl }
-  where
-    by : (i : ℕ) → i < s + 1 → (z : Bool) → eqb i s ≡ z → getD m (o + 1 + i) 0 % 256 ≡ getD v i 0
-    by i h true q = rw (eqb-true i s q) e
-    by i h false q = let d = eqb-false i s q in x .pins-are i (omega arith)
-
-pub pictures-all : {m : List ℕ} {o s n t : ℕ} {v : List ℕ} → s ≡ n → Pictures m o s t v → Pictures m o n t v
+pub pictures-all : {m : List ℕ} {o s n t : ℕ} {v : ℕ → ℕ} → s ≡ n → Pictures m o s t v → Pictures m o n t v
 pictures-all e x = record { table-is = x .table-is; pins-are = λ i h. x .pins-are i (omega arith) }
 
--- a number that is written behind those that a picture has
-pub pictures-behind : {m : List ℕ} {o s t : ℕ} {v : List ℕ} (x : ℕ) → Pictures m o s t v → Pictures (set m (o + 1 + s) x) o s t v
-pictures-behind {m} {o} {s} {t} {v} x p = record {
-  table-is = getD-set-other m (o + 1 + s) o x 0 (λ z. omega arith) ∙ p .table-is;
-  pins-are = λ i h. ap (λ (k : ℕ). k % 256) (getD-set-other m (o + 1 + s) (o + 1 + i) x 0 (λ z. omega arith)) ∙ p .pins-are i h;
+pub traces-none : {m : List ℕ} {o t : ℕ} {v : ℕ → ℕ} → getD m o 0 ≡ t → Traces m o 0 t v
+traces-none e = record { table-is = e; marks-are = λ s h. absurd (omega arith) }
+
+pub traces-all : {m : List ℕ} {o s n t : ℕ} {v : ℕ → ℕ} → s ≡ n → Traces m o s t v → Traces m o n t v
+traces-all e x = record { table-is = x .table-is; marks-are = λ i h. x .marks-are i (omega arith) }
+
+-- a place that is written behind those of the first s signals: they are as before, and it has this number
+module _ (m : List ℕ) (o s x : ℕ) (room : o + pictureSize ≤ length m) (few : s + 1 < pictureSize) where
+  drawn-table : getD (set m (o + 1 + s) x) o 0 ≡ getD m o 0
+  drawn-table = getD-set-other m (o + 1 + s) o x 0 λ z. omega arith
+
+  drawn : (i : ℕ) → i < s + 1 → (z : Bool) → eqb i s ≡ z → getD (set m (o + 1 + s) x) (o + 1 + i) 0 ≡ elim z [ true ↦ x | false ↦ getD m (o + 1 + i) 0 ]
+  drawn i h true e = let q = eqb-true i s e in rw q (getD-set-same m (o + 1 + s) x 0 (omega arith))
+  drawn i h false e = let d = eqb-false i s e in getD-set-other m (o + 1 + s) (o + 1 + i) x 0 λ z. omega arith
+
+  -- the next pin is drawn
+  pub pictured-next : {m₀ : List ℕ} {t : ℕ} {v : ℕ → ℕ} → Writes m₀ m o (o + pictureSize) → Pictures m o s t v → x % 256 ≡ v s
+      → Writes m₀ (set m (o + 1 + s) x) o (o + pictureSize) × Pictures (set m (o + 1 + s) x) o (s + 1) t v
+  pictured-next {v = v} w p e = (
+    writes-next w (o + 1 + s) x (omega arith) (omega arith),
+    record { table-is = drawn-table ∙ p .table-is; pins-are = λ i h. by i h (eqb i s) refl },
+  )
+    where
+      by : (i : ℕ) → i < s + 1 → (z : Bool) → eqb i s ≡ z → getD (set m (o + 1 + s) x) (o + 1 + i) 0 % 256 ≡ v i
+      by i h true q = ap (λ (k : ℕ). k % 256) (drawn i h true q) ∙ rw (eqb-true i s q) e
+      by i h false q = let d = eqb-false i s q in ap (λ (k : ℕ). k % 256) (drawn i h false q) ∙ p .pins-are i (omega arith)
+
+  -- the next signal's marks
+  pub traced-next : {m₀ : List ℕ} {t : ℕ} {v : ℕ → ℕ} → Writes m₀ m o (o + pictureSize) → Traces m o s t v → x % marksMost ≡ v s
+      → Writes m₀ (set m (o + 1 + s) x) o (o + pictureSize) × Traces (set m (o + 1 + s) x) o (s + 1) t v
+  traced-next {v = v} w p e = (
+    writes-next w (o + 1 + s) x (omega arith) (omega arith),
+    record { table-is = drawn-table ∙ p .table-is; marks-are = λ i h. by i h (eqb i s) refl },
+  )
+    where
+      by : (i : ℕ) → i < s + 1 → (z : Bool) → eqb i s ≡ z → getD (set m (o + 1 + s) x) (o + 1 + i) 0 % marksMost ≡ v i
+      by i h true q = ap (λ (k : ℕ). k % marksMost) (drawn i h true q) ∙ rw (eqb-true i s q) e
+      by i h false q = let d = eqb-false i s q in ap (λ (k : ℕ). k % marksMost) (drawn i h false q) ∙ p .marks-are i (omega arith)
+
+-- the marks that are drawn are those that stood there before the row was begun
+pub traces-from : {m m1 m2 m3 : List ℕ} {o n t o1 e1 o2 e2 : ℕ} (from : ℕ) → n ≤ signalsMost → Writes m m1 o1 e1 → from + signalsMost ≤ o1 → Writes m1 m2 o2 e2 → from + signalsMost ≤ o2
+    → Traces m3 o n t (marksFrom m2 from) → Traces m3 o n t (marksFrom m from)
+traces-from from few a p b q x = record {
+  table-is = x .table-is;
+  marks-are = λ s h. x .marks-are s h ∙ ap (λ (k : ℕ). k % marksMost) (b .others (from + s) (λ c d. omega arith) ∙ a .others (from + s) (λ c d. omega arith));
 }
 
--- the next pin is drawn
-pub drawn-next : {m₀ m : List ℕ} {o s t : ℕ} {v : List ℕ} (x : ℕ) → Writes m₀ m o (o + pictureSize) → Pictures m o s t v → s + 1 < pictureSize → o + pictureSize ≤ length m
-    → x % 256 ≡ getD v s 0 → Writes m₀ (set m (o + 1 + s) x) o (o + pictureSize) × Pictures (set m (o + 1 + s) x) o (s + 1) t v
-drawn-next {m₀} {m} {o} {s} {t} {v} x w p h room e = (
-  writes-next w (o + 1 + s) x (omega arith) (omega arith),
-  pictures-next (pictures-behind x p) (ap (λ (k : ℕ). k % 256) (getD-set-same m (o + 1 + s) x 0 (omega arith)) ∙ e),
-)
-
--- pins that become those of a picture
-pub record Restores (m : List ℕ) (o s : ℕ) (v₀ v : List ℕ) : Type 0 where
-  pub long : length v ≡ length v₀
-  pub rows : (i : ℕ) → s ≤ i → getD v i 0 ≡ getD v₀ i 0
-  pub pins-are : (i : ℕ) → i < s → getD m (o + 1 + i) 0 % 256 ≡ getD v i 0
+-- ---- pins that a use assigned
 
 pub restores-none : {m : List ℕ} {o : ℕ} {v : List ℕ} → Restores m o 0 v v
-restores-none = record { long = refl; rows = λ i h. refl; pins-are = λ i h. absurd (omega arith) }
+restores-none = record { long = refl; rows = λ i h. refl; put = λ i h. absurd (omega arith); kept = λ i h. absurd (omega arith) }
 
-pub restores-next : {m : List ℕ} {o s x : ℕ} {v₀ v : List ℕ} → Restores m o s v₀ v → s < length v → x ≡ getD m (o + 1 + s) 0 % 256 → Restores m o (s + 1) v₀ (set v s x)
-restores-next {m} {o} {s} {x} {v₀} {v} r l e = record {
-  long = length-set v s x ∙ r .long;
-  rows = λ i h. getD-set-other v s i x 0 (λ z. omega arith) ∙ r .rows i (omega arith);
-  pins-are = λ i h. by i h (eqb i s) refl;
-}
-  where
-    by : (i : ℕ) → i < s + 1 → (z : Bool) → eqb i s ≡ z → getD m (o + 1 + i) 0 % 256 ≡ getD (set v s x) i 0
-    by i h true q = rw (eqb-true i s q) (sym e ∙ sym (getD-set-same v s x 0 l))
-    by i h false q = let d = eqb-false i s q in r .pins-are i (omega arith) ∙ sym (getD-set-other v s i x 0 d)
+module _ {m : List ℕ} {o s : ℕ} {v₀ v : List ℕ} (r : Restores m o s v₀ v) where
+  -- the next signal: what was assigned, or what stood there before
+  pub restores-next : (x y : ℕ) → s < length v → y ≡ getD m (o + behindAt + 1 + s) 0 % 256
+      → (isMarked (marksFrom m (o + beforeAt + 1) s) assignedMark ≡ true → x ≡ y) × (isMarked (marksFrom m (o + beforeAt + 1) s) assignedMark ≡ false → x ≡ getD v s 0)
+      → Restores m o (s + 1) v₀ (set v s x)
+  restores-next x y l e q = record {
+    long = length-set v s x ∙ r .long;
+    rows = λ i h. getD-set-other v s i x 0 (λ z. omega arith) ∙ r .rows i (omega arith);
+    put = λ i h. put-by i h (eqb i s) refl;
+    kept = λ i h. kept-by i h (eqb i s) refl;
+  }
+    where
+      same : (i : ℕ) (z : Bool) → i ≡ s → isMarked (marksFrom m (o + beforeAt + 1) i) assignedMark ≡ z → isMarked (marksFrom m (o + beforeAt + 1) s) assignedMark ≡ z
+      same i z e g = ap (λ (k : ℕ). isMarked (marksFrom m (o + beforeAt + 1) k) assignedMark) (sym e) ∙ g
 
-pub restores-all : {m : List ℕ} {o s n : ℕ} {v₀ v : List ℕ} → s ≡ n → Restores m o s v₀ v
-    → (length v ≡ length v₀) × ((i : ℕ) → n ≤ i → getD v i 0 ≡ getD v₀ i 0) × Pictures m o n (getD m o 0) v
-restores-all e r = (r .long, λ i h. r .rows i (omega arith), record { table-is = refl; pins-are = λ i h. r .pins-are i (omega arith) })
+      put-by : (i : ℕ) → i < s + 1 → (z : Bool) → eqb i s ≡ z → isMarked (marksFrom m (o + beforeAt + 1) i) assignedMark ≡ true
+          → getD (set v s x) i 0 ≡ getD m (o + behindAt + 1 + i) 0 % 256
+      put-by i h true p g = let w = eqb-true i s p in rw w (getD-set-same v s x 0 l ∙ q .0 (same i true w g) ∙ e)
+      put-by i h false p g = let d = eqb-false i s p in getD-set-other v s i x 0 d ∙ r .put i (omega arith) g
+
+      kept-by : (i : ℕ) → i < s + 1 → (z : Bool) → eqb i s ≡ z → isMarked (marksFrom m (o + beforeAt + 1) i) assignedMark ≡ false → getD (set v s x) i 0 ≡ getD v₀ i 0
+      kept-by i h true p g = let w = eqb-true i s p in rw w (getD-set-same v s x 0 l ∙ q .1 (same i false w g) ∙ r .rows s (omega arith))
+      kept-by i h false p g = let d = eqb-false i s p in getD-set-other v s i x 0 d ∙ r .kept i (omega arith) g
+
+  pub restores-all : {n : ℕ} → s ≡ n → Restores m o n v₀ v
+  restores-all e = record { long = r .long; rows = λ i h. r .rows i (omega arith); put = λ i h. r .put i (omega arith); kept = λ i h. r .kept i (omega arith) }
 
 -- ---- a row that is found
 
-pub finds-none : {m : List ℕ} {n : ℕ} {u : Use} {t : ℕ} {v : List ℕ} {o : ℕ} → Finds m n u t v (record { is = false; at = o })
+pub finds-none : {m : List ℕ} {u : Use} {t o : ℕ} → Finds m u t (record { is = false; at = o })
 finds-none = record { row = λ e. absurd (never e); room = λ e. absurd (never e); noted = λ e. absurd (never e); before = λ e. absurd (never e) }
   where
     never : false ≡ true → ⊥
     never e = let z : _≡_ {A = ℕ} 0 1 = cc in omega arith
 
-pub recalled-row : {m : List ℕ} {n : ℕ} {u : Use} {t : ℕ} {v v′ : List ℕ} {f : Found} {r : Recalled} → Finds m n u t v f → f .is ≡ true → Brings m n (f .at) v v′ r
-    → (j : ℕ) × Row m n j (telling u (r .cursor) t v (r .table) v′)
-recalled-row x e y =
+-- what it tells
+pub recalled-row : {m : List ℕ} {n : ℕ} {u : Use} {t : ℕ} {v v′ : List ℕ} {f : Found} {r : Recalled} → Finds m u t f → f .is ≡ true → Brings m n (f .at) v v′ r
+    → (j : ℕ) × Row m n j (telling u (r .cursor) t (marksFrom m (f .at + beforeAt + 1)) (r .table) (λ s. getD m (f .at + behindAt + 1 + s) 0 % 256))
+recalled-row {m} {n} {u} {t} {f = f} {r = r} x e y =
     let j = x .row e in
-    (j .0, record { noted = rw (← j .1) (x .noted e); pointed = rw (← j .1) (y .pointed); before = rw (← j .1) (x .before e); behind = rw (← j .1) (y .behind) })
+    let before : Traces m (f .at + beforeAt) n t (marksFrom m (f .at + beforeAt + 1)) = record { table-is = x .before e; marks-are = λ s h. refl } in
+    let behind : Pictures m (f .at + behindAt) n (r .table) (λ s. getD m (f .at + behindAt + 1 + s) 0 % 256) = record { table-is = y .table-is; pins-are = λ s h. refl } in (
+      j .0,
+      record {
+        noted = rw (j .1) at (x .noted e);
+        pointed = rw (j .1) at (y .pointed);
+        before = subst (λ (o : ℕ). Traces m (o + beforeAt) n t (marksFrom m (f .at + beforeAt + 1))) (j .1) before;
+        behind = subst (λ (o : ℕ). Pictures m (o + behindAt) n (r .table) (λ s. getD m (f .at + behindAt + 1 + s) 0 % 256)) (j .1) behind;
+      },
+    )
 
 -- ---- one row
 
-module _ {m m1 m2 m3 m4 : List ℕ} {n o : ℕ} (k : ℕ) {u : Use} {b : Cursor} {t : ℕ} {v : List ℕ} {t′ : ℕ} {v′ : List ℕ} (few : n < pictureSize) (o-is : o ≡ k * memoRow)
+-- a row whose places are as they were tells what it told
+pub row-same : {m m′ : List ℕ} {n j : ℕ} {y : Told} → n < pictureSize → ((i : ℕ) → rowAt j ≤ i → i < rowAt j + memoRow → getD m′ i 0 ≡ getD m i 0) → Row m′ n j y → Row m n j y
+row-same {m} {m′} {n} {j} few away r = record {
+  noted = record {
+    in-use = sym (away (rowAt j) (omega arith) (omega arith)) ∙ r .noted .in-use;
+    seconds-fit = omega (arith, away (rowAt j + 1) (omega arith) (omega arith), r .noted .seconds-fit);
+    fault-is = sym (away (rowAt j + 2) (omega arith) (omega arith)) ∙ r .noted .fault-is;
+    at-is = sym (away (rowAt j + 3) (omega arith) (omega arith)) ∙ r .noted .at-is;
+    end-is = sym (away (rowAt j + 4) (omega arith) (omega arith)) ∙ r .noted .end-is;
+  };
+  pointed = record {
+    on = r .pointed .on;
+    fault-is = ap (λ (z : ℕ). z % 256) (sym (away (rowAt j + pointsAt) (omega arith) (omega arith))) ∙ r .pointed .fault-is;
+    at-is = sym (away (rowAt j + pointsAt + 1) (omega arith) (omega arith)) ∙ r .pointed .at-is;
+    end-is = sym (away (rowAt j + pointsAt + 2) (omega arith) (omega arith)) ∙ r .pointed .end-is;
+  };
+  before = record {
+    table-is = sym (away (rowAt j + beforeAt) (omega arith) (omega arith)) ∙ r .before .table-is;
+    marks-are = λ s h. ap (λ (z : ℕ). z % marksMost) (sym (away (rowAt j + beforeAt + 1 + s) (omega arith) (omega arith))) ∙ r .before .marks-are s h;
+  };
+  behind = record {
+    table-is = sym (away (rowAt j + behindAt) (omega arith) (omega arith)) ∙ r .behind .table-is;
+    pins-are = λ s h. ap (λ (z : ℕ). z % 256) (sym (away (rowAt j + behindAt + 1 + s) (omega arith) (omega arith))) ∙ r .behind .pins-are s h;
+  };
+}
+
+-- what is tracked stands before all rows
+pub row-tracked : {m m′ : List ℕ} {n j : ℕ} {y : Told} (level : ℕ) → n < pictureSize → level ≤ depthMost → AtLevel m m′ level → Row m′ n j y → Row m n j y
+row-tracked {j = j} level few l w r = row-same few (λ i a b. w .others i λ p q. omega arith) r
+
+module _ {m m1 m2 m3 m4 : List ℕ} {n o : ℕ} (k : ℕ) {u : Use} {b : Cursor} {t : ℕ} {v : ℕ → ℕ} {t′ : ℕ} {v′ : ℕ → ℕ} (few : n < pictureSize) (o-is : o ≡ rowAt k)
     (w1 : Writes m m1 o (o + 5)) (n1 : Notes m1 o u) (seconds-are : getD m1 (o + 1) 0 ≡ u .seconds) (w2 : Writes m1 m2 (o + pointsAt) (o + pointsAt + 3)) (p2 : Points m2 (o + pointsAt) b)
-    (w3 : Writes m2 m3 (o + beforeAt) (o + beforeAt + pictureSize)) (p3 : Pictures m3 (o + beforeAt) n t v)
+    (w3 : Writes m2 m3 (o + beforeAt) (o + beforeAt + pictureSize)) (p3 : Traces m3 (o + beforeAt) n t v)
     (w4 : Writes m3 m4 (o + behindAt) (o + behindAt + pictureSize)) (p4 : Pictures m4 (o + behindAt) n t′ v′) where
   abbrev told : Told
   told = telling u b t v t′ v′
@@ -247,17 +322,17 @@ module _ {m m1 m2 m3 m4 : List ℕ} {n o : ℕ} (k : ℕ) {u : Use} {b : Cursor}
   second : (i : ℕ) → i < o + beforeAt → getD m4 i 0 ≡ getD m2 i 0
   second i h = w4 .others i (λ a b. omega arith) ∙ w3 .others i (λ a b. omega arith)
 
-  -- the first picture's
+  -- the marks'
   middle : (i : ℕ) → i < o + behindAt → getD m4 i 0 ≡ getD m3 i 0
   middle i h = w4 .others i λ a b. omega arith
 
   module _ {j : ℕ} {y : Told} (r : Row m4 n j y) where
     this-row : j ≡ k → SameUse n told y
     this-row e =
-        let q : j * memoRow ≡ o = omega arith in
+        let q : rowAt j ≡ o = omega arith in
         let a : Notes m4 o (y .of-use) = rw q at (r .noted) in
         let d : Points m4 (o + pointsAt) (y .cursor) = rw q at (r .pointed) in
-        let b : Pictures m4 (o + beforeAt) n (y .table) (y .pins) = rw q at (r .before) in
+        let b : Traces m4 (o + beforeAt) n (y .table) (y .marks) = rw q at (r .before) in
         let c : Pictures m4 (o + behindAt) n (y .table-behind) (y .pins-behind) = rw q at (r .behind) in
         record {
           seconds-fit = omega (arith, a .seconds-fit, front (o + 1) (omega arith), seconds-are);
@@ -266,43 +341,19 @@ module _ {m m1 m2 m3 m4 : List ℕ} {n o : ℕ} (k : ℕ) {u : Use} {b : Cursor}
           end-is = sym (a .end-is) ∙ front (o + 4) (omega arith) ∙ n1 .end-is;
           cursor-is = one-cursor p2 d (second (o + pointsAt) (omega arith)) (second (o + pointsAt + 1) (omega arith)) (second (o + pointsAt + 2) (omega arith));
           table-is = sym (b .table-is) ∙ middle (o + beforeAt) (omega arith) ∙ p3 .table-is;
-          pins-are = λ s h. sym (b .pins-are s h) ∙ ap (λ (z : ℕ). z % 256) (middle (o + beforeAt + 1 + s) (omega arith)) ∙ p3 .pins-are s h;
+          marks-are = λ s h. sym (b .marks-are s h) ∙ ap (λ (z : ℕ). z % marksMost) (middle (o + beforeAt + 1 + s) (omega arith)) ∙ p3 .marks-are s h;
           behind-is = sym (c .table-is) ∙ p4 .table-is;
           behind-are = λ s h. sym (c .pins-are s h) ∙ p4 .pins-are s h;
         }
 
     other-row : (j ≡ k → ⊥) → Row m n j y
-    other-row d = record {
-      noted = record {
-        in-use = sym (away (j * memoRow) (omega arith) (omega arith)) ∙ r .noted .in-use;
-        seconds-fit = omega (arith, away (j * memoRow + 1) (omega arith) (omega arith), r .noted .seconds-fit);
-        fault-is = sym (away (j * memoRow + 2) (omega arith) (omega arith)) ∙ r .noted .fault-is;
-        at-is = sym (away (j * memoRow + 3) (omega arith) (omega arith)) ∙ r .noted .at-is;
-        end-is = sym (away (j * memoRow + 4) (omega arith) (omega arith)) ∙ r .noted .end-is;
-      };
-      pointed = record {
-        on = r .pointed .on;
-        fault-is = ap (λ (z : ℕ). z % 256) (sym (away (j * memoRow + pointsAt) (omega arith) (omega arith))) ∙ r .pointed .fault-is;
-        at-is = sym (away (j * memoRow + pointsAt + 1) (omega arith) (omega arith)) ∙ r .pointed .at-is;
-        end-is = sym (away (j * memoRow + pointsAt + 2) (omega arith) (omega arith)) ∙ r .pointed .end-is;
-      };
-      before = record {
-        table-is = sym (away (j * memoRow + beforeAt) (omega arith) (omega arith)) ∙ r .before .table-is;
-        pins-are = λ s h. ap (λ (z : ℕ). z % 256) (sym (away (j * memoRow + beforeAt + 1 + s) (omega arith) (omega arith))) ∙ r .before .pins-are s h;
-      };
-      behind = record {
-        table-is = sym (away (j * memoRow + behindAt) (omega arith) (omega arith)) ∙ r .behind .table-is;
-        pins-are = λ s h. ap (λ (z : ℕ). z % 256) (sym (away (j * memoRow + behindAt + 1 + s) (omega arith) (omega arith))) ∙ r .behind .pins-are s h;
-      };
-    }
-      where
-        away : (i : ℕ) → j * memoRow ≤ i → i < j * memoRow + memoRow → getD m4 i 0 ≡ getD m i 0
-        away i a b = elsewhere i λ p q. d (omega arith)
+    other-row d = row-same few (λ i a b. elsewhere i λ p q. d (omega arith)) r
 
   -- THE LAW
   pub row-written : Remembered m m4 n told
   row-written = record {
     long = w4 .long ∙ w3 .long ∙ w2 .long ∙ w1 .long;
+    tracks = λ i h. elsewhere i (λ p q. omega arith);
     each = λ j y r. by j y r (eqb j k) refl;
   }
     where
@@ -312,7 +363,7 @@ module _ {m m1 m2 m3 m4 : List ℕ} {n o : ℕ} (k : ℕ) {u : Use} {b : Cursor}
 
 -- no row was written
 pub row-kept : {m : List ℕ} {n : ℕ} {x : Told} → Remembered m m n x
-row-kept = record { long = refl; each = λ j y r. inl r }
+row-kept = record { long = refl; tracks = λ i h. refl; each = λ j y r. inl r }
 
 -- nothing is in use
 pub zeros : (n i : ℕ) → getD {A = ℕ} (replicate n 0) i 0 ≡ 0

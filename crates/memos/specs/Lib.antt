@@ -1,1 +1,2 @@
 pub mod Memo
+pub mod Tracks

@@ -1,7 +1,7 @@
 -- What is remembered of uses of bodies: rows of numbers, each of one use that was played and in which no cycle failed.
 use Prim.Native.Nat.{ℕ, _+_, _*_, _%_, _<_, _≤_}
 use mathlib.Core.Path.{_≡_}
-use mathlib.Core.Bool.{true}
+use mathlib.Core.Bool.{true, false}
 use mathlib.Core.Logic.{_⊎_}
 use mathlib.Core.List.{List}
 use lib.ListN.{length, getD}
@@ -10,8 +10,9 @@ use Rattle.words.specs.declared.Cursor.{Cursor}
 use Rattle.memos.specs.declared.Use.{Use}
 use Rattle.memos.specs.declared.Found.{Found}
 use Rattle.memos.specs.declared.Recalled.{Recalled}
+use Rattle.memos.specs.Tracks.{isMarked, assignedMark, tracksLength, marksFrom}
 
--- a row: what it is found by; the cursor behind the use; the table and the pins before it; those behind it
+-- a row: what it is found by; the cursor behind the use; the table before it, and what was tracked of each signal; the table and the pins behind it
 abbrev pub pointsAt : ℕ
 pointsAt = 5
 
@@ -27,9 +28,12 @@ behindAt = beforeAt + pictureSize
 abbrev pub memoRow : ℕ
 memoRow = behindAt + pictureSize
 
--- all rows
+-- rows stand behind what is tracked of the uses that are being played
+abbrev pub rowAt : ℕ → ℕ
+rowAt j = tracksLength + j * memoRow
+
 abbrev pub memoLength : ℕ
-memoLength = 337 * memoRow
+memoLength = rowAt 337
 
 -- numbers that a row can hold
 pub record Short (u : Use) : Type 0 where
@@ -61,26 +65,34 @@ pub record Points (memo : List ℕ) (o : ℕ) (b : Cursor) : Type 0 where
   pub at-is : getD memo (o + 1) 0 ≡ b .at
   pub end-is : getD memo (o + 2) 0 ≡ b .end
 
--- from the place o on: a table, and the pins of the first n signals
-pub record Pictures (memo : List ℕ) (o n table : ℕ) (values : List ℕ) : Type 0 where
+-- from the place o on: a table, and the marks of the first n signals
+pub record Traces (memo : List ℕ) (o n table : ℕ) (marks : ℕ → ℕ) : Type 0 where
   pub table-is : getD memo o 0 ≡ table
-  pub pins-are : (s : ℕ) → s < n → getD memo (o + 1 + s) 0 % 256 ≡ getD values s 0
+  pub marks-are : (s : ℕ) → s < n → marksFrom memo (o + 1) s ≡ marks s
 
--- a use, and what is known of it: the cursor behind it, and from which table and pins it was played to which
+-- from the place o on: a table, and the pins of the first n signals
+pub record Pictures (memo : List ℕ) (o n table : ℕ) (pins : ℕ → ℕ) : Type 0 where
+  pub table-is : getD memo o 0 ≡ table
+  pub pins-are : (s : ℕ) → s < n → getD memo (o + 1 + s) 0 % 256 ≡ pins s
+
+abbrev pub pinsOf : List ℕ → ℕ → ℕ
+pinsOf values s = getD values s 0
+
+-- a use, and what is known of it: the cursor behind it, from which table and with which marks it was played, and to which table and pins
 pub record Told : Type 0 where
   pub of-use : Use
   pub cursor : Cursor
   pub table : ℕ
-  pub pins : List ℕ
+  pub marks : ℕ → ℕ
   pub table-behind : ℕ
-  pub pins-behind : List ℕ
+  pub pins-behind : ℕ → ℕ
 
 -- the row of number j tells this
 pub record Row (memo : List ℕ) (n j : ℕ) (x : Told) : Type 0 where
-  pub noted : Notes memo (j * memoRow) (x .of-use)
-  pub pointed : Points memo (j * memoRow + pointsAt) (x .cursor)
-  pub before : Pictures memo (j * memoRow + beforeAt) n (x .table) (x .pins)
-  pub behind : Pictures memo (j * memoRow + behindAt) n (x .table-behind) (x .pins-behind)
+  pub noted : Notes memo (rowAt j) (x .of-use)
+  pub pointed : Points memo (rowAt j + pointsAt) (x .cursor)
+  pub before : Traces memo (rowAt j + beforeAt) n (x .table) (x .marks)
+  pub behind : Pictures memo (rowAt j + behindAt) n (x .table-behind) (x .pins-behind)
 
 -- ---- what is written
 
@@ -88,6 +100,10 @@ pub record Row (memo : List ℕ) (n j : ℕ) (x : Told) : Type 0 where
 pub record Writes (memo memo′ : List ℕ) (o e : ℕ) : Type 0 where
   pub long : length memo′ ≡ length memo
   pub others : (i : ℕ) → (o ≤ i → i < e → ⊥) → getD memo′ i 0 ≡ getD memo i 0
+
+-- only what is tracked at a level
+abbrev pub AtLevel : List ℕ → List ℕ → ℕ → Type 0
+AtLevel memo memo′ level = Writes memo memo′ (level * signalsMost) (level * signalsMost + signalsMost)
 
 -- y is the same use with at most as many second turns, from and to the same
 pub record SameUse (n : ℕ) (x y : Told) : Type 0 where
@@ -97,31 +113,38 @@ pub record SameUse (n : ℕ) (x y : Told) : Type 0 where
   pub end-is : y .of-use .end ≡ x .of-use .end
   pub cursor-is : y .cursor ≡ x .cursor
   pub table-is : y .table ≡ x .table
-  pub pins-are : (s : ℕ) → s < n → getD (y .pins) s 0 ≡ getD (x .pins) s 0
+  pub marks-are : (s : ℕ) → s < n → y .marks s ≡ x .marks s
   pub behind-is : y .table-behind ≡ x .table-behind
-  pub behind-are : (s : ℕ) → s < n → getD (y .pins-behind) s 0 ≡ getD (x .pins-behind) s 0
+  pub behind-are : (s : ℕ) → s < n → y .pins-behind s ≡ x .pins-behind s
 
--- each row tells what it told before, or what x is
+-- each row tells what it told before, or what x is; nothing else is written
 pub record Remembered (memo memo′ : List ℕ) (n : ℕ) (x : Told) : Type 0 where
   pub long : length memo′ ≡ length memo
+  pub tracks : (i : ℕ) → i < tracksLength → getD memo′ i 0 ≡ getD memo i 0
   pub each : (j : ℕ) (y : Told) → Row memo′ n j y → Row memo n j y ⊎ SameUse n x y
 
 -- ---- what is recalled
 
-abbrev pub telling : Use → Cursor → ℕ → List ℕ → ℕ → List ℕ → Told
-telling u b table values table′ values′ =
-    record { of-use = u; cursor = b; table = table; pins = values; table-behind = table′; pins-behind = values′ }
+abbrev pub telling : Use → Cursor → ℕ → (ℕ → ℕ) → ℕ → (ℕ → ℕ) → Told
+telling u b table marks table′ pins =
+    record { of-use = u; cursor = b; table = table; marks = marks; table-behind = table′; pins-behind = pins }
 
--- the row there tells of the use u from this table and these pins
-pub record Finds (memo : List ℕ) (n : ℕ) (u : Use) (table : ℕ) (values : List ℕ) (r : Found) : Type 0 where
-  pub row : r .is ≡ true → (j : ℕ) × (r .at ≡ j * memoRow)
+-- the row there tells of the use u from this table
+pub record Finds (memo : List ℕ) (u : Use) (table : ℕ) (r : Found) : Type 0 where
+  pub row : r .is ≡ true → (j : ℕ) × (r .at ≡ rowAt j)
   pub room : r .is ≡ true → r .at + memoRow ≤ length memo
   pub noted : r .is ≡ true → Notes memo (r .at) u
-  pub before : r .is ≡ true → Pictures memo (r .at + beforeAt) n table values
+  pub before : r .is ≡ true → getD memo (r .at + beforeAt) 0 ≡ table
 
--- the pins are those behind the use of the row at o, and r has the cursor and the table there
-pub record Brings (memo : List ℕ) (n o : ℕ) (values values′ : List ℕ) (r : Recalled) : Type 0 where
+-- what the use of the row at o assigned is on the first n pins
+pub record Restores (memo : List ℕ) (o n : ℕ) (values values′ : List ℕ) : Type 0 where
   pub long : length values′ ≡ length values
   pub rows : (i : ℕ) → n ≤ i → getD values′ i 0 ≡ getD values i 0
+  pub put : (s : ℕ) → s < n → isMarked (marksFrom memo (o + beforeAt + 1) s) assignedMark ≡ true → getD values′ s 0 ≡ getD memo (o + behindAt + 1 + s) 0 % 256
+  pub kept : (s : ℕ) → s < n → isMarked (marksFrom memo (o + beforeAt + 1) s) assignedMark ≡ false → getD values′ s 0 ≡ getD values s 0
+
+-- and r has the cursor and the table behind it
+pub record Brings (memo : List ℕ) (n o : ℕ) (values values′ : List ℕ) (r : Recalled) : Type 0 where
+  pub restores : Restores memo o n values values′
   pub pointed : Points memo (o + pointsAt) (r .cursor)
-  pub behind : Pictures memo (o + behindAt) n (r .table) values′
+  pub table-is : getD memo (o + behindAt) 0 ≡ r .table

@@ -1,36 +1,59 @@
 -- Statements one after the other: playing the body is playing what is left of it, until its `}` or a cycle that fails.
 use Prim.Native.Nat.{ℕ, _<_}
 use native.Mathlib.Omega.{arith}
-use mathlib.Core.Path.{_≡_, refl, sym, _∙_}
+use mathlib.Core.Path.{_≡_, refl, sym, ap, _∙_, subst}
 use mathlib.Core.Bool.{Bool, true, false, _||_}
-use mathlib.Core.List.{List}
+use mathlib.Core.List.{List, []}
 use lib.ListN.{length, take}
 use Rattle.tokens.specs.Tokens.{Toks, left}
 use Rattle.meaning.specs.Body.{Args, Body, supplied}
-use Rattle.meaning.specs.Run.{State}
+use Rattle.meaning.specs.Run.{State, follow}
 use Rattle.meaning.specs.Statements.{Env}
 use Rattle.turns.specs.Few.{playFew}
 use Rattle.words.specs.Cursor.{alive, stream}
 use Rattle.words.specs.declared.Cursor.{Cursor}
 use Rattle.pins.specs.Shown.{tableOf}
 use Rattle.plays.specs.declared.Played.{Played}
-use Rattle.plays.specs.Plays.{Ground, Holding, Heads, Knows, Arrays, Standing, Kept, Plays, Fed, Ended, Onward, Steps, Resumed, Moves}
+use Rattle.plays.specs.Plays.{Ground, Holding, Heads, Knows, Arrays, Standing, Kept, Plays, Fed, Ended, Onward, Steps, Resumed, Moves, Below}
+use Rattle.memos.specs.Tracks.{Tracking}
+use Rattle.memos.proofs.Tracking.{follow-start, follow-assoc, follow-alike, tracking-none, tracking-then, tracking-same}
 use Rattle.plays.proofs.Fitting.{neither, fits-again}
 use Rattle.plays.proofs.Following.{failing-plays, alike-same, alike-then, told-alike}
 
-module _ {g : Ground} {more level table : ℕ} {x : Arrays} {E : Env} {us : Toks} {k t : ℕ} {b : Body} {s : State} {c : Cursor} where
+module _ {g : Ground} {memo₀ : List ℕ} {more level table : ℕ} {x : Arrays} {E : Env} {us : Toks} {k t : ℕ} {b : Body} {s : State} {c : Cursor} where
   -- nothing was played yet
-  pub going : alive c ≡ true → Standing g (stream (g .text) c) more level table x E b us s → Onward g more level table x E us k t b s c
-  going on st = record { rest = b; state = s; on = on; standing = st; same = alike-same refl }
+  pub going : alive c ≡ true → Standing g (stream (g .text) c) more level table x E b us s → Onward g memo₀ memo₀ more level table x E us k t b s c
+  going on st = record {
+    rest = b;
+    state = s;
+    on = on;
+    standing = st;
+    same = alike-same refl;
+    step = λ z. (z, []);
+    is = λ z. follow-start z (playFew k t b);
+    here = refl;
+    tracks = tracking-none;
+  }
 
-  module _ {y : Arrays} {r : Played} (o : Onward g more level table x E us k t b s c)
-      (h : Steps g (stream (g .text) c) more level y E us k t (o .rest) (o .state) r) where
+  module _ {memo memo′ : List ℕ} {y : Arrays} {r : Played} (long : length memo ≡ length memo₀) (o : Onward g memo₀ memo more level table x E us k t b s c)
+      (h : Steps g memo memo′ (stream (g .text) c) more level y E us k t (o .rest) (o .state) r) where
     -- one statement more
-    pub going-on : (r .failed || r .ends) ≡ false → Onward g more level (r .table) y E us k t b s (r .cursor)
+    pub going-on : (r .failed || r .ends) ≡ false → Onward g memo₀ memo′ more level (r .table) y E us k t b s (r .cursor)
+    unfolding follow
     going-on q =
         let i = neither (r .failed) (r .ends) q in
         let n = h .goes (i .0) (i .1) .0 in
-        record { rest = n .rest; state = n .state; on = n .on; standing = n .standing; same = alike-then (o .same) (n .same) }
+        record {
+          rest = n .rest;
+          state = n .state;
+          on = n .on;
+          standing = n .standing;
+          same = alike-then (o .same) (n .same);
+          step = λ z. follow (o .step z) (n .step);
+          is = λ z. o .is z ∙ follow-alike (o .step z) (playFew k t (o .rest)) (λ y. follow (n .step y) (playFew k t (n .rest))) (n .is) ∙ sym (follow-assoc (o .step z) (n .step) (playFew k t (n .rest)));
+          here = n .here ∙ ap (λ (z : State). n .step z .0) (o .here);
+          tracks = tracking-then (o .tracks) long (subst (λ (z : State). Tracking (E .tables) (g .signals) level memo memo′ z (n .step)) (o .here) (n .tracks));
+        }
 
     -- the last
     pub gone : (r .failed || r .ends) ≡ true → Plays g (E .tables) level y us r (playFew k t b s)
@@ -40,6 +63,12 @@ module _ {g : Ground} {more level table : ℕ} {x : Arrays} {E : Env} {us : Toks
         by true e w f q = failing-plays e (o .same .fails-same ∙ h .fails e)
         by false e true f q = let p = h .ended e f in record { told = told-alike (o .same) (p .told); behind = p .behind }
         by false e false f q = let z : _≡_ {A = ℕ} 0 1 = cc in absurd (omega arith)
+
+    pub gone-tracked : (r .failed || r .ends) ≡ true → r .failed ≡ false → Tracking (E .tables) (g .signals) level memo₀ memo′ s (playFew k t b)
+    gone-tracked q e =
+        let f : r .ends ≡ true = rw e at q in
+        tracking-same (λ z. sym (o .is z))
+        (tracking-then (o .tracks) long (subst (λ (z : State). Tracking (E .tables) (g .signals) level memo memo′ z (playFew k t (o .rest))) (o .here) (h .last e f)))
 
 -- ---- whatever the sums say
 
@@ -92,7 +121,8 @@ pub record Going (g : Ground) (marks sums memo₀ memo : List ℕ) (more level k
   pub kept : Kept level x₀ x
   pub resumes : (E : Env) (b : Body) (us : Toks) (s : State) → Standing g (stream (g .text) c₀) more level table₀ x₀ E b us s → Resumed g more level x E us (s .args) c
   pub onward : (E : Env) (b : Body) (us : Toks) (s : State) → Standing g (stream (g .text) c₀) more level table₀ x₀ E b us s → Knows g marks sums memo₀ E
-      → Onward g more level table x E us k t b s c
+      → Onward g memo₀ memo more level table x E us k t b s c
   pub memo-long : length memo ≡ length memo₀
+  pub below : Below level memo₀ memo
   pub heads : Heads g memo
   pub learnt : (E : Env) (b : Body) (us : Toks) (s : State) → Standing g (stream (g .text) c₀) more level table₀ x₀ E b us s → Knows g marks sums memo₀ E → Knows g marks sums memo E

@@ -3,6 +3,7 @@ pub mod Fitting
 pub mod Following
 pub mod Heading
 pub mod Keeping
+pub mod Tracks
 pub mod Stepping
 pub mod Shifting
 pub mod Turning
@@ -15,5 +16,6 @@ pub mod Running
 pub mod Texts
 pub mod Summing
 mod Settling
+mod Marks
 mod Passing
 mod Recalling

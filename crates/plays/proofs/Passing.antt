@@ -3,7 +3,8 @@ use Prim.Native.Nat.{ℕ, _+_, _*_, _<_, _≤_}
 use native.Mathlib.Omega.{arith}
 use mathlib.Core.Path.{_≡_, refl, sym, ap, _∙_}
 use mathlib.Core.Bool.{Bool, true, false, _||_}
-use mathlib.Core.Option.{none}
+use mathlib.Core.Option.{Option, none, some}
+use mathlib.Core.Logic.{_⊎_, inl, inr}
 use mathlib.Core.List.{List, [], _∷_, _++_}
 use lib.Dec.{leb, ltb}
 use lib.ListN.{length, getD, take, drop, replicate, length-replicate, getD-replicate}
@@ -11,7 +12,7 @@ use lib.Seq.{length-take-le, getD-take, ext-getD, drop-length}
 use borrow.Author.Tests.{leb-false, ltb-false}
 use Rattle.meaning.specs.Bounds.{signalsMost}
 use Rattle.meaning.specs.Timing.{Tables}
-use Rattle.meaning.specs.Body.{Body, argOf}
+use Rattle.meaning.specs.Body.{Args, Body, argOf}
 use Rattle.meaning.specs.Run.{State, unassigned, bare, entering, play}
 use Rattle.meaning.specs.Meaning.{firstFailing}
 use Rattle.meaning.proofs.Turns.{Good}
@@ -21,11 +22,14 @@ use Rattle.turns.proofs.Thinned.{thinning}
 use Rattle.turns.proofs.Decides.{few-left}
 use Rattle.measures.specs.Book.{bodies, firstProcedure}
 use Rattle.pins.specs.Shown.{tableOf, valuesLength, Shows}
-use Rattle.sums.specs.Sums.{Shown, before, argument, char, Sum, orTable, Stands, Leaves, Sums}
+use Rattle.sums.specs.Sums.{Shown, before, argument, char, Sum, okAt, orTable, Asks, Stands, Leaves, due, Sums}
 use Rattle.sums.specs.Parts.{Exact, lastOf}
 use Rattle.sums.proofs.Left.{last-at}
 use Rattle.tallies.specs.Rows.{rowSize, sumAt, Marked, leftOn, Grants, Holds}
-use Rattle.plays.specs.Plays.{Ground, Settles, Passing}
+use Rattle.memos.specs.Tracks.{isMarked, assignedMark, Granted as GrantedPin, Like, Lands, Tracked}
+use Rattle.memos.proofs.Tracking.{like-same}
+use Rattle.plays.proofs.Tracks.{pins-wide, procedure-tracked}
+use Rattle.plays.specs.Plays.{Ground, Settles, SumMarks, PassedMarks, Passing}
 use Rattle.plays.proofs.Fitting.{neither}
 use Rattle.plays.proofs.Summing.{usable, known-sum}
 use Rattle.plays.proofs.Entering.{kind-macro, kind-procedure}
@@ -71,6 +75,69 @@ module _ {tabs : Tables} {n t : ℕ} {b : Body} {S : Sum} {left : List ℕ} {s :
         let nothing : argOf i (play t b s .0 .args) ≡ [] = sums .used s i ∙ ap (λ (k : ℕ). drop k (argOf i (s .args))) (sym (exact .lengths i)) ∙ drop-length (argOf i (s .args)) in
         left-on (S .pin i) i s (play t b s .0) (l .pins-are i below) nothing ∙ sym (grants .pins-are i below) ∙ sym (here i below) ∙ sym (getD-take n values i 0 below)
 
+-- ---- and would have been from every state like it
+
+left-other : (x : Shown) (c d : ℕ) (l : List ℕ) → (x ≡ before → ⊥) → leftOn x c l ≡ leftOn x d l
+unfolding leftOn
+left-other before c d l h = absurd (h refl)
+left-other (char x) c d l h = refl
+left-other argument c d l h = refl
+
+stands-before : (x : Shown) (i : ℕ) (s s′ : State) → x ≡ before → Stands x i s s′ → getD (s′ .pins) i 0 ≡ getD (s .pins) i 0
+unfolding Stands
+stands-before x i s s′ e h = rw e at h
+
+module _ (table : ℕ) {tabs : Tables} {n t : ℕ} {b : Body} {S : Sum} {m : ℕ → ℕ} {s : State} (sums : Sums tabs n t b S) (exact : Exact t b (s .args)) (wide : length (s .pins) ≡ n)
+    (table-is : s .table ≡ tableOf table) (asks : Asks tabs n S s) (marks : (j : ℕ) → j < n → SumMarks S (tableOf table) j (m j)) where
+  shown-like : (z : State) → Like tabs n m s z → (i : ℕ) (u : Option ℕ) → i < n → S .under i u ≡ true → okAt tabs (orTable u (z .table)) i (getD (z .pins) i 0) ≡ true
+  unfolding okAt
+  shown-like z q i u l e = rw (q .table-same) (by (q .pins-are i l) (orTable u (s .table)) refl (asks .shown i u l e))
+    where
+      by : (getD (z .pins) i 0 ≡ getD (s .pins) i 0) ⊎ GrantedPin tabs (m i) i (getD (z .pins) i 0) → (k : Option ℕ) → orTable u (s .table) ≡ k
+          → okAt tabs (orTable u (s .table)) i (getD (s .pins) i 0) ≡ true → okAt tabs (orTable u (s .table)) i (getD (z .pins) i 0) ≡ true
+      by (inl p) k r h = rw p h
+      by (inr p) none r h = let w : false ≡ true = rw r at h in let y : _≡_ {A = ℕ} 0 1 = cc in absurd (omega arith)
+      by (inr p) (some k) r h = let x = marks i l .shown u k e (ap (orTable u) (sym table-is) ∙ r) in rw r (p .each k (x .0) (x .1))
+
+  asks-like : (z : State) → Like tabs n m s z → Asks tabs n S z
+  asks-like z q = record {
+    good = asks .good;
+    tabled = λ e. (let x = asks .tabled e in (x .0, q .table-same ∙ x .1, x .2));
+    shown = shown-like z q;
+    fed = λ i u l e c h. rw (q .table-same) (asks .fed i u l e c (rw (q .args-same) at h));
+  }
+
+  played-like : (z : State) → Like tabs n m s z → (firstFailing tabs (play t b z .1) ≡ none) × Leaves n S z (play t b z .0)
+  played-like z q = sums .each z (q .wide) (λ i. omega (arith, exact .lengths i, ap (λ (a : Args). length (argOf i a)) (q .args-same))) (asks-like z q)
+
+  pin-like : (z : State) → Like tabs n m s z → (i : ℕ) → i < n → getD (play t b z .0 .pins) i 0 ≡ leftOn (S .pin i) (getD (z .pins) i 0) (argOf i (s .args))
+  pin-like z q i l =
+      let same = ap (argOf i) (q .args-same) in
+      let nothing : argOf i (play t b z .0 .args) ≡ [] =
+      sums .used z i ∙ ap (drop (due t b i)) same ∙ ap (λ (k : ℕ). drop k (argOf i (s .args))) (sym (exact .lengths i)) ∙ drop-length (argOf i (s .args)) in
+      left-on (S .pin i) i z (play t b z .0) (played-like z q .1 .pins-are i l) nothing ∙ ap (leftOn (S .pin i) (getD (z .pins) i 0)) same
+
+  module _ (good : Good b) (k : ℕ) where
+    pin-few : (z : State) → Like tabs n m s z → (i : ℕ) → i < n → getD (playFew k t b z .0 .pins) i 0 ≡ leftOn (S .pin i) (getD (z .pins) i 0) (argOf i (s .args))
+    pin-few z q i l = ap (λ (x : State). getD (x .pins) i 0) (few-left t b good z k) ∙ pin-like z q i l
+
+    table-few : (z : State) → Like tabs n m s z → playFew k t b z .0 .table ≡ orTable (S .table) (s .table)
+    table-few z q = ap (λ (x : State). x .table) (few-left t b good z k) ∙ played-like z q .1 .table-is ∙ ap (orTable (S .table)) (q .table-same)
+
+    -- all but the arguments, which its caller has back
+    pub passed-like : (z : State) → Like tabs n m s z → (firstFailing tabs (playFew k t b z .1) ≡ none) × (length (playFew k t b z .0 .pins) ≡ n)
+        × (playFew k t b z .0 .table ≡ playFew k t b s .0 .table)
+        × ((i : ℕ) → i < n → isMarked (m i) assignedMark ≡ true → getD (playFew k t b z .0 .pins) i 0 ≡ getD (playFew k t b s .0 .pins) i 0)
+        × ((i : ℕ) → i < n → isMarked (m i) assignedMark ≡ false → getD (playFew k t b z .0 .pins) i 0 ≡ getD (z .pins) i 0)
+    unfolding leftOn
+    passed-like z q = (
+      few-none tabs k t b good z (played-like z q .0),
+      ap (λ (x : State). length (x .pins)) (few-left t b good z k) ∙ played-like z q .1 .wide,
+      table-few z q ∙ sym (table-few s (like-same wide)),
+      λ i l e. pin-few z q i l ∙ left-other (S .pin i) (getD (z .pins) i 0) (getD (s .pins) i 0) (argOf i (s .args)) (marks i l .put e) ∙ sym (pin-few s (like-same wide) i l),
+      λ i l e. pin-few z q i l ∙ ap (λ (x : Shown). leftOn x (getD (z .pins) i 0) (argOf i (s .args))) (marks i l .kept e),
+    )
+
 -- ---- what is promised of it
 
 -- its mark and its row are there
@@ -88,10 +155,6 @@ zeros-front n m h =
     let below : i < n = omega arith in
     getD-take {A = ℕ} n (replicate m 0) i 0 below ∙ getD-replicate {A = ℕ} m i 0 0 (omega arith) ∙ sym (getD-replicate {A = ℕ} n i 0 0 below)
 
-pins-long : {text : List ℕ} {n : ℕ} {values : List ℕ} {table : ℕ} {feeds : List ℕ} {level : ℕ} {s : State} → Shows text n values table feeds level s → n ≤ length values
-    → length (s .pins) ≡ n
-pins-long {n = n} {values = values} h long = ap length (h .pins-are) ∙ length-take-le n values long
-
 -- the state that begins with these pins grants what the sum of the body of number i asks
 abbrev pub Granted : Ground → (sums : List ℕ) (i table : ℕ) (given args pins left : List ℕ) → Type 0
 Granted g sums i table given args pins left =
@@ -100,9 +163,19 @@ Granted g sums i table given args pins left =
 module _ {g : Ground} {marks sums : List ℕ} {i t table : ℕ} {given args values : List ℕ} where
   -- nothing was done
   pub stays : {k : ℕ} → Passing g marks sums i t table given args values values (record { done = false; table = k })
-  stays = record { long = refl; rows = λ j h. refl; untouched = λ e. refl; told = λ e. (let z : _≡_ {A = ℕ} 0 1 = cc in absurd (omega arith)) }
+  stays = record {
+    long = refl;
+    rows = λ j h. refl;
+    untouched = λ e. refl;
+    room = λ e. absurd (never e);
+    told = λ e. absurd (never e);
+    tracks = λ e. absurd (never e);
+  }
+    where
+      never : false ≡ true → ⊥
+      never e = let z : _≡_ {A = ℕ} 0 1 = cc in omega arith
 
-  module _ (usable-is : usable marks i t ≡ true) (few : g .signals ≤ signalsMost) (long : length values ≡ valuesLength) where
+  module _ (usable-is : usable marks i t ≡ true) (few : g .signals ≤ signalsMost) (long : length values ≡ valuesLength) (there : i * rowSize + rowSize ≤ length sums) where
     pub passes-macro : {left values′ : List ℕ} {k : ℕ} → i < firstProcedure → Granted g sums i table given args values left → Settles (g .signals) left values values′
         → tableOf k ≡ orTable (sumAt sums i .table) (tableOf table) → Passing g marks sums i t table given args values values′ (record { done = true; table = k })
     unfolding entering
@@ -110,12 +183,25 @@ module _ {g : Ground} {marks sums : List ℕ} {i t table : ℕ} {given args valu
       long = settles .long;
       rows = λ j h. settles .else j (omega arith);
       untouched = λ e. (let z : _≡_ {A = ℕ} 0 1 = cc in absurd (omega arith));
+      room = λ e. there;
+      tracks = λ e E b us a s feeds level few-turns m c shows marked. (
+          let known = known-sum i t b us (c .summed) (omega arith) (c .holds) (c .exact) usable-is in
+          let s′ : State = record { pins = s .pins; table = s .table; args = a } in
+          let holds : Holds (g .text) values given args (g .signals) table s′ = record { pins-are = shows .pins-are; table-is = shows .table-is; args-are = c .supplied } in
+          let grants = granted (E .tables) s′ (g .text, g .tplaces, g .known .tables, c .held) holds in
+          let wide = pins-wide shows (omega arith) in
+          rw (kind-macro i is-macro) (record {
+            each = λ z q. (
+                let r = passed-like table (known .0) (known .1) wide (shows .table-is) (grants .asks) (λ j l. marked j l .in-place is-macro) (c .good) few-turns
+                (record { pins = z .pins; table = z .table; args = a }) (record { wide = q .wide; table-same = q .table-same; args-same = refl; pins-are = q .pins-are }) in
+                (r .0, record { wide = r .1; table-same = r .2; args-same = q .args-same; put = r .3; kept = r .4 }));
+          }));
       told = λ e E b us a s feeds level few-turns p c shows. (
           let known = known-sum i t b us (c .summed) (omega arith) (c .holds) (c .exact) usable-is in
           let holds : Holds (g .text) values given args (g .signals) table (record { pins = s .pins; table = s .table; args = a }) =
           record { pins-are = shows .pins-are; table-is = shows .table-is; args-are = c .supplied } in
           let grants = granted (E .tables) (record { pins = s .pins; table = s .table; args = a }) (g .text, g .tplaces, g .known .tables, c .held) holds in
-          let wide = pins-long shows (omega arith) in
+          let wide = pins-wide shows (omega arith) in
           rw (kind-macro i is-macro) (record {
             fails = λ q. (let z : _≡_ {A = ℕ} 0 1 = cc in absurd (omega arith));
             sound = λ q. passed-none (known .0) (known .1) wide grants (c .good) few-turns;
@@ -135,9 +221,19 @@ module _ {g : Ground} {marks sums : List ℕ} {i t table : ℕ} {given args valu
       long = refl;
       rows = λ j h. refl;
       untouched = λ e. refl;
+      room = λ e. there;
+      tracks = λ e E b us a s feeds level few-turns m c shows marked. (
+          let known = known-sum i t b us (c .summed) declared (c .holds) (c .exact) usable-is in
+          let wide = pins-wide shows (omega arith) in
+          let s′ : State = record { pins = bare (s .pins); table = s .table; args = a } in
+          let holds : Holds (g .text) (replicate signalsMost 0) given args (g .signals) table s′ =
+          record { pins-are = ap (λ (n : ℕ). replicate n unassigned) wide ∙ sym (zeros-front (g .signals) signalsMost few); table-is = shows .table-is; args-are = c .supplied } in
+          let grants = granted e (E .tables) s′ (g .text, g .tplaces, g .known .tables, c .held) holds in
+          rw (kind-procedure i is-procedure) (procedure-tracked a (playFew few-turns t b) wide (λ j l. marked j l .comes-back is-procedure)
+          (passed-none (known .0) (known .1) (length-replicate (length (s .pins)) unassigned ∙ wide) grants (c .good) few-turns)));
       told = λ e E b us a s feeds level few-turns p c shows. (
           let known = known-sum i t b us (c .summed) declared (c .holds) (c .exact) usable-is in
-          let wide = pins-long shows (omega arith) in
+          let wide = pins-wide shows (omega arith) in
           let holds : Holds (g .text) (replicate signalsMost 0) given args (g .signals) table (record { pins = bare (s .pins); table = s .table; args = a }) =
           record { pins-are = ap (λ (n : ℕ). replicate n unassigned) wide ∙ sym (zeros-front (g .signals) signalsMost few); table-is = shows .table-is; args-are = c .supplied } in
           let grants = granted e (E .tables) (record { pins = bare (s .pins); table = s .table; args = a }) (g .text, g .tplaces, g .known .tables, c .held) holds in

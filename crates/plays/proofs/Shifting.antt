@@ -1,5 +1,11 @@
 -- A Shift: its one V, again and again, and its `}`.
-use Prim.Native.Nat.{ℕ}
+use Prim.Native.Nat.{ℕ, zero, suc, _<_, _≤_}
+use mathlib.Core.Option.{none}
+use lib.ListN.{length, getD}
+use Rattle.meaning.specs.Bounds.{signalsMost}
+use Rattle.meaning.specs.Meaning.{firstFailing}
+use Rattle.memos.specs.Tracks.{Joins, shownMarks, tracksLength, marksAt, Tracking}
+use Rattle.memos.proofs.Tracking.{tracking-none, tracking-joined}
 use native.Mathlib.Omega.{arith}
 use mathlib.Core.Path.{_≡_, refl, sym, _∙_, subst}
 use mathlib.Core.Bool.{Bool, true, false}
@@ -23,7 +29,8 @@ use Rattle.measures.specs.Uses.{Given}
 use Rattle.heads.specs.declared.What.{What}
 use Rattle.heads.specs.declared.What.the-variants.{Ends, Vector, Assigns as AssignsOnly, Chooses, Loops, Shifts, Uses as UsesBody}
 use Rattle.heads.specs.Heads.{Tells}
-use Rattle.pins.specs.Shown.{Playable, Told, vector}
+use Rattle.pins.specs.Shown.{tableOf, Playable, Told, vector}
+use Rattle.plays.proofs.Tracks.{turns-tracked}
 use Rattle.plays.specs.Plays.{Ground, Arrays, Showing, Standing, Plays}
 use Rattle.plays.proofs.Heading.{went, head-token, vector-place, end-due, fine-head}
 use Rattle.plays.proofs.Stepping.{vec-playable}
@@ -46,6 +53,10 @@ token-at text c t vs e = by (ltb (c .at) (c .end)) refl
     by : (b : Bool) → ltb (c .at) (c .end) ≡ b → c .at ≡ t .at
     by true q = let z = sym (stream-on text c q) ∙ e in cc
     by false q = let z = sym (stream-stop text c q) ∙ e in let w : _≡_ {A = ℕ} 0 1 = cc in absurd (omega arith)
+
+silent : {tabs : Tables} {n level : ℕ} {memo : List ℕ} (s : State) (p : ℕ) (a : Assigns) → Tracking tabs n level memo memo s (again 0 (vector p a))
+unfolding again
+silent s p a = tracking-none
 
 module _ {g : Ground} {c r d : Cursor} {more level table : ℕ} {x y : Arrays} {E : Env} {us : Toks} {s : State} {p : ℕ} {a : Assigns} (k t : ℕ) (given args : List ℕ) (what : What) {f : Bool}
   where
@@ -70,3 +81,28 @@ module _ {g : Ground} {c r d : Cursor} {more level table : ℕ} {x y : Arrays} {
           told = rw at (told a s (g .tplaces) (g .known .tables) p (E .tables) (st .holding .held) gave (vec-playable fine (st .fits)) (st .shows));
           behind = λ e. (v .on, v .there);
         }
+
+-- what its V gives
+pub shift-given : {g : Ground} {c r : Cursor} {more level table : ℕ} {x : Arrays} {E : Env} {us : Toks} {s : State} {p : ℕ} {a : Assigns} (given args : List ℕ) (what : What)
+    → Standing g (stream (g .text) c) more level table x E (vec p a done) us s → alive c ≡ true
+    → Makes (g .text) c (freeHead E) r (Tells (g .text) (g .book) (g .rows) given args (g .known .tables) what) → Given a given
+unfolding Holds
+shift-given {g} {p = p} {a = a} given args what st on m =
+    let h = st .holds in
+    let w = went (m .goes) on (h .1) in
+    tells-given (g .text) (g .book) (g .rows) given args (g .known .tables) what p a
+    (subst (λ (z : Head). Tells (g .text) (g .book) (g .rows) given args (g .known .tables) what z) (w .answer) (m .held (w .on)))
+
+-- what it shows and assigns is tracked
+pub shift-tracked : {tabs : Tables} {n level : ℕ} {memo memo′ : List ℕ} {a : Assigns} {given : List ℕ} {s : State} (k t p table : ℕ) → Given a given → n ≤ signalsMost → length (s .pins) ≡ n
+    → s .table ≡ tableOf table → firstFailing tabs (again t (playFew k t (vec p a done)) s .1) ≡ none → (t ≡ 0 → memo′ ≡ memo)
+    → (0 < level → tracksLength ≤ length memo → 0 < t → (j : ℕ) → j < n → Joins (marksAt memo level j) (shownMarks (getD given j 0) table) (marksAt memo′ level j))
+    → Tracking tabs n level memo memo′ s (again t (playFew k t (vec p a done)))
+unfolding playFew follow
+shift-tracked {tabs} {n} {level} {memo} {memo′} {a} {given} {s} k t p table gave few wide chosen sound same joins = by t sound same joins
+  where
+    by : (t : ℕ) → firstFailing tabs (again t (vector p a) s .1) ≡ none → (t ≡ 0 → memo′ ≡ memo)
+        → (0 < level → tracksLength ≤ length memo → 0 < t → (j : ℕ) → j < n → Joins (marksAt memo level j) (shownMarks (getD given j 0) table) (marksAt memo′ level j))
+        → Tracking tabs n level memo memo′ s (again t (vector p a))
+    by zero sound same joins = rw (same refl) (silent s p a)
+    by (suc t) sound same joins = tracking-joined (λ some room. (turns-tracked gave few t p table s wide chosen sound, joins some room (omega arith)))

@@ -4,6 +4,13 @@ use native.Mathlib.Omega.{arith}
 use mathlib.Core.Path.{_≡_, refl, sym, ap, _∙_, subst}
 use mathlib.Core.Bool.{Bool, true, false, _||_}
 use mathlib.Core.List.{List, []}
+use lib.ListN.{length, getD, take}
+use lib.Seq.{length-take-le}
+use Rattle.meaning.specs.Bounds.{signalsMost, tablesMost}
+use Rattle.memos.specs.Tracks.{Joins, shownMarks, tracksLength, marksAt, Tracking}
+use Rattle.memos.proofs.Marking.{joins-zero}
+use Rattle.memos.proofs.Tracking.{tracking-same, tracking-none, tracking-joined}
+use Rattle.plays.proofs.Tracks.{assigns-tracked, vector-tracked, chosen-tracked, pins-wide}
 use lib.Dec.{eqb, ltb}
 use borrow.Author.Tests.{lt-ltb, eqb-true}
 use Rattle.tokens.specs.Tokens.{Toks, toks, left}
@@ -41,30 +48,38 @@ use Rattle.plays.proofs.Heading.{holds-less, Met, met, met-split, met-f
 
 -- ---- from the first statement to the rest
 
-module _ {g : Ground} {ts : Toks} {more level : ℕ} {y : Arrays} {E : Env} {us : Toks} {k t : ℕ} {b : Body} {s : State} {r : Played} where
-  -- behind the first statement, whose play is p, `rest` is held
-  pub steps-on : (p : Play) (rest : Body) → playFew k t b s ≡ follow p (playFew k t rest) → Holding g E → Fits more level (p .0 .args) rest → r .ends ≡ false
-      → Telling g (E .tables) level y r p
+module _ {g : Ground} {memo memo′ : List ℕ} {ts : Toks} {more level : ℕ} {y : Arrays} {E : Env} {us : Toks} {k t : ℕ} {b : Body} {s : State} {r : Played} where
+  -- behind the first statement, which is played by `step`, `rest` is held
+  pub steps-on : (step : State → Play) (rest : Body) → ((z : State) → playFew k t b z ≡ follow (step z) (playFew k t rest)) → Holding g E → Fits more level (step s .0 .args) rest → r .ends ≡ false
+      → Telling g (E .tables) level y r (step s) → (r .failed ≡ false → Tracking (E .tables) (g .signals) level memo memo′ s step)
       → (r .failed ≡ false → (alive (r .cursor) ≡ true) × Holds E (stream (g .text) (r .cursor)) rest us × (left (stream (g .text) (r .cursor)) < left ts))
-      → Steps g ts more level y E us k t b s r
-  steps-on p rest is holding fits more-comes told on = record {
-    fails = λ h. ap (λ (q : Play). firstFailing (E .tables) (q .1)) is ∙ first-fails (E .tables) p (playFew k t rest) (told .fails h);
-    ended = λ h q. (let z : true ≡ false = sym q ∙ more-comes in let w : _≡_ {A = ℕ} 0 1 = cc in absurd (omega arith));
+      → Steps g memo memo′ ts more level y E us k t b s r
+  steps-on step rest is holding fits more-comes told tracked on = record {
+    fails = λ h. ap (λ (q : Play). firstFailing (E .tables) (q .1)) (is s) ∙ first-fails (E .tables) (step s) (playFew k t rest) (told .fails h);
+    ended = λ h q. absurd (goes-on q);
+    last = λ h q. absurd (goes-on q);
     goes = λ h q. (
       record {
         rest = rest;
-        state = p .0;
+        state = step s .0;
         on = on h .0;
         standing = record { holding = holding; holds = on h .1; fits = fits; shows = told .shows h };
-        same = alike-then (alike-same is) (second-alike (E .tables) p (playFew k t rest) (told .sound h));
+        same = alike-then (alike-same (is s)) (second-alike (E .tables) (step s) (playFew k t rest) (told .sound h));
+        step = step;
+        is = is;
+        here = refl;
+        tracks = tracked h;
       },
       on h .2,
     );
   }
+    where
+      goes-on : r .ends ≡ true → ⊥
+      goes-on q = let z : true ≡ false = sym q ∙ more-comes in let w : _≡_ {A = ℕ} 0 1 = cc in omega arith
 
 -- what holds of the arguments whatever the sums say
-pub steps-moves : {g : Ground} {ts : Toks} {more level : ℕ} {y : Arrays} {E : Env} {us : Toks} {k t : ℕ} {b : Body} {s : State} {r : Played}
-    → Steps g ts more level y E us k t b s r → Moves g ts more level y E us (s .args) r
+pub steps-moves : {g : Ground} {memo memo′ : List ℕ} {ts : Toks} {more level : ℕ} {y : Arrays} {E : Env} {us : Toks} {k t : ℕ} {b : Body} {s : State} {r : Played}
+    → Steps g memo memo′ ts more level y E us k t b s r → Moves g ts more level y E us (s .args) r
 steps-moves {k = k} {t = t} {b = b} {s = s} h = record {
   ended = λ e f. (
       let p = h .ended e f in
@@ -127,8 +142,8 @@ module _ {g : Ground} {c r : Cursor} {more level table : ℕ} {x : Arrays} {E : 
   pub meets : (w : What) → what ≡ w → Meets w
   meets w q = subst Meets q (met (st .holding .tidy) (st .holds) on m)
 
-  module _ {y : Arrays} {k t : ℕ} where
-    pub ends-step : what ≡ Ends → Showing g level table y s → Steps g (stream (g .text) c) more level y E us k t b s (record { cursor = r; failed = false; place = 0; table = table; ends = true })
+  module _ {memo : List ℕ} {y : Arrays} {k t : ℕ} where
+    pub ends-step : what ≡ Ends → Showing g level table y s → Steps g memo memo (stream (g .text) c) more level y E us k t b s (record { cursor = r; failed = false; place = 0; table = table; ends = true })
     unfolding Tells playFew
     ends-step q h =
         let i = meets Ends q in
@@ -136,45 +151,55 @@ module _ {g : Ground} {c r : Cursor} {more level table : ℕ} {x : Arrays} {E : 
         record {
           fails = λ e. (let z : _≡_ {A = ℕ} 0 1 = cc in absurd (omega arith));
           ended = λ e f. record { told = rw (d .0) (told-none h); behind = λ e. (i .on, d .1) };
+          last = λ e f. tracking-same (λ z. sym (ap (λ (q : Body). playFew k t q z) (d .0))) tracking-none;
           goes = λ e f. (let z : _≡_ {A = ℕ} 0 1 = cc in absurd (omega arith));
         }
 
-    pub vector-step : {f : Bool} (p : ℕ) → what ≡ Vector p
-        → ((a : Assigns) (s : State) (tplaces : List ℕ) (tables p : ℕ) (tabs : Tables) → Held (g .text) tplaces (g .waves) tables tabs → Given a given
-        → Playable (g .signals) a (s .args) → Showing g level table x s → Told tabs (g .text) (g .signals) (y .values) table (y .feeds) level f p (again 1 (vector p a) s))
-        → Steps g (stream (g .text) c) more level y E us k t b s (record { cursor = r; failed = f; place = p; table = table; ends = false })
-    unfolding Tells playFew
-    vector-step p q told =
-        let i = meets (Vector p) q in
-        let a = i .told .0 in
-        let d = met-split i (vecs p a) (i .told .1) in
-        let fits : Fits more level (s .args) (vec p a (d .0)) = rw (d .1) at (st .fits) in
-        steps-on (vector p a s) (d .0) (ap (λ (z : Body). playFew k t z s) (d .1)) (st .holding) (fits-behind-vec (same-puts a s) fits) refl
-        (rw (once p a s) at (told a s (g .tplaces) (g .known .tables) p (E .tables) (st .holding .held) (i .told .2) (vec-playable (met-fine i (vecs p a) (i .told .1)) fits) (st .shows)))
-        λ h. (i .on, d .2, met-less i)
-
-    pub assigns-step : what ≡ AssignsOnly
-        → ((a : Assigns) (s : State) (table : ℕ) → Given a given → Playable (g .signals) a (s .args) → Showing g level table x s → Showing g level table y (puts a s))
-        → Steps g (stream (g .text) c) more level y E us k t b s (record { cursor = r; failed = false; place = 0; table = table; ends = false })
-    unfolding Tells playFew changed follow
-    assigns-step q shown =
-        let i = meets AssignsOnly q in
-        let a = i .told .0 in
-        let e = i .told .1 in
-        let d = met-split i (sets (assigning a)) e in
-        let f = met-fine i (sets (assigning a)) e in
-        steps-on (puts a s, []) (d .0) (ap (λ (z : Body). playFew k t z s) (d .1)) (st .holding) (fits-behind-set (same-puts a s) (rw (d .1) at (st .fits))) refl
-        (told-none (shown a s table (i .told .2) (set-playable (f .0) (f .1)) (st .shows)))
-        λ h. (i .on, d .2, met-less i)
-
-    pub chooses-step : (n : ℕ) → what ≡ Chooses n → Showing g level table y s → Steps g (stream (g .text) c) more level y E us k t b s (record { cursor = r; failed = false; place = 0; table = n; ends = false })
+    pub chooses-step : (n : ℕ) → what ≡ Chooses n → Showing g level table y s
+        → Steps g memo memo (stream (g .text) c) more level y E us k t b s (record { cursor = r; failed = false; place = 0; table = n; ends = false })
     unfolding Tells playFew changed follow tableOf
     chooses-step n q shown =
         let i = meets (Chooses n) q in
         let d = met-split i (sets (choosing n)) (i .told .0) in
         let l : ltb n 8 ≡ true = lt-ltb n 8 (omega (arith, i .told .1, st .holding .describes .few-tables)) in
-        steps-on (changed (choosing n) s, []) (d .0) (ap (λ (z : Body). playFew k t z s) (d .1)) (st .holding) (fits-behind-set (same-changed (choosing n) s) (rw (d .1) at (st .fits))) refl
+        steps-on (λ z. (changed (choosing n) z, [])) (d .0) (λ z. ap (λ (q : Body). playFew k t q z) (d .1)) (st .holding) (fits-behind-set (same-changed (choosing n) s) (rw (d .1) at (st .fits))) refl
         (told-none (record { pins-are = shown .pins-are; table-is = rw (l, tableOf); args-are = shown .args-are }))
+        (λ h. tracking-joined (λ some room. (chosen-tracked n, λ j l. joins-zero _ 0 refl)))
+        λ h. (i .on, d .2, met-less i)
+
+  -- what the assignments of a V or C mark was joined to what was tracked, under this table
+  abbrev pub Marking : (memo memo′ : List ℕ) → ℕ → Type 0
+  Marking memo memo′ table = 0 < level → tracksLength ≤ length memo → (j : ℕ) → j < g .signals → Joins (marksAt memo level j) (shownMarks (getD given j 0) table) (marksAt memo′ level j)
+
+  module _ {memo memo′ : List ℕ} {y : Arrays} {k t : ℕ} (few : g .signals ≤ signalsMost) (wide : g .signals ≤ length (x .values)) where
+    pub vector-step : {f : Bool} (p : ℕ) → what ≡ Vector p → Marking memo memo′ table
+        → ((a : Assigns) (s : State) (tplaces : List ℕ) (tables p : ℕ) (tabs : Tables) → Held (g .text) tplaces (g .waves) tables tabs → Given a given
+        → Playable (g .signals) a (s .args) → Showing g level table x s → Told tabs (g .text) (g .signals) (y .values) table (y .feeds) level f p (again 1 (vector p a) s))
+        → Steps g memo memo′ (stream (g .text) c) more level y E us k t b s (record { cursor = r; failed = f; place = p; table = table; ends = false })
+    unfolding Tells playFew
+    vector-step p q joins told =
+        let i = meets (Vector p) q in
+        let a = i .told .0 in
+        let d = met-split i (vecs p a) (i .told .1) in
+        let fits : Fits more level (s .args) (vec p a (d .0)) = rw (d .1) at (st .fits) in
+        let once-told = rw (once p a s) at (told a s (g .tplaces) (g .known .tables) p (E .tables) (st .holding .held) (i .told .2) (vec-playable (met-fine i (vecs p a) (i .told .1)) fits) (st .shows)) in
+        steps-on (vector p a) (d .0) (λ z. ap (λ (q : Body). playFew k t q z) (d .1)) (st .holding) (fits-behind-vec (same-puts a s) fits) refl once-told
+        (λ h. tracking-joined (λ some room. (vector-tracked (i .told .2) few table p (pins-wide (st .shows) wide) (st .shows .table-is) (once-told .sound h), joins some room)))
+        λ h. (i .on, d .2, met-less i)
+
+    pub assigns-step : what ≡ AssignsOnly → Marking memo memo′ tablesMost
+        → ((a : Assigns) (s : State) (table : ℕ) → Given a given → Playable (g .signals) a (s .args) → Showing g level table x s → Showing g level table y (puts a s))
+        → Steps g memo memo′ (stream (g .text) c) more level y E us k t b s (record { cursor = r; failed = false; place = 0; table = table; ends = false })
+    unfolding Tells playFew changed follow
+    assigns-step q joins shown =
+        let i = meets AssignsOnly q in
+        let a = i .told .0 in
+        let e = i .told .1 in
+        let d = met-split i (sets (assigning a)) e in
+        let f = met-fine i (sets (assigning a)) e in
+        steps-on (λ z. (puts a z, [])) (d .0) (λ z. ap (λ (q : Body). playFew k t q z) (d .1)) (st .holding) (fits-behind-set (same-puts a s) (rw (d .1) at (st .fits))) refl
+        (told-none (shown a s table (i .told .2) (set-playable (f .0) (f .1)) (st .shows)))
+        (λ h. tracking-joined (λ some room. (assigns-tracked (i .told .2) few tablesMost (pins-wide (st .shows) wide), joins some room)))
         λ h. (i .on, d .2, met-less i)
 
 -- ---- heads with a body in them
@@ -286,14 +311,15 @@ unfolding Single
 one-vector i = i .fits .single .0
 
 -- what the body of a Loop or a Shift played, and then the rest
-inside-step : {g : Ground} {c r : Cursor} {more level : ℕ} {y : Arrays} {E : Env} {b : Body} {us : Toks} {s : State} {w : Way} {k t : ℕ} {z : Played} → Holding g E
+inside-step : {g : Ground} {memo memo′ : List ℕ} {c r : Cursor} {more level : ℕ} {y : Arrays} {E : Env} {b : Body} {us : Toks} {s : State} {w : Way} {k t : ℕ} {z : Played} → Holding g E
     → (i : Inside g c r more level E b us s w) → z .ends ≡ false
     → Plays g (E .tables) level y (i .between) z (playingFew k t w (λ j. playFew j (shiftOf t w) (i .body)) s)
-    → Steps g (stream (g .text) c) more level y E us k t b s z
+    → (z .failed ≡ false → Tracking (E .tables) (g .signals) level memo memo′ s (playingFew k t w (λ j. playFew j (shiftOf t w) (i .body))))
+    → Steps g memo memo′ (stream (g .text) c) more level y E us k t b s z
 unfolding playFew
-inside-step {s = s} {w = w} {k = k} {t = t} holding i more-comes p =
-    steps-on _ (i .rest) (ap (λ (q : Body). playFew k t q s) (i .is)) holding
-    (fits-behind-inner (same-playing k t w (λ j. playFew j (shiftOf t w) (i .body)) (λ j. same-play j (shiftOf t w) (i .body)) s) (i .fits)) more-comes (p .told)
+inside-step {s = s} {w = w} {k = k} {t = t} holding i more-comes p tracked =
+    steps-on (playingFew k t w (λ j. playFew j (shiftOf t w) (i .body))) (i .rest) (λ z. ap (λ (q : Body). playFew k t q z) (i .is)) holding
+    (fits-behind-inner (same-playing k t w (λ j. playFew j (shiftOf t w) (i .body)) (λ j. same-play j (shiftOf t w) (i .body)) s) (i .fits)) more-comes (p .told) tracked
     λ h. let q = p .behind h in (q .0, rw (q .1) (i .behind), rw (q .1) (i .less))
 
 -- a body that was gone through, and the rest behind it
@@ -341,14 +367,16 @@ module _ {g : Ground} {c r : Cursor} {more level table : ℕ} {x : Arrays} {E : 
         goes = λ e f. (record { rest = u .rest; on = on; holds = u .behind; fits = fits-behind-inner refl (u .fits); fed = record { rest = s .args; same = refl; feeding = fed } }, reused-less);
       }
 
-  pub reused-step : {y : Arrays} (z : Played) (k t : ℕ) → Telling g (E .tables) level y z (entering (reused .kind) (reused .arguments) (playFew k (reused .turns) (reused .decl .body)) s)
-      → Steps g (stream (g .text) c) more level y E us k t b s (record { cursor = r; failed = z .failed; place = z .place; table = z .table; ends = false })
+  pub reused-step : {memo memo′ : List ℕ} {y : Arrays} (z : Played) (k t : ℕ)
+      → Telling g (E .tables) level y z (entering (reused .kind) (reused .arguments) (playFew k (reused .turns) (reused .decl .body)) s)
+      → (z .failed ≡ false → Tracking (E .tables) (g .signals) level memo memo′ s (entering (reused .kind) (reused .arguments) (playFew k (reused .turns) (reused .decl .body))))
+      → Steps g memo memo′ (stream (g .text) c) more level y E us k t b s (record { cursor = r; failed = z .failed; place = z .place; table = z .table; ends = false })
   unfolding playFew playingFew shiftOf
-  reused-step z k t p =
+  reused-step z k t p tracked =
       let u = reused in
       let w = entered (u .kind) (u .turns) (u .arguments) in
-      steps-on _ (u .rest) (ap (λ (q : Body). playFew k t q s) (u .is)) (st .holding)
-      (fits-behind-inner (same-playing k t w (λ j. playFew j (u .turns) (u .decl .body)) (λ j. same-play j (u .turns) (u .decl .body)) s) (u .fits)) refl p
+      steps-on (entering (u .kind) (u .arguments) (playFew k (u .turns) (u .decl .body))) (u .rest) (λ z. ap (λ (q : Body). playFew k t q z) (u .is)) (st .holding)
+      (fits-behind-inner (same-playing k t w (λ j. playFew j (u .turns) (u .decl .body)) (λ j. same-play j (u .turns) (u .decl .body)) s) (u .fits)) refl p tracked
       λ h. (on, u .behind, reused-less)
 
 -- where the sums are known, a used body may be passed
@@ -384,20 +412,24 @@ module _ {g : Ground} {c r : Cursor} {more level table : ℕ} {x y : Arrays} {E 
       pub loop-standing : Showing g level table y s → Standing g (stream (g .text) r) (more - 1) level table y E (i .body) (i .between) s
       loop-standing shown = record { holding = st .holding; holds = i .holds; fits = fits-looped (i .fits); shows = shown }
 
-      pub loop-step : {z : Played} (k t : ℕ) → Plays g (E .tables) level y (i .between) z (loopFew n k (λ j. playFew j t (i .body)) s)
-          → Steps g (stream (g .text) c) more level y E us k t b s (record { cursor = z .cursor; failed = z .failed; place = z .place; table = z .table; ends = false })
+      pub loop-step : {memo memo′ : List ℕ} {z : Played} (k t : ℕ) → Plays g (E .tables) level y (i .between) z (loopFew n k (λ j. playFew j t (i .body)) s)
+          → (z .failed ≡ false → Tracking (E .tables) (g .signals) level memo memo′ s (loopFew n k (λ j. playFew j t (i .body))))
+          → Steps g memo memo′ (stream (g .text) c) more level y E us k t b s (record { cursor = z .cursor; failed = z .failed; place = z .place; table = z .table; ends = false })
       unfolding playingFew shiftOf
-      loop-step k t p = inside-step (st .holding) i refl (record { told = p .told; behind = p .behind })
+      loop-step k t p tracked = inside-step (st .holding) i refl (record { told = p .told; behind = p .behind }) tracked
 
     module _ (i : Inside g c r more level E b us s shifted) where
       pub shift-standing : Showing g level table y s → Standing g (stream (g .text) r) more level table y E (vec (one-vector i .0) (one-vector i .1) done) (i .between) s
       shift-standing shown =
           record { holding = st .holding; holds = rw (one-vector i .2) at (i .holds); fits = fits-shifted (i .fits) _ _ (one-vector i .2); shows = shown }
 
-      pub shift-step : {z : Played} (k t : ℕ) → z .ends ≡ false → Plays g (E .tables) level y (i .between) z (again t (playFew k t (vec (one-vector i .0) (one-vector i .1) done)) s)
-          → Steps g (stream (g .text) c) more level y E us k t b s z
+      pub shift-step : {memo memo′ : List ℕ} {z : Played} (k t : ℕ) → z .ends ≡ false
+          → Plays g (E .tables) level y (i .between) z (again t (playFew k t (vec (one-vector i .0) (one-vector i .1) done)) s)
+          → (z .failed ≡ false → Tracking (E .tables) (g .signals) level memo memo′ s (again t (playFew k t (vec (one-vector i .0) (one-vector i .1) done))))
+          → Steps g memo memo′ (stream (g .text) c) more level y E us k t b s z
       unfolding playingFew shiftOf
-      shift-step k t more-comes p = inside-step (st .holding) i more-comes (rw (one-vector i .2) p)
+      shift-step {memo} {memo′} {z} k t more-comes p tracked = inside-step (st .holding) i more-comes (rw (one-vector i .2) p)
+          λ e. subst (λ (q : Body). Tracking (E .tables) (g .signals) level memo memo′ s (again t (playFew k t q))) (sym (one-vector i .2)) (tracked e)
 
     module _ {i u : ℕ} {given args : List ℕ} (d : Called g c r more level E b us s i u given args) where
       pub called-using : Showing g level table y s → Feeding (g .text) (y .feeds) (level + 1) (d .arguments)
@@ -413,11 +445,12 @@ module _ {g : Ground} {c r : Cursor} {more level table : ℕ} {x y : Arrays} {E 
       }
 
       -- what a used body played, and then the rest
-      pub called-step : (z : Played) (k t : ℕ) → Telling g (E .tables) level y z (entering (kindOf i) (d .arguments) (playFew k u (d .body)) s)
-          → Steps g (stream (g .text) c) more level y E us k t b s (record { cursor = r; failed = z .failed; place = z .place; table = z .table; ends = false })
+      pub called-step : {memo memo′ : List ℕ} (z : Played) (k t : ℕ) → Telling g (E .tables) level y z (entering (kindOf i) (d .arguments) (playFew k u (d .body)) s)
+          → (z .failed ≡ false → Tracking (E .tables) (g .signals) level memo memo′ s (entering (kindOf i) (d .arguments) (playFew k u (d .body))))
+          → Steps g memo memo′ (stream (g .text) c) more level y E us k t b s (record { cursor = r; failed = z .failed; place = z .place; table = z .table; ends = false })
       unfolding playFew playingFew shiftOf
-      called-step z k t p =
+      called-step z k t p tracked =
           let w = entered (kindOf i) u (d .arguments) in
-          steps-on _ (d .rest) (ap (λ (q : Body). playFew k t q s) (d .is)) (st .holding)
-          (fits-behind-inner (same-playing k t w (λ j. playFew j u (d .body)) (λ j. same-play j u (d .body)) s) (d .fits)) refl p
+          steps-on (entering (kindOf i) (d .arguments) (playFew k u (d .body))) (d .rest) (λ z. ap (λ (q : Body). playFew k t q z) (d .is)) (st .holding)
+          (fits-behind-inner (same-playing k t w (λ j. playFew j u (d .body)) (λ j. same-play j u (d .body)) s) (d .fits)) refl p tracked
           λ h. (d .on, d .behind, d .less)

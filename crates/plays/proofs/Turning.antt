@@ -26,7 +26,7 @@ positive zero h = absurd (h refl)
 positive (suc k) h = omega arith
 
 -- two turns
-twice : (n k : ℕ) (f : ℕ → State → Play) (s : State) → 2 ≤ n → 0 < k → loopFew n k f s ≡ follow (f k s) (f (k - 1))
+pub twice : (n k : ℕ) (f : ℕ → State → Play) (s : State) → 2 ≤ n → 0 < k → loopFew n k f s ≡ follow (f k s) (f (k - 1))
 unfolding loopFew
 twice zero k f s h l = absurd (omega arith)
 twice (suc zero) k f s h l = absurd (omega arith)
@@ -79,3 +79,13 @@ pub turned-standing : {g : Ground} {ts us : Toks} {more level table : ℕ} {x y 
     → Standing g ts more level (r .table) y E b us (playFew k t b s .0)
 turned-standing {b = b} {s = s} k t st p e =
     record { holding = st .holding; holds = st .holds; fits = fits-again (same-play k t b s) (st .fits); shows = p .told .shows e }
+
+-- one turn, where there is no other or none may be open
+pub loop-once : (n k : ℕ) (f : ℕ → State → Play) (s : State) (failed : Bool) → 0 < n → ((failed || ltb n 2) || eqb k 0) ≡ true → failed ≡ false → loopFew n k f s ≡ f k s
+unfolding loopFew
+loop-once zero k f s failed some h e = absurd (omega arith)
+loop-once (suc zero) k f s failed some h e = refl
+loop-once (suc (suc n)) zero f s failed some h e = refl
+loop-once (suc (suc n)) (suc k) f s failed some h e =
+    let q = or-last failed (ltb (suc (suc n)) 2) (or-last (failed || ltb (suc (suc n)) 2) (eqb (suc k) 0) h (ne-eqb (suc k) 0 (λ q. omega arith))) (le-ltb (suc (suc n)) 2 (omega arith)) in
+    let z : true ≡ false = sym q ∙ e in let w : _≡_ {A = ℕ} 0 1 = cc in absurd (omega arith)

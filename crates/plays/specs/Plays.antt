@@ -2,7 +2,7 @@
 use Prim.Native.Nat.{ℕ, _+_, _*_, _-_, _<_, _≤_}
 use mathlib.Core.Path.{_≡_}
 use mathlib.Core.Bool.{Bool, true, false}
-use mathlib.Core.Option.{none, some}
+use mathlib.Core.Option.{Option, none, some}
 use mathlib.Core.List.{List}
 use lib.ListN.{length, getD, take}
 use Rattle.tokens.specs.Tokens.{Toks, toks, left}
@@ -10,7 +10,7 @@ use Rattle.meaning.specs.Bounds.{signalsMost, tablesMost, depthMost}
 use Rattle.meaning.specs.Lists.{inside, count}
 use Rattle.meaning.specs.Timing.{Tables}
 use Rattle.meaning.specs.Body.{Assigns, Args, Kind, Way, looped, shifted, entered, Body, done, vec, set′, inner, depth, outside, shifting, supplied}
-use Rattle.meaning.specs.Run.{State, Played as Play, again, entering}
+use Rattle.meaning.specs.Run.{State, Played as Play, follow, again, entering}
 use Rattle.meaning.specs.Meaning.{firstFailing}
 use Rattle.meaning.specs.Statements.{Decl, Env, uses}
 use Rattle.meaning.proofs.Turns.{Good}
@@ -21,11 +21,11 @@ use Rattle.words.specs.declared.Cursor.{Cursor}
 use Rattle.signals.specs.Names.{AllTidy}
 use Rattle.timing.specs.Marks.{tableSize}
 use Rattle.timing.specs.Held.{Held}
-use Rattle.measures.specs.Book.{bodies, startAt}
+use Rattle.measures.specs.Book.{bodies, firstProcedure, startAt}
 use Rattle.arguments.specs.Supplied.{Supplied}
-use Rattle.sums.specs.Sums.{Sums}
+use Rattle.sums.specs.Sums.{Shown, before, Sum, orTable, Sums}
 use Rattle.sums.specs.Parts.{Exact}
-use Rattle.tallies.specs.Rows.{sumAt, isSummed, isShifted}
+use Rattle.tallies.specs.Rows.{rowSize, sumAt, isSummed, isShifted, Marked}
 use Rattle.heads.specs.declared.Known.{Known}
 use Rattle.heads.specs.Known.{Describes}
 use Rattle.heads.specs.Heads.{kindOf}
@@ -33,7 +33,9 @@ use Rattle.pins.specs.Shown.{tableOf, Shows, Told, Roomy, Feeding, feedAt}
 use Rattle.plays.specs.declared.Played.{Played}
 use Rattle.plays.specs.declared.Passed.{Passed}
 use Rattle.memos.specs.declared.Use.{Use}
-use Rattle.memos.specs.Memo.{telling, Row}
+use Rattle.memos.specs.declared.Found.{Found}
+use Rattle.memos.specs.Tracks.{isMarked, assignedMark, Joins, tracksLength, marksFrom, marksAt, Granted, Tracked, Tracking}
+use Rattle.memos.specs.Memo.{beforeAt, AtLevel, telling, Row, Finds}
 
 -- ---- what is played
 
@@ -86,23 +88,25 @@ pub record Summed (g : Ground) (marks sums : List ℕ) (E : Env) : Type 0 where
 abbrev pub useAt : ℕ → Cursor → Use
 useAt k c = record { seconds = k; fault = c .fault; at = c .at; end = c .end }
 
--- p, which was played from the state s over n signals, has no cycle that fails; it leaves this table and these pins
-pub record Comes (tabs : Tables) (n table : ℕ) (values : List ℕ) (s : State) (p : Play) : Type 0 where
+-- p, which was played from the state s over n signals, has no cycle that fails; it leaves this table, and these pins where they were assigned
+pub record Comes (tabs : Tables) (n : ℕ) (m : ℕ → ℕ) (table : ℕ) (pins : ℕ → ℕ) (s : State) (p : Play) : Type 0 where
   pub sound : firstFailing tabs (p .1) ≡ none
-  pub pins-are : p .0 .pins ≡ take n values
+  pub wide : length (p .0 .pins) ≡ n
+  pub put : (i : ℕ) → i < n → isMarked (m i) assignedMark ≡ true → getD (p .0 .pins) i 0 ≡ pins i
+  pub kept : (i : ℕ) → i < n → isMarked (m i) assignedMark ≡ false → getD (p .0 .pins) i 0 ≡ getD (s .pins) i 0
   pub table-is : p .0 .table ≡ tableOf table
   pub args-same : p .0 .args ≡ s .args
 
--- so does the use at the cursor c, whatever body is used there, from every state with this table and these pins, and with fewer second turns too
-pub record Outcome (g : Ground) (E : Env) (k : ℕ) (c : Cursor) (table : ℕ) (values : List ℕ) (table′ : ℕ) (values′ : List ℕ) : Type 0 where
+-- so does the use at the cursor c, whatever body is used there, from every state with this table whose pins are granted, and with fewer second turns too
+pub record Outcome (g : Ground) (E : Env) (k : ℕ) (c : Cursor) (table : ℕ) (m : ℕ → ℕ) (table′ : ℕ) (pins : ℕ → ℕ) : Type 0 where
   pub each : (j : ℕ) → j ≤ k → (kind : Kind) (d : Decl) (t : ℕ) (a : Args) (us : Toks) → HeadAt E (stream (g .text) c) (uses kind d t a) us
-      → (s : State) → s .pins ≡ take (g .signals) values → s .table ≡ tableOf table
-      → Comes (E .tables) (g .signals) table′ values′ s (entering kind a (playFew j t (d .body)) s)
+      → (s : State) → length (s .pins) ≡ g .signals → s .table ≡ tableOf table → ((i : ℕ) → i < g .signals → Granted (E .tables) (m i) i (getD (s .pins) i 0))
+      → Comes (E .tables) (g .signals) m table′ pins s (entering kind a (playFew j t (d .body)) s)
 
 -- what a row tells is so
 pub record Remembers (g : Ground) (memo : List ℕ) (E : Env) : Type 0 where
-  pub each : (j k : ℕ) (c b : Cursor) (table : ℕ) (values : List ℕ) (table′ : ℕ) (values′ : List ℕ) → g .signals ≤ length values → g .signals ≤ length values′
-      → Row memo (g .signals) j (telling (useAt k c) b table values table′ values′) → Outcome g E k c table values table′ values′
+  pub each : (j k : ℕ) (c b : Cursor) (table : ℕ) (m : ℕ → ℕ) (table′ : ℕ) (pins : ℕ → ℕ)
+      → Row memo (g .signals) j (telling (useAt k c) b table m table′ pins) → Outcome g E k c table m table′ pins
 
 -- at the cursor c a statement uses a body, and b is behind it, whatever is declared
 pub record Behind (g : Ground) (c b : Cursor) : Type 0 where
@@ -111,8 +115,17 @@ pub record Behind (g : Ground) (c b : Cursor) : Type 0 where
 
 -- each row has the cursor behind its use
 pub record Heads (g : Ground) (memo : List ℕ) : Type 0 where
-  pub each : (j k : ℕ) (c b : Cursor) (table : ℕ) (values : List ℕ) (table′ : ℕ) (values′ : List ℕ)
-      → Row memo (g .signals) j (telling (useAt k c) b table values table′ values′) → Behind g c b
+  pub each : (j k : ℕ) (c b : Cursor) (table : ℕ) (m : ℕ → ℕ) (table′ : ℕ) (pins : ℕ → ℕ)
+      → Row memo (g .signals) j (telling (useAt k c) b table m table′ pins) → Behind g c b
+
+-- the row that is found is for the use u, and holds for these pins
+pub record Recalls (waves memo : List ℕ) (n : ℕ) (u : Use) (table : ℕ) (values : List ℕ) (r : Found) : Type 0 where
+  pub finds : Finds memo u table r
+  pub granted : r .is ≡ true → (tabs : Tables) → Marked waves tabs → (i : ℕ) → i < n → Granted tabs (marksFrom memo (r .at + beforeAt + 1) i) i (getD values i 0)
+
+-- what is tracked at levels that are lower is as it was
+abbrev pub Below : ℕ → List ℕ → List ℕ → Type 0
+Below level memo memo′ = (i : ℕ) → i < level * signalsMost → getD memo′ i 0 ≡ getD memo i 0
 
 -- what is known of the bodies that a text uses
 pub record Knows (g : Ground) (marks sums memo : List ℕ) (E : Env) : Type 0 where
@@ -221,8 +234,11 @@ pub record PromisedWhere (fine : Body → Type 0) (g : Ground) (marks sums memo 
   pub ended : (E : Env) (b : Body) (us : Toks) (s : State) → Standing g ts more level table x E b us s → r .failed ≡ false → Ended g level y us (s .args) (r .cursor)
   pub plays : (E : Env) (b : Body) (us : Toks) (s : State) → Standing g ts more level table x E b us s → Knows g marks sums memo E → fine b → Plays g (E .tables) level y us r (f b s)
   pub memo-long : length memo′ ≡ length memo
+  pub below : Below level memo memo′
   pub heads : Heads g memo′
   pub learnt : (E : Env) (b : Body) (us : Toks) (s : State) → Standing g ts more level table x E b us s → Knows g marks sums memo E → Knows g marks sums memo′ E
+  pub tracks : (E : Env) (b : Body) (us : Toks) (s : State) → Standing g ts more level table x E b us s → Knows g marks sums memo E → fine b → r .failed ≡ false
+      → Tracking (E .tables) (g .signals) level memo memo′ s (f b)
 
 -- ---- a second turn that begins as the first began
 
@@ -241,20 +257,25 @@ pub record Alike (tabs : Tables) (p q : Play) : Type 0 where
   pub left-same : p .0 ≡ q .0
   pub fails-same : firstFailing tabs (p .1) ≡ firstFailing tabs (q .1)
 
--- at the cursor a rest of the body b is held, and playing b from s is playing that rest from the state there
-pub record Onward (g : Ground) (more level table : ℕ) (y : Arrays) (E : Env) (us : Toks) (k t : ℕ) (b : Body) (s : State) (c : Cursor) : Type 0 where
+-- at the cursor a rest of the body b is held, and playing b from s is playing that rest from the state there; what was played up to it is tracked
+pub record Onward (g : Ground) (memo memo′ : List ℕ) (more level table : ℕ) (y : Arrays) (E : Env) (us : Toks) (k t : ℕ) (b : Body) (s : State) (c : Cursor) : Type 0 where
   pub rest : Body
   pub state : State
   pub on : alive c ≡ true
   pub standing : Standing g (stream (g .text) c) more level table y E rest us state
   pub same : Alike (E .tables) (playFew k t b s) (playFew k t rest state)
+  pub step : State → Play
+  pub is : (z : State) → playFew k t b z ≡ follow (step z) (playFew k t rest)
+  pub here : state ≡ step s .0
+  pub tracks : Tracking (E .tables) (g .signals) level memo memo′ s step
 
 -- one statement of the body b was played: a cycle of it fails; or it was the `}`; or a rest of b is left, of fewer tokens
-pub record Steps (g : Ground) (ts : Toks) (more level : ℕ) (y : Arrays) (E : Env) (us : Toks) (k t : ℕ) (b : Body) (s : State) (r : Played) : Type 0 where
+pub record Steps (g : Ground) (memo memo′ : List ℕ) (ts : Toks) (more level : ℕ) (y : Arrays) (E : Env) (us : Toks) (k t : ℕ) (b : Body) (s : State) (r : Played) : Type 0 where
   pub fails : r .failed ≡ true → firstFailing (E .tables) (playFew k t b s .1) ≡ some (r .place)
   pub ended : r .failed ≡ false → r .ends ≡ true → Plays g (E .tables) level y us r (playFew k t b s)
+  pub last : r .failed ≡ false → r .ends ≡ true → Tracking (E .tables) (g .signals) level memo memo′ s (playFew k t b)
   pub goes : r .failed ≡ false → r .ends ≡ false
-      → Onward g more level (r .table) y E us k t b s (r .cursor) × (left (stream (g .text) (r .cursor)) < left ts)
+      → Onward g memo memo′ more level (r .table) y E us k t b s (r .cursor) × (left (stream (g .text) (r .cursor)) < left ts)
 
 -- whatever the sums say, at the cursor a rest of a body is held, and some of the arguments a is left for it
 pub record Resumed (g : Ground) (more level : ℕ) (y : Arrays) (E : Env) (us : Toks) (a : Args) (c : Cursor) : Type 0 where
@@ -272,8 +293,9 @@ pub record Stepped (g : Ground) (marks sums memo memo′ : List ℕ) (ts : Toks)
   pub kept : Kept level x y
   pub moves : (E : Env) (b : Body) (us : Toks) (s : State) → Standing g ts more level table x E b us s → Moves g ts more level y E us (s .args) r
   pub steps : (E : Env) (b : Body) (us : Toks) (s : State) → Standing g ts more level table x E b us s → Knows g marks sums memo E
-      → Steps g ts more level y E us k t b s r
+      → Steps g memo memo′ ts more level y E us k t b s r
   pub memo-long : length memo′ ≡ length memo
+  pub below : Below level memo memo′
   pub heads : Heads g memo′
   pub learnt : (E : Env) (b : Body) (us : Toks) (s : State) → Standing g ts more level table x E b us s → Knows g marks sums memo E → Knows g marks sums memo′ E
 
@@ -283,6 +305,13 @@ pub record Shifted (g : Ground) (ts : Toks) (more level table : ℕ) (x y : Arra
   pub goes-on : r .ends ≡ false
   pub plays : (E : Env) (p : ℕ) (a : Assigns) (us : Toks) (s : State) → Standing g ts more level table x E (vec p a done) us s
       → Plays g (E .tables) level y us r (again t (playFew k t (vec p a done)) s)
+
+-- the same, and what was played is tracked
+pub record ShiftedOn (g : Ground) (memo memo′ : List ℕ) (ts : Toks) (more level table : ℕ) (x y : Arrays) (k t : ℕ) (r : Played) : Type 0 where
+  pub shifted-is : Shifted g ts more level table x y k t r
+  pub at-level : AtLevel memo memo′ level
+  pub tracks : (E : Env) (p : ℕ) (a : Assigns) (us : Toks) (s : State) → Standing g ts more level table x E (vec p a done) us s → r .failed ≡ false
+      → Tracking (E .tables) (g .signals) level memo memo′ s (again t (playFew k t (vec p a done)))
 
 -- ---- a body that a statement uses
 
@@ -320,8 +349,13 @@ pub record Performed (g : Ground) (marks sums memo memo′ : List ℕ) (i more l
   pub told : (E : Env) (b : Body) (us : Toks) (a : Args) (s : State) → Using g i more level table x E b us a s → Knows g marks sums memo E
       → Telling g (E .tables) level y r (entering (kindOf i) a (playFew k t b) s)
   pub memo-long : length memo′ ≡ length memo
+  pub below : Below (level + 1) memo memo′
   pub heads : Heads g memo′
   pub learnt : (E : Env) (b : Body) (us : Toks) (a : Args) (s : State) → Using g i more level table x E b us a s → Knows g marks sums memo E → Knows g marks sums memo′ E
+  -- where nothing was tracked a level deeper, it is
+  pub tracks : (E : Env) (b : Body) (us : Toks) (a : Args) (s : State) → Using g i more level table x E b us a s → Knows g marks sums memo E → r .failed ≡ false
+      → tracksLength ≤ length memo → ((j : ℕ) → j < g .signals → marksAt memo (level + 1) j ≡ 0)
+      → Tracked (E .tables) (g .signals) (marksAt memo′ (level + 1)) s (entering (kindOf i) a (playFew k t b))
 
 -- the statement at the cursor c uses the declared body b of number i with the arguments a, for t turns of its Shift
 pub record Invoking (g : Ground) (c : Cursor) (i t more level table : ℕ) (given : List ℕ) (x : Arrays) (E : Env) (b : Body) (us : Toks) (a : Args) (s : State) : Type 0 where
@@ -351,9 +385,12 @@ pub record Served (g : Ground) (marks sums memo memo′ : List ℕ) (c : Cursor)
   pub told : (E : Env) (b : Body) (us : Toks) (a : Args) (s : State) → Invoking g c i t more level table given x E b us a s → Knows g marks sums memo E
       → Telling g (E .tables) level y r (entering (kindOf i) a (playFew k t b) s)
   pub memo-long : length memo′ ≡ length memo
+  pub below : Below level memo memo′
   pub heads : Heads g memo′
   pub learnt : (E : Env) (b : Body) (us : Toks) (a : Args) (s : State) → Invoking g c i t more level table given x E b us a s → Knows g marks sums memo E
       → Knows g marks sums memo′ E
+  pub tracks : (E : Env) (b : Body) (us : Toks) (a : Args) (s : State) → Invoking g c i t more level table given x E b us a s → Knows g marks sums memo E → r .failed ≡ false
+      → Tracking (E .tables) (g .signals) level memo memo′ s (entering (kindOf i) a (playFew k t b))
 
 -- ---- a used body that is passed
 
@@ -372,11 +409,26 @@ pub record Settles (n : ℕ) (left values values′ : List ℕ) : Type 0 where
   pub here : (s : ℕ) → s < n → getD values′ s 0 ≡ getD left s 0
   pub else : (i : ℕ) → n ≤ i → getD values′ i 0 ≡ getD values i 0
 
+-- the marks of signal j behind a body of sum S: where S shows what stood there before, and whether it assigns
+pub record SumMarks (S : Sum) (table : Option ℕ) (j m : ℕ) : Type 0 where
+  pub shown : (t : Option ℕ) (k : ℕ) → S .under j t ≡ true → orTable t table ≡ some k → (k < tablesMost) × (isMarked m k ≡ true)
+  pub put : isMarked m assignedMark ≡ true → S .pin j ≡ before → ⊥
+  pub kept : isMarked m assignedMark ≡ false → S .pin j ≡ before
+
+-- behind the body of number i; a procedure does nothing to its caller's signals
+pub record PassedMarks (sums : List ℕ) (i table j m : ℕ) : Type 0 where
+  pub in-place : i < firstProcedure → SumMarks (sumAt sums i) (tableOf table) j m
+  pub comes-back : firstProcedure ≤ i → m ≡ 0
+
 -- it was played without a failing cycle, or nothing was done
 pub record Passing (g : Ground) (marks sums : List ℕ) (i t table : ℕ) (given args values values′ : List ℕ) (r : Passed) : Type 0 where
   pub long : length values′ ≡ length values
   pub rows : (j : ℕ) → signalsMost ≤ j → getD values′ j 0 ≡ getD values j 0
   pub untouched : r .done ≡ false → values′ ≡ values
+  pub room : r .done ≡ true → i * rowSize + rowSize ≤ length sums
   pub told : r .done ≡ true → (E : Env) (b : Body) (us : Toks) (a : Args) (s : State) (feeds : List ℕ) (level k p : ℕ)
       → Calling g marks sums i t given args E b us a → Shows (g .text) (g .signals) values table feeds level s
       → Told (E .tables) (g .text) (g .signals) values′ (r .table) feeds level false p (entering (kindOf i) a (playFew k t b) s)
+  pub tracks : r .done ≡ true → (E : Env) (b : Body) (us : Toks) (a : Args) (s : State) (feeds : List ℕ) (level k : ℕ) (m : ℕ → ℕ)
+      → Calling g marks sums i t given args E b us a → Shows (g .text) (g .signals) values table feeds level s → ((j : ℕ) → j < g .signals → PassedMarks sums i table j (m j))
+      → Tracked (E .tables) (g .signals) m s (entering (kindOf i) a (playFew k t b))

@@ -1,8 +1,11 @@
 // Playing bodies where the text holds them, to find the first cycle that fails: one without a table, or with an assigned character that has no waveform
 // in it. Every Loop plays its first turn, and its second where fewer than two second turns are open and it isn't the first again. A used body whose sum is known
-// (`marks`, `sums`) and granted is passed; only one that may fail is entered, and once from the same pins and table, as long as that is remembered.
+// (`marks`, `sums`) and granted is passed; only one that may fail is entered, and once for each table, as long as that is remembered: what it shows of the pins before
+// it and what it assigns is tracked (`memos`), so that it is known for which other pins it would play as well.
 ghost use mathlib.Core.Path.{_≡_};
 ghost use mathlib.Core.Bool.{true};
+ghost use Rattle.pins.specs.Shown.{tableOf};
+ghost use Rattle.sums.specs.Sums.{okAt};
 ghost use mathlib.Core.List.{List};
 ghost use Prim.Native.Nat.{ℕ, _+_, _-_, _*_, _%_, _<_, _≤_};
 ghost use lib.ListN.{length, getD};
@@ -19,8 +22,15 @@ ghost use Rattle.pins.specs.Shown.{valuesLength};
 ghost use Rattle.heads.specs.declared.Known.{Known};
 ghost use Rattle.texts.specs.declared.Parts.{Parts};
 ghost use Rattle.plays.specs.Run.{SomeListed, PlaysListed, SomeRun, Runs, Decides};
-ghost use Rattle.plays.specs.Plays.{ground, arrays, Heads, Behind, Stood, Used, Promised, PromisedWhere, SamePins, Stepped, Shifted, Entered, Performed, SomeInvoked, Served, Summed, Settles, Passing};
+ghost use Rattle.plays.specs.Plays.{ground, arrays, Heads, Behind, Stood, Used, Promised, PromisedWhere, SamePins, Stepped, Shifted, ShiftedOn, Entered, Performed, SomeInvoked, Served, Summed, Settles, Passing, Recalls, SumMarks, PassedMarks};
+ghost use Rattle.tallies.specs.Rows.{rowSize, sumAt, Marked};
+ghost use Rattle.timing.specs.Held.{Held};
+ghost use Rattle.meaning.specs.Timing.{Tables};
+ghost use Rattle.meaning.specs.Bounds.{depthMost};
+ghost use Rattle.memos.specs.Tracks.{isMarked, assignedMark, marksMost, Joins, shownMarks, tracksLength, marksFrom, marksAt, Granted};
+ghost use Rattle.memos.specs.Memo.{memoRow, beforeAt, AtLevel};
 use heads::Known;
+use memos::Found;
 use memos::Use;
 use words::Cursor;
 
@@ -59,6 +69,78 @@ pub struct Failing {
 
 // ---- one statement
 
+// What t turns of a V mark: the same as one, and nothing where there is none.
+fn mark_turns(memo: &mut [u16], level: usize, given: &[u8], table: usize, t: usize, signals: usize)
+    requires { ⌜ (level ≤ depthMost) × (signals ≤ signalsMost) × (length (now given) ≡ signalsMost) ⌝ }
+    ensures { λ _. ⌜ AtLevel (now (memo .entry)) (now (memo .exit)) level × (t ≡ 0 → now (memo .exit) ≡ now (memo .entry)) × (0 < level → tracksLength ≤ length (now (memo .entry)) → 0 < t → (s : ℕ) → s < signals → Joins (marksAt (now (memo .entry)) level s) (shownMarks (getD (now (given .entry)) s 0) table) (marksAt (now (memo .exit)) level s)) ⌝ }
+{
+    if t == 0 {
+        return;
+    }
+    memos::mark(memo, level, given, table, signals);
+}
+
+// Shift { V { .. } }: the V as often as the frame says, and the `}` behind it; what it shows and assigns is tracked.
+fn shift_on<'a>(
+    text: &'a [u8],
+    c: Cursor,
+    places: &'a [usize],
+    lists: &'a [u16],
+    tplaces: &'a [usize],
+    book: &'a [usize],
+    rows: &'a [u16],
+    waves: &'a [u8],
+    known: Known,
+    signals: usize,
+    frame: Frame,
+    table: usize,
+    values: &mut [u8],
+    feeds: &mut [usize],
+    args: &mut [usize],
+    memo: &mut [u16],
+) -> Played
+    requires { ⌜ (alive c ≡ true) × Stood (ground (now text) (now places) (now lists) (now tplaces) (now book) (now rows) (now waves) known signals) (stream (now text) c) (frame .depth) (frame .level) table (arrays (now values) (now feeds) (now args)) ⌝ }
+    ensures { λ r. ⌜ ShiftedOn (ground (now (text .entry)) (now (places .entry)) (now (lists .entry)) (now (tplaces .entry)) (now (book .entry)) (now (rows .entry)) (now (waves .entry)) known signals) (now (memo .entry)) (now (memo .exit)) (stream (now (text .entry)) c) (frame .depth) (frame .level) table (arrays (now (values .entry)) (now (feeds .entry)) (now (args .entry))) (arrays (now (values .exit)) (now (feeds .exit)) (now (args .exit))) (frame .seconds) (frame .turns) r ⌝ }
+{
+    let mut given = [0; sets::MOST];
+    let h = heads::head(
+        text,
+        c,
+        places,
+        lists,
+        tplaces,
+        book,
+        rows,
+        known,
+        true,
+        DEPTH,
+        false,
+        &mut given,
+        args,
+    );
+    mark_turns(memo, frame.level, &given, table, frame.turns, signals);
+    let failed = pins::vectors(
+        text,
+        &given,
+        values,
+        feeds,
+        frame.level,
+        signals,
+        waves,
+        table,
+        frame.turns,
+    );
+    let behind = h.cursor;
+    let cursor = words::due(text, behind, b"}");
+    Played {
+        cursor,
+        failed,
+        place: c.at,
+        table,
+        ends: false,
+    }
+}
+
 // Shift { V { .. } }: the V as often as the frame says, and the `}` behind it.
 pub fn shift<'a>(
     text: &'a [u8],
@@ -80,8 +162,8 @@ pub fn shift<'a>(
     requires { ⌜ (alive c ≡ true) × Stood (ground (now text) (now places) (now lists) (now tplaces) (now book) (now rows) (now waves) known signals) (stream (now text) c) (frame .depth) (frame .level) table (arrays (now values) (now feeds) (now args)) ⌝ }
     ensures { λ r. ⌜ Shifted (ground (now (text .entry)) (now (places .entry)) (now (lists .entry)) (now (tplaces .entry)) (now (book .entry)) (now (rows .entry)) (now (waves .entry)) known signals) (stream (now (text .entry)) c) (frame .depth) (frame .level) table (arrays (now (values .entry)) (now (feeds .entry)) (now (args .entry))) (arrays (now (values .exit)) (now (feeds .exit)) (now (args .exit))) (frame .seconds) (frame .turns) r ⌝ }
 {
-    let mut given = [0; sets::MOST];
-    let h = heads::head(
+    let mut memo = [0u16; 0];
+    shift_on(
         text,
         c,
         places,
@@ -89,33 +171,16 @@ pub fn shift<'a>(
         tplaces,
         book,
         rows,
+        waves,
         known,
-        true,
-        DEPTH,
-        false,
-        &mut given,
-        args,
-    );
-    let failed = pins::vectors(
-        text,
-        &given,
+        signals,
+        frame,
+        table,
         values,
         feeds,
-        frame.level,
-        signals,
-        waves,
-        table,
-        frame.turns,
-    );
-    let behind = h.cursor;
-    let cursor = words::due(text, behind, b"}");
-    Played {
-        cursor,
-        failed,
-        place: c.at,
-        table,
-        ends: false,
-    }
+        args,
+        &mut memo,
+    )
 }
 
 // The pins before a turn, where they are asked for behind it.
@@ -213,7 +278,7 @@ fn needed_turns<'a>(
     }
     let after = a.table;
     let same = same_pins(values, &kept, signals);
-    if plain & (after == table) & same {
+    if plain & (frame.level == 0) & (after == table) & same {
         return a;
     }
     let second = Frame {
@@ -371,6 +436,7 @@ fn play_body<'a>(
         memo,
     );
     pins::come_back(values, inner.level);
+    memos::fresh(memo, inner.level, signals);
     let cursor = r.cursor;
     Played {
         cursor,
@@ -503,7 +569,107 @@ fn pass(
     Passed { done, table }
 }
 
-// Macro or Call at the cursor c, with another behind it, of the body of number i: it is played, and remembered where no cycle fails.
+// The marks of a signal behind a body whose sum is known, before those of tables that the body chooses: is it assigned, and is what stood there before shown under the
+// table before?
+fn first_marks(assigned: bool, shown: bool, table: usize) -> u16
+    ensures { λ m. ⌜ (m < marksMost) × (isMarked m assignedMark ≡ assigned) × (shown ≡ true → table < tablesMost → isMarked m table ≡ true) ⌝ }
+{
+    let m = memos::marked_if(0, timing::TABLES, assigned);
+    if table < timing::TABLES {
+        return memos::marked_if(m, table, shown);
+    }
+    m
+}
+
+// All of them.
+fn sum_marks(sums: &[u8], r: usize, s: usize, table: usize) -> u16
+    requires { ⌜ (r * rowSize + rowSize ≤ length (now sums)) × (s < signalsMost) ⌝ }
+    ensures { λ m. ⌜ (m < marksMost) × SumMarks (sumAt (now (sums .entry)) r) (tableOf table) s m ⌝ }
+{
+    let assigned = tallies::assigns(sums, r, s);
+    let mut m = first_marks(assigned, tallies::shows(sums, r, s, timing::TABLES), table);
+    let mut t = 0;
+    while t < timing::TABLES {
+        m = memos::marked_if(m, t, tallies::shows(sums, r, s, t));
+        t += 1;
+    }
+    m
+}
+
+// What a passed body of number i shows and assigns is tracked; a procedure does nothing to its caller's signals.
+fn mark_passed(memo: &mut [u16], level: usize, sums: &[u8], i: usize, table: usize, signals: usize)
+    requires { ⌜ (level ≤ depthMost) × (signals ≤ signalsMost) × (i * rowSize + rowSize ≤ length (now sums)) ⌝ }
+    ensures { λ _. ⌜ AtLevel (now (memo .entry)) (now (memo .exit)) level × ((s : ℕ) → (b : ℕ) × (0 < level → tracksLength ≤ length (now (memo .entry)) → s < signals → PassedMarks (now (sums .entry)) i table s b × Joins (marksAt (now (memo .entry)) level s) b (marksAt (now (memo .exit)) level s))) ⌝ }
+{
+    if (measures::PROCEDURES <= i) | !memos::tracks(memo, level) {
+        return;
+    }
+    let mut s = 0;
+    while s < signals {
+        memos::join_at(memo, level, s, sum_marks(sums, i, s, table));
+        s += 1;
+    }
+}
+
+// ---- uses that were played before
+
+// Can the character be shown on a signal under the table t, if that is marked?
+fn mark_granted(waves: &[u8], m: u16, t: usize, s: usize, x: u8) -> bool
+    requires { ⌜ (length (now waves) ≡ tablesMost * tableSize) × (s < signalsMost) × (t < tablesMost) ⌝ }
+    ensures { λ b. ⌜ (b ≡ true → isMarked m t ≡ true → (tabs : Tables) → Marked (now (waves .entry)) tabs → okAt tabs (tableOf t) s x ≡ true) ⌝ }
+{
+    if !memos::is_marked(m, t) {
+        return true;
+    }
+    tallies::fits(waves, t, s, x)
+}
+
+// Under each that is?
+fn pin_granted(waves: &[u8], m: u16, s: usize, x: u8) -> bool
+    requires { ⌜ (length (now waves) ≡ tablesMost * tableSize) × (s < signalsMost) ⌝ }
+    ensures { λ b. ⌜ (b ≡ true → (tabs : Tables) → Marked (now (waves .entry)) tabs → Granted tabs m s x) ⌝ }
+{
+    let mut t = 0;
+    while t < timing::TABLES {
+        if !mark_granted(waves, m, t, s, x) {
+            return false;
+        }
+        t += 1;
+    }
+    true
+}
+
+// Does the row at o hold for these pins?
+fn row_granted(memo: &[u16], o: usize, waves: &[u8], values: &[u8], signals: usize) -> bool
+    requires { ⌜ (o + memoRow ≤ length (now memo)) × (length (now waves) ≡ tablesMost * tableSize) × (signals ≤ signalsMost) × (signals ≤ length (now values)) ⌝ }
+    ensures { λ b. ⌜ (b ≡ true → (tabs : Tables) → Marked (now (waves .entry)) tabs → (i : ℕ) → i < signals → Granted tabs (marksFrom (now (memo .entry)) (o + beforeAt + 1) i) i (getD (now (values .entry)) i 0)) ⌝ }
+{
+    let mut s = 0;
+    while s < signals {
+        if !pin_granted(waves, memos::marks_of(memo, o, s), s, values[s]) {
+            return false;
+        }
+        s += 1;
+    }
+    true
+}
+
+// The row of a use from this table, if it is remembered and holds for these pins.
+fn recall(memo: &[u16], waves: &[u8], u: Use, table: usize, values: &[u8], signals: usize) -> Found
+    requires { ⌜ (length (now waves) ≡ tablesMost * tableSize) × (signals ≤ signalsMost) × (signals ≤ length (now values)) ⌝ }
+    ensures { λ r. ⌜ Recalls (now (waves .entry)) (now (memo .entry)) signals u table (now (values .entry)) r ⌝ }
+{
+    let f = memos::find(memo, u, table);
+    if !f.is {
+        return f;
+    }
+    let at = f.at;
+    let is = row_granted(memo, at, waves, values, signals);
+    Found { is, at }
+}
+
+// Macro or Call at the cursor c, with another behind it, of the body of number i: it is played, and remembered where no cycle fails; what it shows and
+// assigns is tracked, a level deeper and then here.
 fn used<'a>(
     text: &'a [u8],
     c: Cursor,
@@ -531,8 +697,7 @@ fn used<'a>(
     requires { ⌜ SomeInvoked (ground (now text) (now places) (now lists) (now tplaces) (now book) (now rows) (now waves) known signals) c i t (frame .depth) (frame .level) table (now given) (arrays (now values) (now feeds) (now args)) × Heads (ground (now text) (now places) (now lists) (now tplaces) (now book) (now rows) (now waves) known signals) (now memo) × Behind (ground (now text) (now places) (now lists) (now tplaces) (now book) (now rows) (now waves) known signals) c behind ⌝ }
     ensures { λ r. ⌜ Served (ground (now (text .entry)) (now (places .entry)) (now (lists .entry)) (now (tplaces .entry)) (now (book .entry)) (now (rows .entry)) (now (waves .entry)) known signals) (now (marks .entry)) (now (sums .entry)) (now (memo .entry)) (now (memo .exit)) c i t (frame .depth) (frame .level) table (now (given .entry)) (arrays (now (values .entry)) (now (feeds .entry)) (now (args .entry))) (arrays (now (values .exit)) (now (feeds .exit)) (now (args .exit))) (frame .seconds) r ⌝ }
 {
-    let mut kept = [0u8; sets::MOST];
-    keep(values, &mut kept, signals, true);
+    memos::fresh(memo, frame.level + 1, signals);
     pins::supply(given, args, feeds, frame.level + 1);
     let left = play_body(
         text,
@@ -564,11 +729,22 @@ fn used<'a>(
         at: c.at,
         end: c.end,
     };
-    memos::remember(memo, u, behind, table, &kept, left.table, values, signals);
+    memos::remember(
+        memo,
+        u,
+        behind,
+        frame.level + 1,
+        table,
+        left.table,
+        values,
+        signals,
+    );
+    memos::rise(memo, frame.level, signals);
     left
 }
 
-// The statement at the cursor, or the `}` there. A use that was played from this table and these pins before is not read again: what it left is left.
+// The statement at the cursor, or the `}` there. A use that was played from this table before, with pins that these could stand for, is not read again: what it
+// assigned is left.
 fn statement<'a>(
     text: &'a [u8],
     c: Cursor,
@@ -598,9 +774,10 @@ fn statement<'a>(
         at: c.at,
         end: c.end,
     };
-    let f = memos::find(memo, u, table, values, signals);
+    let f = recall(memo, waves, u, table, values, signals);
     if f.is {
         let q = memos::bring(memo, f.at, values, signals);
+        memos::again(memo, frame.level, f.at, signals);
         let past = q.cursor;
         return Played {
             cursor: past,
@@ -637,6 +814,7 @@ fn statement<'a>(
             ends: true,
         },
         heads::What::Vector(place) => {
+            memos::mark(memo, frame.level, &given, table, signals);
             let failed = pins::vectors(
                 text,
                 &given,
@@ -657,6 +835,7 @@ fn statement<'a>(
             }
         }
         heads::What::Assigns => {
+            memos::mark(memo, frame.level, &given, pins::NONE, signals);
             pins::put(text, &given, values, feeds, frame.level, signals);
             Played {
                 cursor,
@@ -705,7 +884,7 @@ fn statement<'a>(
                 ends: false,
             }
         }
-        heads::What::Shifts => shift(
+        heads::What::Shifts => shift_on(
             text,
             cursor,
             places,
@@ -721,6 +900,7 @@ fn statement<'a>(
             values,
             feeds,
             args,
+            memo,
         ),
         heads::What::Uses(i, t) => {
             let p = pass(
@@ -737,6 +917,7 @@ fn statement<'a>(
                 values,
             );
             if p.done {
+                mark_passed(memo, frame.level, sums, i, table, signals);
                 return Played {
                     cursor,
                     failed: false,

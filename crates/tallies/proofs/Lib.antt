@@ -10,3 +10,4 @@ mod Feeding
 mod Entering
 mod Calling
 mod Fitting
+mod Signals

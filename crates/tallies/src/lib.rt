@@ -17,7 +17,7 @@ ghost use Rattle.measures.specs.Uses.{Given};
 ghost use Rattle.arguments.specs.Supplied.{Supplied, DataAt};
 ghost use Rattle.sums.specs.Parts.{Nothing, Assigned, Chosen, Shows, Cycled, InPlace, Called, Alone, lastOf, behind};
 ghost use Rattle.pins.specs.Shown.{tableOf};
-ghost use Rattle.sums.specs.Sums.{okAt, orTable};
+ghost use Rattle.sums.specs.Sums.{before, okAt, orTable};
 ghost use Rattle.tallies.specs.Rows.{slots, rowSize, byteAt, flagAt, shownOf, sumAt, Only, Stored, More, Marked, Inherits, Needed, Tabled, Asked, ShownWhere, FedWhere, Passed, OnSignal, Retabled, isSummed, isShifted, Grants, Holds, FitsWhere, FedFits, OnPin, Suits, bytes, SeenWord, ShownFed, FitsFed};
 
 const MARK: u8 = 35;
@@ -541,10 +541,28 @@ pub fn grants(sums: &[u8], r: usize, signals: usize) -> bool
     true
 }
 
+// ---- what a body does to a signal, whatever its characters
+
+// Does it show what stood there before under the table of a slot?
+pub fn shows(sums: &[u8], r: usize, s: usize, t: usize) -> bool
+    requires { ⌜ (r * rowSize + rowSize ≤ length (now sums)) × (s < signalsMost) × (t < slots) ⌝ }
+    ensures { λ b. ⌜ b ≡ sumAt (now (sums .entry)) r .under s (tableOf t) ⌝ }
+{
+    byte(sums, r, s * SLOTS + t) != 0
+}
+
+// Does it assign it?
+pub fn assigns(sums: &[u8], r: usize, s: usize) -> bool
+    requires { ⌜ (r * rowSize + rowSize ≤ length (now sums)) × (s < signalsMost) ⌝ }
+    ensures { λ b. ⌜ (b ≡ true → sumAt (now (sums .entry)) r .pin s ≡ before → ⊥) × (b ≡ false → sumAt (now (sums .entry)) r .pin s ≡ before) ⌝ }
+{
+    byte(sums, r, PINS + s) != 0
+}
+
 // ---- a body entered from a state
 
 // Can the character be shown on a signal under the table of a slot? An unassigned signal can under every table; without one nothing can.
-fn fits(waves: &[u8], t: usize, s: usize, x: u8) -> bool
+pub fn fits(waves: &[u8], t: usize, s: usize, x: u8) -> bool
     requires { ⌜ (length (now waves) ≡ tablesMost * tableSize) × (s < signalsMost) ⌝ }
     ensures { λ r. ⌜ ((tabs : Tables) → Marked (now (waves .entry)) tabs → r ≡ okAt tabs (tableOf t) s x) ⌝ }
 {

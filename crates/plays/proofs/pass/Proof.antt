@@ -72,7 +72,7 @@ returns-4 c =
     let settle′ = c .before .before .before .settle in
     let known-is = sym (usable′ .ensures) ∙ not-false _ (if2′ .left) in
     λ places lists tplaces book rows known.
-    passes-macro known-is (pre′ .1) (pre′ .5) (if3′ .taken) (asks′ .ensures .1 (not-false _ (if4′ .left))) (settle′ .ensures) (c .table-behind .ensures)
+    passes-macro known-is (pre′ .1) (pre′ .5) (room (c .before .before .before .before .before .before .before .before .before .before .before .before .before .before .before .before .before .before .before .before .before .before .before .args .marks .now) (c .before .before .before .before .before .before .before .before .before .before .before .before .before .before .before .before .before .before .before .before .before .before .before .args .sums .now) (c .before .before .before .before .before .before .before .before .before .before .before .before .before .before .before .before .before .before .before .before .before .before .before .args .i) (c .before .before .before .before .before .before .before .before .before .before .before .before .before .before .before .if1 .left) .1) (if3′ .taken) (asks′ .ensures .1 (not-false _ (if4′ .left))) (settle′ .ensures) (c .table-behind .ensures)
 
 slice-aggregate-asks-2 : tie.Need-slice-aggregate-asks-2
 slice-aggregate-asks-2 c = search needs
@@ -95,7 +95,7 @@ returns-5 c =
     let if3′ = c .before .before .before .before .if3 in
     let asks2′ = c .before .asks2 in
     let known-is = sym (usable′ .ensures) ∙ not-false _ (if2′ .left) in
-    λ places lists tplaces book rows known. passes-procedure known-is (pre′ .1) (pre′ .5) (if3′ .left) (pre′ .2) (asks2′ .ensures .1)
+    λ places lists tplaces book rows known. passes-procedure known-is (pre′ .1) (pre′ .5) (room (c .before .before .before .before .before .before .before .before .before .before .before .before .before .before .before .before .args .marks .now) (c .before .before .before .before .before .before .before .before .before .before .before .before .before .before .before .before .args .sums .now) (c .before .before .before .before .before .before .before .before .before .before .before .before .before .before .before .before .args .i) (c .before .before .before .before .before .before .before .before .if1 .left) .1) (if3′ .left) (pre′ .2) (asks2′ .ensures .1)
 
 pub pass-spec : {M : Type 1} → statement M
 pass-spec =

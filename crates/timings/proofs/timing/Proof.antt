@@ -1,6 +1,7 @@
 -- `timing` meets its contract: an accepted text is read again up to its Timing.
+use mathlib.Core.Path.{refl}
+use Rattle.declared.proofs.Numbers.{blank-chains}
 use Rattle.timings.proofs.Accepting.{timing-at, flat-writes}
-use borrow.Author.Needs.{needs}
 use borrow.Author.Needs.{needs}
 use Rattle.timings.proofs.timing.Statement.{statement}
 use Rattle.timings.proofs.timing.Tie as tie
@@ -15,7 +16,7 @@ slice-aggregate-front-2 : tie.Need-slice-aggregate-front-2
 slice-aggregate-front-2 c = search needs
 
 front-requires : tie.Need-front-requires
-front-requires c κs = search needs
+front-requires c κs = (record { all = refl; rows = refl }, blank-chains)
 
 slice-aggregate-tables : tie.Need-slice-aggregate-tables
 slice-aggregate-tables c = search needs
