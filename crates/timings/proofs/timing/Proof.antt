@@ -1,7 +1,6 @@
 -- `timing` meets its contract: an accepted text is read again up to its Timing.
 use Rattle.timings.proofs.Accepting.{timing-at, flat-writes}
 use borrow.Author.Needs.{needs}
-use borrow.Author.Needs.{needs}
 use Rattle.timings.proofs.timing.Statement.{statement}
 use Rattle.timings.proofs.timing.Tie as tie
 
