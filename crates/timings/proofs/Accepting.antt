@@ -5,7 +5,7 @@ use mathlib.Core.Path.{_≡_, refl, sym, ap, ap₂, _∙_}
 use mathlib.Core.List.{List, [], _∷_}
 use Rattle.tokens.specs.Tokens.{Tok, Toks, toks}
 use Rattle.meaning.specs.Bounds.{signalsMost}
-use Rattle.meaning.specs.Reader.{Reader, ok, _>>=_, give, option}
+use Rattle.meaning.specs.Reader.{ok, _>>=_, give, option}
 use Rattle.meaning.specs.Signals.{Names, signals}
 use Rattle.meaning.specs.Groups.{groups}
 use Rattle.meaning.specs.Timing.{Tables, timing}

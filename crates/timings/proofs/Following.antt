@@ -2,16 +2,16 @@
 use Prim.Native.Nat.{ℕ, _<_}
 use Prim.Native.String.{String}
 use native.Mathlib.Omega.{arith}
-use mathlib.Core.Path.{_≡_, refl, sym, ap, _∙_}
+use mathlib.Core.Path.{_≡_, sym, ap, _∙_}
 use mathlib.Core.Bool.{Bool, true, false, not, _&&_}
 use mathlib.Core.List.{List}
 use borrow.Author.Tests.{not-false, not-true}
-use Rattle.tokens.specs.Tokens.{Toks, toks, left}
-use Rattle.meaning.specs.Reader.{Res, Reader, ok, _>>=_, give, refuseIf, ahead, due, while, closed, until}
+use Rattle.tokens.specs.Tokens.{Toks, left}
+use Rattle.meaning.specs.Reader.{Reader, ok, _>>=_, give, refuseIf, ahead, due, closed, until}
 use Rattle.meaning.proofs.Takes.{Takes, while-done}
 use Rattle.meaning.proofs.Gives.{bind-ok, give-ok, if-ok, gives-if}
 use Rattle.held.proofs.Rest.{Leaves, Moves, moves-leaves, moves-takes}
-use Rattle.held.proofs.Places.{Stream, rest-stream}
+use Rattle.held.proofs.Places.{rest-stream}
 use Rattle.words.specs.Cursor.{alive, stream, Goes}
 use Rattle.words.specs.declared.Cursor.{Cursor}
 use Rattle.waves.proofs.Lines.{went}

@@ -2,7 +2,7 @@
 use Prim.Native.Nat.{ℕ, _+_, _-_, _*_, _≤_, _<_, min}
 use native.Mathlib.Omega.{arith}
 use native.Mathlib.Numerals.{add-one}
-use mathlib.Core.Path.{_≡_, refl, sym, ap, _∙_, subst}
+use mathlib.Core.Path.{_≡_, refl, sym, ap, _∙_}
 use mathlib.Core.Bool.{Bool, true, false, cond, not, _&&_, _||_}
 use mathlib.Core.Option.{Option, none, some}
 use mathlib.Core.List.{List, [], _∷_, _++_}
@@ -18,11 +18,10 @@ use Rattle.meaning.specs.Timing.{Event, Wave, Events, taken, wavesFor}
 use Rattle.meaning.specs.Services.{waveOf}
 use Rattle.words.proofs.Words.{cut}
 use Rattle.timing.specs.Watch.{charsEvents, Watched}
-use Rattle.timing.specs.declared.Watch.{Watch}
 use Rattle.timing.proofs.Watching.{watched-more}
 use Rattle.waves.specs.Waves.{EntryAt}
 use Rattle.waves.proofs.Entries.{entry-found}
-use Rattle.folded.specs.Flat.{Entries, entriesOf}
+use Rattle.folded.specs.Flat.{entriesOf}
 use Rattle.timings.specs.Spots.{bytesMost, spotsMost, spotAt, watchOf, Spots, Stored, Below}
 
 -- ---- one spot more

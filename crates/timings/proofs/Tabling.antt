@@ -1,22 +1,21 @@
 -- Tables read again and written: the head and the name of one, its lines, one more behind others, and all of Timing.
 use Prim.Native.Nat.{ℕ}
-use mathlib.Core.Path.{_≡_, refl, sym, ap, ap₂, _∙_, subst}
-use mathlib.Core.Bool.{true}
+use mathlib.Core.Path.{_≡_, refl, sym, ap, _∙_, subst}
 use mathlib.Core.List.{List, [], _∷_, _++_, append-assoc, append-nil}
 use borrow.Author.Tests.{eq-eqb}
 use Rattle.tokens.specs.Written.{bytes}
-use Rattle.tokens.specs.Tokens.{Tok, Toks, toks}
-use Rattle.meaning.specs.Reader.{Reader, ok, _>>=_, give, refuseIf, due, until}
+use Rattle.tokens.specs.Tokens.{Tok, Toks}
+use Rattle.meaning.specs.Reader.{Reader, ok, _>>=_, give, due, until}
 use Rattle.meaning.specs.Names.{name, newName}
 use Rattle.meaning.specs.Signals.{Names}
 use Rattle.meaning.specs.Timing.{Wave, Table, Tables, quoted, waveforms, table, timing}
 use Rattle.held.proofs.Rest.{moves-leaves, moves-due, moves-name, moves-new, moves-until}
-use Rattle.held.proofs.Grammar.{moves-quoted, moves-waveforms, moves-table}
-use Rattle.words.specs.Cursor.{alive, stream, Stands, Goes, ahead as aheadTok}
+use Rattle.held.proofs.Grammar.{moves-quoted, moves-waveforms}
+use Rattle.words.specs.Cursor.{Stands, Goes, ahead as aheadTok}
 use Rattle.words.specs.declared.Cursor.{Cursor}
 use Rattle.timing.specs.Parts.{headThen}
 use Rattle.waves.proofs.Lines.{went}
-use Rattle.folded.specs.Pieces.{Piece, only, word, laid, each, lf, closing}
+use Rattle.folded.specs.Pieces.{Piece, only, laid, each, lf, closing}
 use Rattle.folded.specs.Flat.{Chart, Sheet, sheets}
 use Rattle.folded.specs.Layout.{timed, chartPut, sheetPut, timingPut}
 use Rattle.pens.specs.Pens.{Writes}

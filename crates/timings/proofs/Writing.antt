@@ -2,10 +2,10 @@
 use Prim.Native.Nat.{ℕ, suc, _+_, _-_, _≤_, _<_}
 use native.Mathlib.Omega.{arith}
 use native.Mathlib.Numerals.{add-one}
-use mathlib.Core.Path.{_≡_, refl, sym, ap, ap₂, _∙_, subst}
+use mathlib.Core.Path.{_≡_, refl, sym, ap, ap₂, _∙_}
 use mathlib.Core.List.{List, [], _∷_, _++_, append-assoc, append-nil}
 use lib.ListN.{length, getD, take, drop, length-take, drop-of-length-le}
-use lib.Seq.{take-suc, take-all}
+use lib.Seq.{take-suc}
 use Rattle.tokens.specs.Written.{bytes}
 use Rattle.meaning.specs.Timing.{Event, Wave}
 use Rattle.meaning.specs.Bounds.{entryMost}
@@ -15,8 +15,8 @@ use Rattle.waves.proofs.Fronts.{times-front, letters-front}
 use Rattle.folded.specs.Pieces.{Piece, only, word, laid, each, lf, closing}
 use Rattle.meaning.specs.Meaning.{firsts}
 use Rattle.words.specs.Table.{nameOf, namesFrom, names}
-use Rattle.folded.specs.Flat.{Entries, Chart, chart, chartsFrom, upFrom, characters, entriesOf, Sheet}
-use Rattle.folded.specs.Layout.{timed, eventPut, entryPut, chartPut, sheetPut, timingPut}
+use Rattle.folded.specs.Flat.{Entries, Chart, chart, chartsFrom, upFrom, characters, entriesOf}
+use Rattle.folded.specs.Layout.{timed, eventPut, entryPut, chartPut}
 use Rattle.pens.specs.Pens.{Writes}
 use Rattle.pens.proofs.Laws.{writes-both, writes-same}
 use Rattle.pens.specs.declared.Pen.{Pen}
@@ -77,10 +77,6 @@ joined-more (x ∷ ts) (y ∷ ls) t l h = ap (λ (k : List Event). record { time
 -- those up to number i
 abbrev pub eventsTo : List ℕ → List ℕ → ℕ → List ℕ
 eventsTo ts ls i = laid (each eventPut (joined (take i ts) (take i ls)) [])
-
-pub no-events : (ts ls page : List ℕ) (pen : Pen) → Writes page pen (eventsTo ts ls 0) page pen
-unfolding laid each joined
-no-events ts ls page pen = writes-nothing page pen
 
 module _ (ts ls : List ℕ) (i : ℕ) (h : i < length ts) (k : i < length ls) where
   events-next : eventsTo ts ls i ++ laid (eventPut (record { time = getD ts i 0; letter = getD ls i 0 }) []) ≡ eventsTo ts ls (i + 1)

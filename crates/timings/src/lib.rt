@@ -1,15 +1,15 @@
 // Timing of a folded text: the tables of an accepted text, read once more and written to a page, each signal's characters in the order of their bytes.
 ghost use mathlib.Core.Path.{_≡_};
 ghost use Prim.Native.Nat.{ℕ, _+_, _-_, _*_, _≤_, _<_, min};
-ghost use mathlib.Core.List.{List, [], _∷_, _++_};
-ghost use lib.ListN.{length, getD};
+ghost use mathlib.Core.List.{List, [], _∷_};
+ghost use lib.ListN.{length};
 ghost use Rattle.tokens.specs.Tokens.{Toks};
 ghost use Rattle.meaning.specs.Bounds.{entryMost, signalsMost};
 ghost use Rattle.meaning.specs.Reader.{Reader, until as untilOf};
 ghost use Rattle.meaning.specs.Timing.{Event, Events, Wave, Tables, event as eventOf, entry as entryOf, waveforms as waveformsOf, table as tableOf, timing as timingOf};
 ghost use Rattle.meaning.specs.Meaning.{given, Meaning, meaning};
 ghost use Rattle.sets.specs.Sets.{listOf};
-ghost use Rattle.signals.specs.Names.{namesOf, namesMost, rowLength};
+ghost use Rattle.signals.specs.Names.{namesOf};
 ghost use Rattle.timing.specs.Parts.{headThen};
 ghost use Rattle.waves.specs.Waves.{EntryAt};
 ghost use Rattle.folded.specs.Pieces.{laid, each};
@@ -18,7 +18,7 @@ ghost use Rattle.folded.specs.Layout.{eventPut, entryPut, chartPut, timingPut};
 ghost use Rattle.pens.specs.Pens.{Writes};
 ghost use Rattle.timings.specs.Answers.{Answers, Behind};
 ghost use Rattle.timings.specs.Lines.{signalsIn, titled, charted, OneSheet, MoreSheets, Opens};
-ghost use Rattle.timings.specs.Spots.{bytesMost, spotsMost, spotAt, Spots, Stored, Below, Listed, Next};
+ghost use Rattle.timings.specs.Spots.{bytesMost, spotsMost, Spots, Stored, Below, Listed, Next};
 use pens::Pen;
 use sets::Set;
 use words::Cursor;
@@ -177,9 +177,9 @@ fn keep_all(spots: &mut [usize], set: Set, w: &[u8], v: usize)
     requires { ⌜ (length (now spots) ≡ spotsMost) × Below (listOf set) ⌝ }
     ensures { λ r. ⌜ Stored (now (spots .entry)) (listOf set) (now (w .entry)) v (now (spots .exit)) ⌝ }
 {
-    let n = fewer(set.n);
+    let most = fewer(set.n);
     let mut i = 0;
-    while i < n {
+    while i < most {
         keep(spots, set.v[i], w, v);
         i += 1;
     }

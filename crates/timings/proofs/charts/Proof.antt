@@ -1,14 +1,13 @@
 -- `charts` meets its contract. The invariant: what is written, and the lines of the signals from i on, are all lines.
 use Prim.Native.Nat.{_-_, _≤_}
-use mathlib.Core.Path.{_≡_, refl, sym, _∙_}
+use mathlib.Core.Path.{_≡_, refl, _∙_}
 use mathlib.Core.List.{List, [], _++_}
 use Rattle.meaning.specs.Timing.{Wave}
 use Rattle.folded.specs.Pieces.{laid, each}
-use Rattle.folded.specs.Flat.{Chart, chart, entriesOf, characters}
+use Rattle.folded.specs.Flat.{Chart, chart}
 use Rattle.folded.specs.Layout.{chartPut}
 use Rattle.pens.specs.Pens.{Writes}
 use Rattle.folds.proofs.Laws.{writes-nothing}
-use Rattle.words.specs.Table.{nameOf}
 use Rattle.timings.specs.Spots.{Spots}
 use Rattle.timings.proofs.Writing.{charts-more, chartsIn, charts-next, charts-done, charts-whole, chart-named, few-characters, charts-written}
 use borrow.Author.Needs.{needs}

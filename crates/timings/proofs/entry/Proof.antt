@@ -1,7 +1,6 @@
 -- `entry` meets its contract. The invariant: behind the character the events up to number i are written.
 use Prim.Native.Nat.{_-_, _≤_}
-use mathlib.Core.Path.{_≡_, refl, _∙_}
-use lib.ListN.{length}
+use mathlib.Core.Path.{refl, _∙_}
 use Rattle.folded.specs.Pieces.{laid, each}
 use Rattle.pens.specs.Pens.{Writes}
 use Rattle.folds.proofs.Laws.{writes-nothing}

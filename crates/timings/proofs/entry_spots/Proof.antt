@@ -4,7 +4,6 @@ use Rattle.tokens.specs.Written.{bytes}
 use Rattle.timings.proofs.Entering.{entry-parts, entry-spots}
 use borrow.Author.Needs.{needs}
 use native.Mathlib.Omega.{arith}
-use borrow.Author.Needs.{needs}
 use Rattle.timings.proofs.entry_spots.Statement.{statement}
 use Rattle.timings.proofs.entry_spots.Tie as tie
 

@@ -1,7 +1,6 @@
 -- `event` meets its contract: three pieces, one behind the other.
 use Rattle.timings.proofs.Writing.{event-writes}
 use borrow.Author.Needs.{needs}
-use borrow.Author.Needs.{needs}
 use Rattle.timings.proofs.event.Statement.{statement}
 use Rattle.timings.proofs.event.Tie as tie
 

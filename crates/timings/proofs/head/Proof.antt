@@ -2,7 +2,6 @@
 use Rattle.tokens.specs.Written.{bytes}
 use Rattle.timings.proofs.Tabling.{head-follows}
 use borrow.Author.Needs.{needs}
-use borrow.Author.Needs.{needs}
 use Rattle.timings.proofs.head.Statement.{statement}
 use Rattle.timings.proofs.head.Tie as tie
 

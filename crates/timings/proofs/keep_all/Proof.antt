@@ -1,6 +1,6 @@
 -- `keep_all` meets its contract. The invariant: the signals before i have their spots, and no other spot is changed.
 use Prim.Native.Nat.{_-_, _≤_}
-use mathlib.Core.Path.{_≡_, refl, sym, ap, _∙_}
+use mathlib.Core.Path.{_≡_, refl, _∙_}
 use lib.ListN.{length, take}
 use Rattle.sets.proofs.Sets.{sized}
 use Rattle.timings.specs.Spots.{Stored}

@@ -1,8 +1,6 @@
 -- `name_spots` meets its contract: the signals of a name that is known lie below the bound.
-use mathlib.Core.Path.{sym}
 use Rattle.tokens.specs.Written.{bytes}
 use Rattle.timings.proofs.Entering.{name-entries, name-below}
-use borrow.Author.Needs.{needs}
 use borrow.Author.Needs.{needs}
 use Rattle.timings.proofs.name_spots.Statement.{statement}
 use Rattle.timings.proofs.name_spots.Tie as tie

@@ -2,7 +2,6 @@
 use Rattle.tokens.specs.Written.{bytes}
 use Rattle.timings.proofs.Tabling.{opening-follows}
 use borrow.Author.Needs.{needs}
-use borrow.Author.Needs.{needs}
 use Rattle.timings.proofs.opening.Statement.{statement}
 use Rattle.timings.proofs.opening.Tie as tie
 

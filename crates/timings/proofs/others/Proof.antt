@@ -1,6 +1,5 @@
 -- `others` meets its contract. The invariant: from here the definition reads on to the last brace, and what it read is written.
 use mathlib.Core.Path.{_≡_, refl, _∙_}
-use mathlib.Core.List.{List}
 use lib.ListN.{length}
 use Rattle.tokens.specs.Written.{bytes}
 use Rattle.tokens.specs.Tokens.{Toks, left}

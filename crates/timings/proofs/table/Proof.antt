@@ -1,11 +1,9 @@
 -- `table` meets its contract: its name and period, its waveforms, and its last brace.
-use mathlib.Core.Path.{_∙_}
 use Rattle.tokens.specs.Written.{bytes}
 use Rattle.signals.specs.Names.{namesOf}
 use Rattle.folded.specs.Flat.{chartsFrom}
 use Rattle.timings.specs.Lines.{signalsIn}
 use Rattle.timings.proofs.Tabling.{table-parts, table-ends, sheet-writes}
-use borrow.Author.Needs.{needs}
 use borrow.Author.Needs.{needs}
 use Rattle.timings.proofs.table.Statement.{statement}
 use Rattle.timings.proofs.table.Tie as tie

@@ -9,7 +9,6 @@ use Rattle.signals.specs.Names.{namesOf}
 use Rattle.timings.proofs.Following.{behind}
 use Rattle.timings.proofs.Tabling.{timing-first, timing-writes}
 use borrow.Author.Needs.{needs}
-use borrow.Author.Needs.{needs}
 use Rattle.timings.proofs.tables.Statement.{statement}
 use Rattle.timings.proofs.tables.Tie as tie
 

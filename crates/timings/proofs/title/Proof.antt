@@ -2,7 +2,6 @@
 use Rattle.tokens.specs.Written.{bytes}
 use Rattle.timings.proofs.Writing.{title-writes}
 use borrow.Author.Needs.{needs}
-use borrow.Author.Needs.{needs}
 use Rattle.timings.proofs.title.Statement.{statement}
 use Rattle.timings.proofs.title.Tie as tie
 

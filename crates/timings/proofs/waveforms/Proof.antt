@@ -1,5 +1,5 @@
 -- `waveforms` meets its contract: the spots of the whole table, and then its signals' lines.
-use mathlib.Core.Path.{refl, _∙_}
+use mathlib.Core.Path.{refl}
 use mathlib.Core.List.{[]}
 use Rattle.tokens.specs.Written.{bytes}
 use Rattle.folded.specs.Flat.{upFrom, characters, chartsFrom}
@@ -8,7 +8,6 @@ use Rattle.timings.specs.Lines.{signalsIn}
 use Rattle.timings.proofs.Spotting.{spots-none}
 use Rattle.declared.proofs.Numbers.{zeros}
 use Rattle.timings.proofs.Tabling.{charted-writes}
-use borrow.Author.Needs.{needs}
 use borrow.Author.Needs.{needs}
 use Rattle.timings.proofs.waveforms.Statement.{statement}
 use Rattle.timings.proofs.waveforms.Tie as tie
