@@ -1,6 +1,6 @@
 -- `flatten` meets its contract: arrays of zeros are blank; a text is refused as it is decided, or its run is folded.
 use mathlib.Core.Path.{refl}
-use Rattle.declared.proofs.Numbers.{blank-waves}
+use Rattle.declared.proofs.Numbers.{blank-chains, blank-waves}
 use Rattle.flats.proofs.Folding.{flat-refused}
 use borrow.Author.Needs.{needs}
 use Rattle.flats.proofs.flatten.Statement.{statement}
@@ -34,7 +34,7 @@ slice-aggregate-decide-8 : tie.Need-slice-aggregate-decide-8
 slice-aggregate-decide-8 c = search needs
 
 decide-requires : tie.Need-decide-requires
-decide-requires c κs = (record { sized = record { all = refl; rows = refl }; tables = refl; marks = refl; unset = blank-waves }, refl, refl, refl, refl)
+decide-requires c κs = (record { sized = record { all = refl; rows = refl }; tables = refl; marks = refl; unset = blank-waves; unchained = blank-chains }, refl, refl, refl, refl)
 
 refused-requires : tie.Need-refused-requires
 refused-requires c κs = search needs
