@@ -624,13 +624,16 @@ fn mark_granted(waves: &[u8], m: u16, t: usize, s: usize, x: u8) -> bool
     tallies::fits(waves, t, s, x)
 }
 
-// Under each that is?
+// Under each that is? An unassigned signal can under every table, and behind the last mark nothing is asked.
 fn pin_granted(waves: &[u8], m: u16, s: usize, x: u8) -> bool
-    requires { ⌜ (length (now waves) ≡ tablesMost * tableSize) × (s < signalsMost) ⌝ }
+    requires { ⌜ (length (now waves) ≡ tablesMost * tableSize) × (s < signalsMost) × (m < marksMost) ⌝ }
     ensures { λ b. ⌜ (b ≡ true → (tabs : Tables) → Marked (now (waves .entry)) tabs → Granted tabs m s x) ⌝ }
 {
+    if x == 0 {
+        return true;
+    }
     let mut t = 0;
-    while t < timing::TABLES {
+    while (m % 256) >> t != 0 {
         if !mark_granted(waves, m, t, s, x) {
             return false;
         }
