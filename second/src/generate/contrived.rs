@@ -4,7 +4,8 @@
 /// that plays no turn; or arguments with a character that only one of their two tables has: repeated, spelled out, with another V between the uses, with each
 /// character a word, or in a procedure; behind V's too, beside a Shift that plays no turn; and many uses with such an argument, each at a place of its own. Or
 /// behind one macro with such an argument, in which stand seven Loops in each other around V's.
-pub const CONTRIVED_KINDS: [&str; 10] = ["loops", "empty", "repeated", "spelled", "between", "words", "calls", "still", "many", "nested"];
+pub const CONTRIVED_KINDS: [&str; 10] =
+    ["loops", "empty", "repeated", "spelled", "between", "words", "calls", "still", "many", "nested"];
 
 pub fn contrived(kind: &str, signals: usize) -> Option<Vec<u8>> {
     let spelled = format!("{}2", "1".repeat(1000));
