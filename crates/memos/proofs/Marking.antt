@@ -1,11 +1,14 @@
 -- Marks as the digits of a number: there are few enough to look at all.
-use Prim.Native.Nat.{ℕ, zero, suc, _+_, _*_, _/_, _%_, _<_, _≤_}
+use Prim.Native.Nat.{ℕ, zero, suc, _+_, _*_, _/_, _%_, _^_, _<_, _≤_}
+use native.Mathlib.Nat.{mul-comm, one-mul, mod-lt, pow-suc}
 use native.Mathlib.Omega.{arith}
-use mathlib.Core.Path.{_≡_, refl, sym, ap, _∙_}
+use mathlib.Core.Path.{_≡_, refl, sym, ap, ap₂, _∙_}
 use mathlib.Core.Bool.{Bool, true, false, not, _&&_, _||_}
 use mathlib.Core.Logic.{_⊎_, inl, inr}
 use mathlib.Core.List.{List}
-use lib.Dec.{eqb, ltb, leb}
+use lib.Dec.{eqb, ltb, leb, lit<}
+use lib.Bits.{bitOr, or-shr, or-mod, or-lt}
+use lib.Pow.{shl-exact}
 use lib.ListN.{length, getD, set, length-set}
 use lib.Seq.{getD-set-same, getD-set-other}
 use borrow.Author.Tests.{eq-eqb, eqb-true, eqb-false, ltb-true, ltb-false, le-leb, leb-true, ne-eqb, not-true, lt-ltb}
@@ -42,31 +45,6 @@ same-is true false h = sym h
 same-is false true h = h
 same-is false false h = refl
 
--- m with one more
-with′ : ℕ → ℕ → ℕ
-with′ m t = elim (isMarked m t) [ true ↦ m | false ↦ m + bitOf t ]
-
-right : ℕ → ℕ → Bool
-right m t = ltb (with′ m t) marksMost && allBelow 9 (λ u. same (isMarked (with′ m t) u) (eqb t u || isMarked m u))
-
-all-right : allBelow 512 (λ m. allBelow 9 (right m)) ≡ true
-unfolding bitOf isMarked allBelow right with′ same
-all-right = refl
-
-with-marks : (m t : ℕ) → m < marksMost → t ≤ assignedMark → Marks m t (with′ m t)
-unfolding right
-with-marks m t l h =
-    let r = both _ _ (below-all 9 (right m) (below-all 512 (λ m. allBelow 9 (right m)) all-right m l) t (omega arith)) in
-    record { few = ltb-true _ _ (r .0); each = λ u q. same-is _ _ (below-all 9 (λ u. same (isMarked (with′ m t) u) (eqb t u || isMarked m u)) (r .1) u (omega arith)) }
-
-pub mark-there : (m t : ℕ) → m < marksMost → t ≤ assignedMark → isMarked m t ≡ true → Marks m t m
-unfolding with′
-mark-there m t l h e = rw (e, with′) at (with-marks m t l h)
-
-pub mark-added : (m t : ℕ) → m < marksMost → t ≤ assignedMark → isMarked m t ≡ false → Marks m t (m + bitOf t)
-unfolding with′
-mark-added m t l h e = rw (e, with′) at (with-marks m t l h)
-
 all-bits : allBelow 9 (λ t. allBelow 9 (λ u. same (isMarked (bitOf t) u) (eqb t u))) ≡ true
 unfolding bitOf isMarked allBelow same
 all-bits = refl
@@ -89,15 +67,79 @@ all-high = refl
 high-marked : (m : ℕ) → m < marksMost → 256 ≤ m → isMarked m assignedMark ≡ true
 high-marked m l h = same-is _ _ (below-all 512 (λ m. same (isMarked m 8) (leb 256 m)) all-high m l) ∙ le-leb 256 m h
 
--- the last of them, where it is no other
-four : (t : ℕ) → t ≤ 8 → (t ≡ 0 → ⊥) → (t ≡ 1 → ⊥) → (t ≡ 2 → ⊥) → (t ≡ 3 → ⊥) → 4 ≤ t
-four t l a b c d = omega arith
+-- ---- as shifts and as digits joined by `|`
 
-top : (t : ℕ) → t ≤ 8 → 4 ≤ t → (t ≡ 4 → ⊥) → (t ≡ 5 → ⊥) → (t ≡ 6 → ⊥) → (t ≡ 7 → ⊥) → t ≡ 8
-top t l m e f g h = omega arith
+bit-power : (t : ℕ) → bitOf t ≡ 2 ^ t
+unfolding bitOf
+bit-power zero = refl
+bit-power (suc t) = ap (λ (k : ℕ). 2 * k) (bit-power t) ∙ mul-comm 2 (2 ^ t) ∙ sym (pow-suc 2 t)
 
-pub eight : (t : ℕ) → t ≤ 8 → (t ≡ 0 → ⊥) → (t ≡ 1 → ⊥) → (t ≡ 2 → ⊥) → (t ≡ 3 → ⊥) → (t ≡ 4 → ⊥) → (t ≡ 5 → ⊥) → (t ≡ 6 → ⊥) → (t ≡ 7 → ⊥) → t ≡ 8
-eight t l a b c d e f g h = top t l (four t l a b c d) e f g h
+pub bit-shifted : (t : ℕ) → t ≤ assignedMark → (1 * 2 ^ t) % 2 ^ 16 ≡ bitOf t
+bit-shifted t h = shl-exact 1 t 16 (lit< tt) (omega arith) ∙ one-mul (2 ^ t) ∙ sym (bit-power t)
+
+all-few : allBelow 9 (λ t. ltb 0 (bitOf t) && leb (bitOf t) 256) ≡ true
+unfolding bitOf allBelow
+all-few = refl
+
+pub bit-few : (t : ℕ) → t ≤ assignedMark → (0 < bitOf t) × (bitOf t ≤ 256)
+bit-few t h = let b = both _ _ (below-all 9 (λ t. ltb 0 (bitOf t) && leb (bitOf t) 256) all-few t (omega arith)) in (ltb-true _ _ (b .0), leb-true _ _ (b .1))
+
+-- the code's shift is the digit
+pub marked-shifted : (m t : ℕ) → eqb (m / 2 ^ t % 2) 1 ≡ isMarked m t
+unfolding isMarked
+marked-shifted m t = ap (λ (k : ℕ). eqb (m / k % 2) 1) (sym (bit-power t))
+
+digit-or : (x y : ℕ) → x < 2 → y < 2 → eqb (bitOr x y) 1 ≡ (eqb x 1 || eqb y 1)
+digit-or zero y h l = refl
+digit-or (suc zero) zero h l = refl
+digit-or (suc zero) (suc zero) h l = refl
+digit-or (suc zero) (suc (suc y)) h l = absurd (omega arith)
+digit-or (suc (suc x)) y h l = absurd (omega arith)
+
+or-marked : (a b u : ℕ) → isMarked (bitOr a b) u ≡ (isMarked a u || isMarked b u)
+or-marked a b u =
+    sym (marked-shifted (bitOr a b) u) ∙ ap (λ (k : ℕ). eqb (k % 2) 1) (or-shr a b u) ∙ ap (λ (k : ℕ). eqb k 1) (or-mod (a / 2 ^ u) (b / 2 ^ u) 1)
+    ∙ digit-or (a / 2 ^ u % 2) (b / 2 ^ u % 2) (mod-lt _ (lit< tt)) (mod-lt _ (lit< tt))
+    ∙ ap₂ (λ (x y : Bool). x || y) (marked-shifted a u) (marked-shifted b u)
+
+or-swap : (a b : Bool) → (a || b) ≡ (b || a)
+or-swap true true = refl
+or-swap true false = refl
+or-swap false true = refl
+or-swap false false = refl
+
+pub or-few : (a b : ℕ) → a < marksMost → b < marksMost → bitOr a b < marksMost
+or-few a b = or-lt 9 a b
+
+pub mark-more : (m t : ℕ) → m < marksMost → t ≤ assignedMark → Marks m t (bitOr m (bitOf t))
+mark-more m t l h = record {
+  few = or-few m (bitOf t) l (omega (arith, bit-few t h .1));
+  each = λ u q. or-marked m (bitOf t) u ∙ ap (λ (w : Bool). isMarked m u || w) (bit-marked t u h q) ∙ or-swap (isMarked m u) (eqb t u);
+}
+
+-- ---- the last mark of a table
+
+-- behind a table with no mark from it on there is none
+none-behind : (m t k : ℕ) → Bool
+none-behind m t k = not (eqb (m % 256 / 2 ^ t) 0 && leb t k) || not (isMarked m k)
+
+all-none : allBelow 512 (λ m. allBelow 9 (λ t. allBelow 8 (none-behind m t))) ≡ true
+unfolding bitOf isMarked allBelow none-behind
+all-none = refl
+
+pub unmarked-behind : (m t k : ℕ) → m < marksMost → t ≤ tablesMost → m % 256 / 2 ^ t ≡ 0 → t ≤ k → k < tablesMost → isMarked m k ≡ false
+unfolding none-behind
+unmarked-behind m t k few l none after h =
+    let r = below-all 8 (none-behind m t) (below-all 9 (λ t. allBelow 8 (none-behind m t)) (below-all 512 (λ m. allBelow 9 (λ t. allBelow 8 (none-behind m t))) all-none m few) t (omega arith)) k h in
+    not-true _ (rw (eq-eqb (m % 256 / 2 ^ t) 0 none, le-leb t k after) at r)
+
+-- no table has a mark behind the last
+pub some-mark : (m t : ℕ) → t ≤ tablesMost → (m % 256 / 2 ^ t ≡ 0 → ⊥) → t < tablesMost
+some-mark m t l some = by (eqb t tablesMost) refl
+  where
+    by : (w : Bool) → eqb t tablesMost ≡ w → t < tablesMost
+    by true e = let q : m % 256 / 2 ^ t ≡ 0 = ap (λ (k : ℕ). m % 256 / 2 ^ k) (eqb-true t tablesMost e) ∙ omega arith in absurd (some q)
+    by false e = let d = eqb-false t tablesMost e in omega arith
 
 -- ---- joined
 
@@ -117,54 +159,20 @@ joins-zero a b z = record {
 pub joins-same : (a b : ℕ) → a ≡ b → Joins a b a
 joins-same a b z = record { kept = λ u q e. e; more = λ f u q e. rw z e; only = λ e. inl e }
 
--- m has the marks of a, and the first t that b has
-pub record Joining (a b m t : ℕ) : Type 0 where
-  pub few : m < marksMost
-  pub kept : (u : ℕ) → u ≤ assignedMark → isMarked a u ≡ true → isMarked m u ≡ true
-  pub more : (u : ℕ) → u < t → u ≤ assignedMark → isMarked b u ≡ true → isMarked m u ≡ true
-  pub only : isMarked m assignedMark ≡ true → (isMarked a assignedMark ≡ true) ⊎ (isMarked b assignedMark ≡ true)
-
-pub joining-none : {a b : ℕ} → a < marksMost → Joining a b a 0
-joining-none l = record { few = l; kept = λ u q e. e; more = λ u h. absurd (omega arith); only = λ e. inl e }
-
 or-right : (a b : Bool) → b ≡ true → (a || b) ≡ true
 or-right true b h = refl
 or-right false b h = h
 
-module _ {a b m t : ℕ} (x : Joining a b m t) (h : t ≤ assignedMark) where
-  pub joining-more : (r : ℕ) → Marks m t r → isMarked b t ≡ true → Joining a b r (t + 1)
-  joining-more r q e = record {
-    few = q .few;
-    kept = λ u l z. q .each u l ∙ or-right (eqb t u) (isMarked m u) (x .kept u l z);
-    more = λ u k l z. more-by u k l z (eqb t u) refl;
-    only = λ z. only-by (eqb t assignedMark) refl (sym (q .each assignedMark (omega arith)) ∙ z);
-  }
-    where
-      more-by : (u : ℕ) → u < t + 1 → u ≤ assignedMark → isMarked b u ≡ true → (w : Bool) → eqb t u ≡ w → isMarked r u ≡ true
-      more-by u k l z true g = q .each u l ∙ ap (λ (v : Bool). v || isMarked m u) g
-      more-by u k l z false g = let d = eqb-false t u g in q .each u l ∙ or-right (eqb t u) (isMarked m u) (x .more u (omega arith) l z)
-
-      only-by : (w : Bool) → eqb t assignedMark ≡ w → (eqb t assignedMark || isMarked m assignedMark) ≡ true → (isMarked a assignedMark ≡ true) ⊎ (isMarked b assignedMark ≡ true)
-      only-by true g z = inr (rw (← eqb-true t assignedMark g) e)
-      only-by false g z = x .only (rw g at z)
-
-  pub joining-less : isMarked b t ≡ false → Joining a b m (t + 1)
-  joining-less e = record { few = x .few; kept = x .kept; more = λ u k l z. by u k l z (eqb u t) refl; only = x .only }
-    where
-      by : (u : ℕ) → u < t + 1 → u ≤ assignedMark → isMarked b u ≡ true → (w : Bool) → eqb u t ≡ w → isMarked m u ≡ true
-      by u k l z true g = true-false z (ap (isMarked b) (eqb-true u t g) ∙ e)
-      by u k l z false g = let d = eqb-false u t g in x .more u (omega arith) l z
-
--- one mark more of b
-pub joining-next : {a b m t r : ℕ} → Joining a b m t → t ≤ assignedMark → (isMarked b t ≡ true → Marks m t r) × (isMarked b t ≡ false → r ≡ m) → Joining a b r (t + 1)
-joining-next {a} {b} {m} {t} {r} x h q = by (isMarked b t) refl
+pub joins-or : (a b : ℕ) → Joins a b (bitOr a b)
+joins-or a b = record {
+  kept = λ u q e. or-marked a b u ∙ ap (λ (w : Bool). w || isMarked b u) e;
+  more = λ f u q e. or-marked a b u ∙ or-right (isMarked a u) (isMarked b u) e;
+  only = λ e. by (isMarked a assignedMark) refl (sym (or-marked a b assignedMark) ∙ e);
+}
   where
-    by : (w : Bool) → isMarked b t ≡ w → Joining a b r (t + 1)
-    by true e = joining-more x h r (q .0 e) e
-    by false e = rw (q .1 e) (joining-less x h e)
-
-pub joining-all : {a b m t : ℕ} → assignedMark < t → Joining a b m t → Joins a b m
-joining-all h x = record { kept = x .kept; more = λ f u l z. x .more u (omega arith) l z; only = x .only }
+    by : (w : Bool) → isMarked a assignedMark ≡ w → (isMarked a assignedMark || isMarked b assignedMark) ≡ true → (isMarked a assignedMark ≡ true) ⊎ (isMarked b assignedMark ≡ true)
+    by true g z = inl g
+    by false g z = inr (rw g at z)
 
 -- ---- one signal after the other, from a place o on
 
@@ -213,16 +221,6 @@ freshened-next {o} {n} {memo} {memo′} x few room = record { writes = writes-ne
     by : (s : ℕ) → s < n + 1 → (w : Bool) → eqb s n ≡ w → getD (set memo′ (o + n) 0) (o + s) 0 % marksMost ≡ 0
     by s h true e = let q = eqb-true s n e in ap (λ (k : ℕ). k % marksMost) (ap (λ (k : ℕ). getD (set memo′ (o + n) 0) (o + k) 0) q ∙ getD-set-same memo′ (o + n) 0 0 room)
     by s h false e = let d = eqb-false s n e in ap (λ (k : ℕ). k % marksMost) (getD-set-other memo′ (o + n) (o + s) 0 0 λ z. omega arith) ∙ x .zero s (omega arith)
-
--- where nothing is to be added
-pub joins-early : (a b : ℕ) → a < marksMost → ((leb 256 a || eqb b 0) || eqb a b) ≡ true → Joins a b a
-joins-early a b l h = by (leb 256 a) refl (eqb b 0) refl (eqb a b) refl h
-  where
-    by : (x : Bool) → leb 256 a ≡ x → (y : Bool) → eqb b 0 ≡ y → (z : Bool) → eqb a b ≡ z → ((x || y) || z) ≡ true → Joins a b a
-    by true p y q z r h = joins-high a b l (leb-true 256 a p)
-    by false p true q z r h = joins-zero a b (eqb-true b 0 q)
-    by false p false q true r h = joins-same a b (eqb-true a b r)
-    by false p false q false r h = true-false refl (sym h)
 
 -- ---- where something is tracked at all
 

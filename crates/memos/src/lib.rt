@@ -111,38 +111,14 @@ fn bit_of(t: usize) -> u16
     requires { ⌜ t ≤ assignedMark ⌝ }
     ensures { λ r. ⌜ (r ≡ bitOf t) × (0 < r) × (r ≤ 256) ⌝ }
 {
-    if t == 0 {
-        return 1;
-    }
-    if t == 1 {
-        return 2;
-    }
-    if t == 2 {
-        return 4;
-    }
-    if t == 3 {
-        return 8;
-    }
-    if t == 4 {
-        return 16;
-    }
-    if t == 5 {
-        return 32;
-    }
-    if t == 6 {
-        return 64;
-    }
-    if t == 7 {
-        return 128;
-    }
-    256
+    1u16 << t
 }
 
 pub fn is_marked(m: u16, t: usize) -> bool
     requires { ⌜ t ≤ assignedMark ⌝ }
     ensures { λ r. ⌜ r ≡ isMarked m t ⌝ }
 {
-    (m / bit_of(t)) % 2 == 1
+    (m >> t) % 2 == 1
 }
 
 // One mark more.
@@ -150,21 +126,7 @@ fn with_mark(m: u16, t: usize) -> u16
     requires { ⌜ (m < marksMost) × (t ≤ assignedMark) ⌝ }
     ensures { λ r. ⌜ Marks m t r ⌝ }
 {
-    if is_marked(m, t) {
-        return m;
-    }
-    m + bit_of(t)
-}
-
-// The same where b has that mark.
-fn with_mark_of(m: u16, b: u16, t: usize) -> u16
-    requires { ⌜ (m < marksMost) × (t ≤ assignedMark) ⌝ }
-    ensures { λ r. ⌜ (isMarked b t ≡ true → Marks m t r) × (isMarked b t ≡ false → r ≡ m) ⌝ }
-{
-    if is_marked(b, t) {
-        return with_mark(m, t);
-    }
-    m
+    m | bit_of(t)
 }
 
 // The same if it is asked for.
@@ -183,29 +145,31 @@ fn join(a: u16, b: u16) -> u16
     requires { ⌜ (a < marksMost) × (b < marksMost) ⌝ }
     ensures { λ r. ⌜ (r < marksMost) × Joins a b r ⌝ }
 {
-    if (256 <= a) | (b == 0) | (a == b) {
+    if 256 <= a {
         return a;
     }
-    let mut m = a;
-    let mut t = 0;
-    while t <= ASSIGNED {
-        m = with_mark_of(m, b, t);
-        t += 1;
-    }
-    m
+    a | b
 }
 
-// What a V marks on a signal that it gives g; 0 is nothing.
-fn shown_marks(g: u8, t: usize) -> u16
-    ensures { λ r. ⌜ (r ≡ shownMarks g t) × (r < marksMost) ⌝ }
+// What a V under the table t marks on each signal that it gives nothing.
+fn table_mark(t: usize) -> u16
+    ensures { λ r. ⌜ (r ≡ shownMarks 0 t) × (r < marksMost) ⌝ }
 {
-    if g != 0 {
-        return bit_of(ASSIGNED);
-    }
     if t < ASSIGNED {
         return bit_of(t);
     }
     0
+}
+
+// On one that it gives g; 0 is nothing.
+fn shown_marks(g: u8, shown: u16) -> u16
+    requires { ⌜ shown < marksMost ⌝ }
+    ensures { λ r. ⌜ ((t : ℕ) → shown ≡ shownMarks 0 t → r ≡ shownMarks g t) × (r < marksMost) ⌝ }
+{
+    if g != 0 {
+        return bit_of(ASSIGNED);
+    }
+    shown
 }
 
 // The marks at a place.
@@ -257,10 +221,11 @@ pub fn mark(memo: &mut [u16], level: usize, given: &[u8], table: usize, signals:
     if (level == 0) | (memo.len() < TRACKS) {
         return;
     }
+    let shown = table_mark(table);
     let mut s = 0;
     while s < signals {
         let i = level * sets::MOST + s;
-        memo[i] = join(marks(memo, i), shown_marks(given[s], table));
+        memo[i] = join(marks(memo, i), shown_marks(given[s], shown));
         s += 1;
     }
 }
@@ -390,6 +355,14 @@ fn picture(memo: &mut [u16], o: usize, table: usize, values: &[u8], signals: usi
     }
 }
 
+// The marks of a signal in the row at o.
+pub fn marks_of(memo: &[u16], o: usize, s: usize) -> u16
+    requires { ⌜ (o + memoRow ≤ length (now memo)) × (s < signalsMost) ⌝ }
+    ensures { λ r. ⌜ r ≡ marksFrom (now (memo .entry)) (o + beforeAt + 1) s ⌝ }
+{
+    marks(memo, o + BEFORE + 1 + s)
+}
+
 // A signal with these marks behind a use: what was assigned, or what stood there before.
 fn left_on(m: u16, before: u8, behind: u8) -> u8
     ensures { λ r. ⌜ (isMarked m assignedMark ≡ true → r ≡ behind) × (isMarked m assignedMark ≡ false → r ≡ before) ⌝ }
@@ -407,18 +380,10 @@ fn restore(memo: &[u16], o: usize, values: &mut [u8], signals: usize)
 {
     let mut s = 0;
     while s < signals {
-        let m = marks(memo, o + BEFORE + 1 + s);
+        let m = marks_of(memo, o, s);
         values[s] = left_on(m, values[s], byte_of(memo[o + BEHIND + 1 + s]));
         s += 1;
     }
-}
-
-// The marks of a signal in the row at o.
-pub fn marks_of(memo: &[u16], o: usize, s: usize) -> u16
-    requires { ⌜ (o + memoRow ≤ length (now memo)) × (s < signalsMost) ⌝ }
-    ensures { λ r. ⌜ r ≡ marksFrom (now (memo .entry)) (o + beforeAt + 1) s ⌝ }
-{
-    marks(memo, o + BEFORE + 1 + s)
 }
 
 // ---- a row

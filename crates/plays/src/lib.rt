@@ -613,27 +613,32 @@ fn mark_passed(memo: &mut [u16], level: usize, sums: &[u8], i: usize, table: usi
 
 // ---- uses that were played before
 
-// Can the character be shown on a signal under the table t, if that is marked?
+// Can the character be shown on a signal under the table t, if that is the first of these marks?
 fn mark_granted(waves: &[u8], m: u16, t: usize, s: usize, x: u8) -> bool
     requires { ⌜ (length (now waves) ≡ tablesMost * tableSize) × (s < signalsMost) × (t < tablesMost) ⌝ }
-    ensures { λ b. ⌜ (b ≡ true → isMarked m t ≡ true → (tabs : Tables) → Marked (now (waves .entry)) tabs → okAt tabs (tableOf t) s x ≡ true) ⌝ }
+    ensures { λ b. ⌜ (b ≡ true → isMarked m 0 ≡ true → (tabs : Tables) → Marked (now (waves .entry)) tabs → okAt tabs (tableOf t) s x ≡ true) ⌝ }
 {
-    if !memos::is_marked(m, t) {
+    if !memos::is_marked(m, 0) {
         return true;
     }
     tallies::fits(waves, t, s, x)
 }
 
-// Under each that is?
+// Under each that is? An unassigned signal can under every table, and behind the last table's mark nothing is asked.
 fn pin_granted(waves: &[u8], m: u16, s: usize, x: u8) -> bool
-    requires { ⌜ (length (now waves) ≡ tablesMost * tableSize) × (s < signalsMost) ⌝ }
+    requires { ⌜ (length (now waves) ≡ tablesMost * tableSize) × (s < signalsMost) × (m < marksMost) ⌝ }
     ensures { λ b. ⌜ (b ≡ true → (tabs : Tables) → Marked (now (waves .entry)) tabs → Granted tabs m s x) ⌝ }
 {
+    if x == 0 {
+        return true;
+    }
+    let mut rest = m % 256;
     let mut t = 0;
-    while t < timing::TABLES {
-        if !mark_granted(waves, m, t, s, x) {
+    while rest != 0 {
+        if !mark_granted(waves, rest, t, s, x) {
             return false;
         }
+        rest /= 2;
         t += 1;
     }
     true

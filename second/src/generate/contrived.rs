@@ -2,8 +2,10 @@
 
 /// Behind eight Loops in each other around as many V's as there is room for; behind uses of a macro that uses others, in five Loops. Those others have a Shift
 /// that plays no turn; or arguments with a character that only one of their two tables has: repeated, spelled out, with another V between the uses, with each
-/// character a word, or in a procedure; behind V's too, beside a Shift that plays no turn; and many uses with such an argument, each at a place of its own.
-pub const CONTRIVED_KINDS: [&str; 9] = ["loops", "empty", "repeated", "spelled", "between", "words", "calls", "still", "many"];
+/// character a word, or in a procedure; behind V's too, beside a Shift that plays no turn; and many uses with such an argument, each at a place of its own. Or
+/// behind one macro with such an argument, in which stand seven Loops in each other around V's.
+pub const CONTRIVED_KINDS: [&str; 10] =
+    ["loops", "empty", "repeated", "spelled", "between", "words", "calls", "still", "many", "nested"];
 
 pub fn contrived(kind: &str, signals: usize) -> Option<Vec<u8>> {
     let spelled = format!("{}2", "1".repeat(1000));
@@ -18,9 +20,11 @@ pub fn contrived(kind: &str, signals: usize) -> Option<Vec<u8>> {
         "calls" => (bodies("Procedures", "Call", SHOWN, &spelled, 30), nested(5, &between("Call k;", 300))),
         "still" => (macros(&still(), &format!("{}2; B = ", "1".repeat(200)), 30), nested(5, &between("Macro k;", 300))),
         "many" => (format!("MacroDefs {{ {SHOWN} }}\n"), nested(5, &between(&format!("Macro m {{ A = {}2; }}", "1 ".repeat(20)), 700))),
+        "nested" => (entered(&nested(7, &"V { A = 1; }\n".repeat(4200))), "Macro m { A = 12; }".into()),
         _ => return None,
     };
-    (2..=64).contains(&signals).then(|| text(signals, &bodies, &statements))
+    let most = if kind == "nested" { 256 } else { 64 };
+    (2..=most).contains(&signals).then(|| text(signals, &bodies, &statements))
 }
 
 /// Of its argument the first character is shown under one table and the others under another, which alone has `2`.
@@ -29,6 +33,11 @@ const SHOWN: &str = "m { W s; V { A = #; } W t; Shift { V { A = #; } } C { A = 1
 /// The same without a turn of its Shift, which is another signal's.
 fn still() -> String {
     format!("m {{ W s; V {{ A = #; }} W t; {}Shift {{ V {{ B = #; }} }} C {{ A = 1; }} }}", "V { A = #; } ".repeat(200))
+}
+
+/// A macro whose argument has a character that only the second of its tables has: no sum grants it, so that what it holds is played.
+fn entered(inner: &str) -> String {
+    format!("MacroDefs {{ m {{ W s; V {{ A = #; }} W t; V {{ A = #; }}\n{inner} }} }}\n")
 }
 
 fn macros(body: &str, argument: &str, count: usize) -> String {

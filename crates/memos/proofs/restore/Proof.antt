@@ -9,7 +9,7 @@ use Rattle.memos.proofs.restore.Statement.{statement}
 use Rattle.memos.proofs.restore.Tie as tie
 use Rattle.memos.proofs.byte_of.Reads as byte-of-reads
 use Rattle.memos.proofs.left_on.Reads as left-on-reads
-use Rattle.memos.proofs.marks.Reads as marks-reads
+use Rattle.memos.proofs.marks_of.Reads as marks-of-reads
 
 abbrev Inv-loop : tie.InvT-loop
 Inv-loop memo o values₀ signals s₀ values s =
@@ -23,20 +23,8 @@ loop-holds : tie.Need-loop-holds Inv-loop μ-loop
 loop-holds c =
     (omega arith, restores-none)
 
-add-marks : tie.Need-add-marks Inv-loop μ-loop
-add-marks c =
-    omega arith
-
-add-marks-2 : tie.Need-add-marks-2 Inv-loop μ-loop
-add-marks-2 c =
-    omega arith
-
-add-marks-3 : tie.Need-add-marks-3 Inv-loop μ-loop
-add-marks-3 c =
-    omega arith
-
-marks-requires : tie.Need-marks-requires Inv-loop μ-loop
-marks-requires c κs =
+marks-of-requires : tie.Need-marks-of-requires Inv-loop μ-loop
+marks-of-requires c κs =
     omega arith
 
 slice-read-left-on : tie.Need-slice-read-left-on Inv-loop μ-loop
@@ -83,7 +71,7 @@ loop-less c =
 loop-again : tie.Need-loop-again Inv-loop μ-loop
 loop-again c =
     let e = c .left-on .ensures in
-    let m = c .before .before .before .before .marks .ensures .0 in
+    let m = c .before .before .before .before .marks-of .ensures in
     (omega arith, restores-next (c .before .before .before .before .before .before .loop .inv .1) (c .left-on .result) (c .before .byte-of .result) (omega (arith, c .before .before .before .before .before .before .loop .inv .1 .long)) (c .before .byte-of .ensures) (rw m at e))
 
 same-length : tie.Need-same-length Inv-loop μ-loop
@@ -101,10 +89,7 @@ restore-spec =
     Inv-loop
     μ-loop
     loop-holds
-    add-marks
-    add-marks-2
-    add-marks-3
-    marks-requires
+    marks-of-requires
     slice-read-left-on
     add-byte-of
     add-byte-of-2

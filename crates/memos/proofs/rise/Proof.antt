@@ -24,14 +24,14 @@ mul-merge c =
 merge-requires : tie.Need-merge-requires
 merge-requires c κs =
     let r = tracked-room (c .before .before .before .args .level) (length (c .before .before .before .args .memo .now)) (c .before .if1 .left) in
-    (positive (c .before .before .before .args .level) (r .0), omega (arith, c .before .before .before .pre .0), c .before .before .before .pre .1, omega arith, omega (arith, r .1, c .before .before .before .pre))
+    (positive (c .before .before .before .args .level) (r .0), omega (arith, c .before .before .before .pre .0), omega (arith, c .before .before .before .pre .1), omega arith, omega (arith, r .1, c .before .before .before .pre))
 
 same-length : tie.Need-same-length
 same-length c = search needs
 
 returns-2 : tie.Need-returns-2
 returns-2 c =
-    (c .before .before .merge .ensures .0, λ some long s h. c .before .before .merge .ensures .1 s h)
+    (c .before .before .merge .ensures .0, λ some long s h. c .before .before .merge .ensures .1 s (omega (arith, h)))
 
 pub rise-spec : {M : Type 1} → statement M
 rise-spec = tie.close (tie.spec returns add-merge mul-merge merge-requires same-length returns-2)

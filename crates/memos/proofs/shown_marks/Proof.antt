@@ -1,6 +1,8 @@
--- One mark, or none.
+-- One test.
 use native.Mathlib.Omega.{arith}
-use borrow.Author.Tests.{eq-eqb, ne-eqb, lt-ltb, le-ltb}
+use Prim.Native.Nat.{ℕ}
+use mathlib.Core.Path.{_≡_, sym, ap, _∙_}
+use borrow.Author.Tests.{ne-eqb}
 use Rattle.memos.specs.Tracks.{shownMarks}
 use borrow.Author.Needs.{needs}
 use Rattle.memos.proofs.shown_marks.Statement.{statement}
@@ -13,21 +15,11 @@ bit-of-requires c κs = search needs
 returns : tie.Need-returns
 unfolding shownMarks
 returns c =
-    (rw (ne-eqb (c .before .before .args .g) 0 (c .before .if1 .taken), shownMarks) (c .bit-of .ensures .0), omega (arith, c .bit-of .ensures .2))
-
-bit-of-requires-2 : tie.Need-bit-of-requires-2
-bit-of-requires-2 c κs = search needs
+    (λ t e. rw (ne-eqb (c .before .before .args .g) 0 (c .before .if1 .taken), shownMarks) (c .bit-of .ensures .0), omega (arith, c .bit-of .ensures .2))
 
 returns-2 : tie.Need-returns-2
-unfolding shownMarks
 returns-2 c =
-    (rw (eq-eqb (c .before .before .before .args .g) 0 (c .before .before .if1 .left), shownMarks, lt-ltb (c .before .before .before .args .t) 8 (c .before .if2 .taken)) (c .bit-of2 .ensures .0), omega (arith, c .bit-of2 .ensures .2))
-
-returns-3 : tie.Need-returns-3
-unfolding shownMarks
-returns-3 c =
-    (rw (eq-eqb (c .before .before .args .g) 0 (c .before .if1 .left), shownMarks, le-ltb (c .before .before .args .t) 8 (omega arith)), omega arith)
+    (λ t e. e ∙ ap (λ (g : ℕ). shownMarks g t) (sym (c .if1 .left)), c .before .pre)
 
 pub shown-marks-spec : {M : Type 1} → statement M
-shown-marks-spec =
-    tie.close (tie.spec bit-of-requires returns bit-of-requires-2 returns-2 returns-3)
+shown-marks-spec = tie.close (tie.spec bit-of-requires returns returns-2)

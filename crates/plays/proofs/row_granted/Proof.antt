@@ -37,7 +37,7 @@ shared-slice-read-pin-granted c =
 
 pin-granted-requires : tie.Need-pin-granted-requires Inv-loop μ-loop
 pin-granted-requires c κs =
-    (c .before .before .before .before .before .before .before .pre .1, omega (arith, c .before .before .before .before .before .before .before .pre .2))
+    (c .before .before .before .before .before .before .before .pre .1, omega (arith, c .before .before .before .before .before .before .before .pre .2), omega (arith, c .before .marks-of .ensures))
 
 returns : tie.Need-returns Inv-loop μ-loop
 returns c =
