@@ -457,3 +457,6 @@ pub fn remember(
     trace(memo, o + BEFORE, table, level * sets::MOST, signals);
     picture(memo, o + BEHIND, behind, values, signals);
 }
+
+// Where the marks of a row begin, behind its table.
+pub const MARKED: usize = BEFORE + 1;

@@ -14,7 +14,7 @@ use Rattle.words.specs.Cursor.{alive, stream}
 use Rattle.words.specs.declared.Cursor.{Cursor}
 use Rattle.pins.specs.Shown.{tableOf}
 use Rattle.plays.specs.declared.Played.{Played}
-use Rattle.plays.specs.Plays.{Ground, Holding, Heads, Knows, Arrays, Standing, Kept, Plays, Fed, Ended, Onward, Steps, Resumed, Moves, Below}
+use Rattle.plays.specs.Plays.{Ground, Holding, Heads, Knows, Arrays, Standing, Kept, Plays, Fed, Ended, Onward, Steps, Resumed, Moves, nestOf, Below}
 use Rattle.memos.specs.Tracks.{Tracking}
 use Rattle.memos.proofs.Tracking.{follow-start, follow-assoc, follow-alike, tracking-none, tracking-then, tracking-same}
 use Rattle.plays.proofs.Fitting.{neither, fits-again}
@@ -52,7 +52,7 @@ module _ {g : Ground} {memo₀ : List ℕ} {more level table : ℕ} {x : Arrays}
           step = λ z. follow (o .step z) (n .step);
           is = λ z. o .is z ∙ follow-alike (o .step z) (playFew k t (o .rest)) (λ y. follow (n .step y) (playFew k t (n .rest))) (n .is) ∙ sym (follow-assoc (o .step z) (n .step) (playFew k t (n .rest)));
           here = n .here ∙ ap (λ (z : State). n .step z .0) (o .here);
-          tracks = tracking-then (o .tracks) long (subst (λ (z : State). Tracking (E .tables) (g .signals) level memo memo′ z (n .step)) (o .here) (n .tracks));
+          tracks = tracking-then (o .tracks) long (subst (λ (z : State). Tracking (E .tables) (g .signals) (nestOf more) memo memo′ z (n .step)) (o .here) (n .tracks));
         }
 
     -- the last
@@ -64,11 +64,11 @@ module _ {g : Ground} {memo₀ : List ℕ} {more level table : ℕ} {x : Arrays}
         by false e true f q = let p = h .ended e f in record { told = told-alike (o .same) (p .told); behind = p .behind }
         by false e false f q = let z : _≡_ {A = ℕ} 0 1 = cc in absurd (omega arith)
 
-    pub gone-tracked : (r .failed || r .ends) ≡ true → r .failed ≡ false → Tracking (E .tables) (g .signals) level memo₀ memo′ s (playFew k t b)
+    pub gone-tracked : (r .failed || r .ends) ≡ true → r .failed ≡ false → Tracking (E .tables) (g .signals) (nestOf more) memo₀ memo′ s (playFew k t b)
     gone-tracked q e =
         let f : r .ends ≡ true = rw e at q in
         tracking-same (λ z. sym (o .is z))
-        (tracking-then (o .tracks) long (subst (λ (z : State). Tracking (E .tables) (g .signals) level memo memo′ z (playFew k t (o .rest))) (o .here) (h .last e f)))
+        (tracking-then (o .tracks) long (subst (λ (z : State). Tracking (E .tables) (g .signals) (nestOf more) memo memo′ z (playFew k t (o .rest))) (o .here) (h .last e f)))
 
 -- ---- whatever the sums say
 
@@ -123,6 +123,6 @@ pub record Going (g : Ground) (marks sums memo₀ memo : List ℕ) (more level k
   pub onward : (E : Env) (b : Body) (us : Toks) (s : State) → Standing g (stream (g .text) c₀) more level table₀ x₀ E b us s → Knows g marks sums memo₀ E
       → Onward g memo₀ memo more level table x E us k t b s c
   pub memo-long : length memo ≡ length memo₀
-  pub below : Below level memo₀ memo
+  pub below : Below (nestOf more) memo₀ memo
   pub heads : Heads g memo
   pub learnt : (E : Env) (b : Body) (us : Toks) (s : State) → Standing g (stream (g .text) c₀) more level table₀ x₀ E b us s → Knows g marks sums memo₀ E → Knows g marks sums memo E

@@ -7,7 +7,7 @@ pub mod Tracks
 pub mod Stepping
 pub mod Shifting
 pub mod Turning
-mod Steady
+mod Seconds
 pub mod Going
 pub mod Entering
 pub mod Single

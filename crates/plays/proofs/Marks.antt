@@ -126,3 +126,7 @@ unpassed {sums} memo {level} {i} {table} {s} on h off deep room = by (leb firstP
 
 pub passed-on : (i : ℕ) (on : Bool) → (leb firstProcedure i || not on) ≡ false → (i < firstProcedure) × (on ≡ true)
 passed-on i on h = let n = neither (leb firstProcedure i) (not on) h in (leb-false firstProcedure i (n .0), not-false on (n .1))
+
+-- what is tracked is asked where the table is the one before
+pub asked-on : (behind table : ℕ) (on : Bool) → (not (eqb behind table) || not on) ≡ false → (behind ≡ table) × (on ≡ true)
+asked-on behind table on h = let n = neither (not (eqb behind table)) (not on) h in (eqb-true behind table (not-false _ (n .0)), not-false on (n .1))

@@ -18,7 +18,7 @@ use Rattle.meaning.specs.Body.{Args, Kind, macro, procedure, listed, Body}
 use Rattle.meaning.specs.Run.{State, Played as Play, entering}
 use Rattle.meaning.specs.Meaning.{firstFailing}
 use Rattle.meaning.specs.Statements.{Decl, Env, Head, uses}
-use Rattle.meaning.proofs.Turns.{Plain, Good}
+use Rattle.meaning.proofs.Turns.{Good}
 use Rattle.held.specs.Held.{freeHead, HeadAt}
 use Rattle.turns.proofs.Decides.{few-left, fewer-fail}
 use Rattle.turns.specs.Few.{playFew}
@@ -35,7 +35,7 @@ use Rattle.plays.specs.declared.Played.{Played}
 use Rattle.memos.specs.Memo.{rowAt, pinsOf, AtLevel, Told as MemoTold, telling, Row, SameUse, Remembered}
 use Rattle.memos.specs.Tracks.{isMarked, assignedMark, Joins, tracksLength, marksAt, Granted, Tracked}
 use Rattle.memos.proofs.Rows.{row-tracked}
-use Rattle.plays.specs.Plays.{Ground, Arrays, arrays, Showing, Summed, useAt, Comes, Outcome, Remembers, Behind, Heads, Knows, Promised, PromisedWhere, Using, Entered, Performed, Invoking, Below}
+use Rattle.plays.specs.Plays.{Ground, Arrays, arrays, Showing, Summed, useAt, Comes, Outcome, Remembers, Behind, Heads, Knows, Promised, nestOf, Looping, PromisedWhere, Using, Entered, Performed, Invoking, Below}
 use Rattle.plays.proofs.Keeping.{shows-untouched}
 use Rattle.plays.proofs.Tracks.{pins-wide}
 
@@ -136,9 +136,9 @@ module _ {g : Ground} {E : Env} {c : Cursor} {level table table′ : ℕ} {m pin
   comes : Comes (E .tables) (g .signals) m table′ pins s (entering kind a (playFew k t (d .body)) s)
   comes = o .each k (omega arith) kind d t a us h s (pins-wide shown long) (shown .table-is) pins-granted
 
-  pub recalled-told : {values′ : List ℕ} → length values′ ≡ length values → ((i : ℕ) → i < g .signals → isMarked (m i) assignedMark ≡ true → getD values′ i 0 ≡ pins i)
+  pub recalled-told : {values′ : List ℕ} {place : ℕ} → length values′ ≡ length values → ((i : ℕ) → i < g .signals → isMarked (m i) assignedMark ≡ true → getD values′ i 0 ≡ pins i)
       → ((i : ℕ) → i < g .signals → isMarked (m i) assignedMark ≡ false → getD values′ i 0 ≡ getD values i 0)
-      → Told (E .tables) (g .text) (g .signals) values′ table′ feeds level false 0 (entering kind a (playFew k t (d .body)) s)
+      → Told (E .tables) (g .text) (g .signals) values′ table′ feeds level false place (entering kind a (playFew k t (d .body)) s)
   recalled-told {values′} same put kept =
       let w = comes in
       let wide = length-take-le (g .signals) values′ (omega arith) in
@@ -188,6 +188,7 @@ invoking-untouched v e = record {
   fits = v .fits;
   shows = shows-untouched (v .shows) e;
   supplied = v .supplied;
+  exact = v .exact;
 }
 
 -- ---- rows
@@ -235,9 +236,21 @@ module _ {g : Ground} {marks sums memo memo′ : List ℕ} {E : Env} (h : Knows 
 pub heads-tracked : {g : Ground} {memo memo′ : List ℕ} (level : ℕ) → Heads g memo → g .signals ≤ signalsMost → level ≤ depthMost → AtLevel memo memo′ level → Heads g memo′
 heads-tracked level h few l w = record { each = λ j k c b t v t′ v′ row. h .each j k c b t v t′ v′ (row-tracked level (omega arith) l w row) }
 
--- what is tracked at lower levels is as it was
-pub below-tracked : {memo memo′ : List ℕ} (level : ℕ) → AtLevel memo memo′ level → Below level memo memo′
-below-tracked level w i h = w .others i λ p q. omega arith
+-- what is tracked less deep is as it was
+pub below-tracked : {memo memo′ : List ℕ} (nest : ℕ) → AtLevel memo memo′ nest → Below nest memo memo′
+below-tracked nest w = record { each = λ i h. w .others i (λ p q. omega arith) }
+
+pub below-remembered : {memo memo′ : List ℕ} {n : ℕ} {x : MemoTold} (nest : ℕ) → nest ≤ depthMost → Remembered memo memo′ n x → Below nest memo memo′
+below-remembered nest l r = record { each = λ i h. r .tracks i (omega arith) }
+
+pub below-none : {nest : ℕ} {memo : List ℕ} → Below nest memo memo
+below-none = record { each = λ i h. refl }
+
+pub below-then : {nest : ℕ} {memo memo′ memo″ : List ℕ} → Below nest memo memo′ → Below nest memo′ memo″ → Below nest memo memo″
+below-then a b = record { each = λ i h. b .each i h ∙ a .each i h }
+
+pub below-around : {within : ℕ} {memo memo′ : List ℕ} (around : ℕ) → within ≡ around + 1 → Below within memo memo′ → Below around memo memo′
+below-around around e b = record { each = λ i h. b .each i (omega arith) }
 
 -- a memo that is too short has no row
 row-room : {memo : List ℕ} {n j : ℕ} {x : MemoTold} → Row memo n j x → length memo < tracksLength → ⊥
@@ -247,8 +260,8 @@ row-room {memo} {n} {j} r h =
 module _ {g : Ground} {marks sums memo memo′ memo″ given : List ℕ} {c behind : Cursor} {i t more level table k : ℕ} {x x′ y : Arrays} {r : Played} {E : Env} {b : Body} {us : Toks} {a : Args} {s : State}
     (v : Invoking g c i t more level table given x E b us a s) (p : Performed g marks sums memo memo′ i more level table x′ y k t r) (u : Using g i more level table x′ E b us a s)
     (m : Knows g marks sums memo E) (long : g .signals ≤ length (y .values)) (e : r .failed ≡ false)
-    (fresh : tracksLength ≤ length memo → (j : ℕ) → j < g .signals → marksAt memo (level + 1) j ≡ 0)
-    (w : Remembered memo′ memo″ (g .signals) (telling (useAt k c) behind table (marksAt memo′ (level + 1)) (r .table) (pinsOf (y .values)))) where
+    (fresh : tracksLength ≤ length memo → (j : ℕ) → j < g .signals → marksAt memo (nestOf (more - 1)) j ≡ 0)
+    (w : Remembered memo′ memo″ (g .signals) (telling (useAt k c) behind table (marksAt memo′ (nestOf (more - 1))) (r .table) (pinsOf (y .values)))) where
   -- what was played is remembered
   pub remembered-knows : Knows g marks sums memo″ E
   remembered-knows = by (ltb (length memo) tracksLength) refl
@@ -263,14 +276,20 @@ module _ {g : Ground} {marks sums memo memo′ memo″ given : List ℕ} {c behi
           knows-more (p .learnt E b us a s u m) w
           (played-outcome v k long (p .told E b us a s u m) e (p .tracks E b us a s u m e room (fresh room)))
 
--- what it shows and assigns a level deeper is what stood there before it was remembered
-pub risen : {g : Ground} {marks sums memo₀ memo memo′ memo″ : List ℕ} {i t more table k n : ℕ} {x y : Arrays} {r : Played} {told : MemoTold} {z : ℕ} (level j : ℕ)
-    → AtLevel memo₀ memo (level + 1) → Performed g marks sums memo memo′ i more level table x y k t r → Remembered memo′ memo″ n told → level < depthMost → j < signalsMost
-    → Joins (marksAt memo″ level j) (marksAt memo″ (level + 1) j) z → Joins (marksAt memo₀ level j) (marksAt memo′ (level + 1) j) z
-risen {memo₀ = memo₀} {memo = memo} {memo′ = memo′} {memo″ = memo″} level j w p r l h joins =
-    let here : getD memo″ (level * signalsMost + j) 0 ≡ getD memo₀ (level * signalsMost + j) 0 =
-    r .tracks (level * signalsMost + j) (omega arith) ∙ p .below (level * signalsMost + j) (omega arith) ∙ w .others (level * signalsMost + j) (λ a b. omega arith) in
-    let there : getD memo″ ((level + 1) * signalsMost + j) 0 ≡ getD memo′ ((level + 1) * signalsMost + j) 0 = r .tracks ((level + 1) * signalsMost + j) (omega arith) in
+-- what was tracked one deeper in the nest is joined to what stood around it before
+pub risen : {memo₀ memo memo′ : List ℕ} {z within : ℕ} (around j : ℕ) → within ≡ around + 1 → AtLevel memo₀ memo within → Below within memo memo′ → around < depthMost → j < signalsMost
+    → Joins (marksAt memo′ around j) (marksAt memo′ (around + 1) j) z → Joins (marksAt memo₀ around j) (marksAt memo′ within j) z
+risen {memo₀} {memo} {memo′} around j next w below l h joins =
+    let here : getD memo′ (around * signalsMost + j) 0 ≡ getD memo₀ (around * signalsMost + j) 0 =
+    below .each (around * signalsMost + j) (omega arith) ∙ w .others (around * signalsMost + j) (λ a b. omega arith) in
+    rw next (rw here at joins)
+
+-- as it stood before that was remembered
+pub remembered-joins : {memo memo′ : List ℕ} {n z : ℕ} {x : MemoTold} (around j : ℕ) → Remembered memo memo′ n x → around < depthMost → j < signalsMost
+    → Joins (marksAt memo′ around j) (marksAt memo′ (around + 1) j) z → Joins (marksAt memo around j) (marksAt memo (around + 1) j) z
+remembered-joins {memo} {memo′} around j r l h joins =
+    let here : getD memo′ (around * signalsMost + j) 0 ≡ getD memo (around * signalsMost + j) 0 = r .tracks (around * signalsMost + j) (omega arith) in
+    let there : getD memo′ ((around + 1) * signalsMost + j) 0 ≡ getD memo ((around + 1) * signalsMost + j) 0 = r .tracks ((around + 1) * signalsMost + j) (omega arith) in
     rw (here, there) at joins
 
 -- ---- the cursor behind a use
@@ -320,14 +339,10 @@ knows-sums m h = record { summed = m; remembers = remembers-none h }
 -- ---- where nothing is remembered
 
 -- a Loop of which no turn is left out: nothing is asked of its body
-pub promised-all : {g : Ground} {marks sums memo memo′ : List ℕ} {ts : Toks} {more level table : ℕ} {x y : Arrays} {f : Body → State → Play} {r : Played}
-    → PromisedWhere (λ b. false ≡ true → Plain b) g marks sums memo memo′ ts more level table x y f r → ((i : ℕ) → getD memo i 0 ≡ 0)
+pub promised-all : {g : Ground} {marks sums memo memo′ : List ℕ} {ts : Toks} {more level nest n table : ℕ} {x y : Arrays} {f : Body → State → Play} {r : Played}
+    → PromisedWhere (Looping n nest memo) g marks sums memo memo′ ts more level nest table x y f r → ((i : ℕ) → getD memo i 0 ≡ 0) → length memo < tracksLength
     → Promised g marks sums ts more level table x y f r
-promised-all p blank = record {
-  kept = p .kept;
-  ended = p .ended;
-  plays = λ E b us s st m. p .plays E b us s st (knows-sums m blank) (λ e. (let z : _≡_ {A = ℕ} 0 1 = cc in absurd (omega arith)));
-}
+promised-all p blank short = record { kept = p .kept; ended = p .ended; plays = λ E b us s st m. p .plays E b us s st (knows-sums m blank) (λ room. absurd (omega arith)) }
 
 pub entered-all : {g : Ground} {marks sums memo memo′ : List ℕ} {i more level table : ℕ} {x y : Arrays} {k t : ℕ} {r : Played}
     → Performed g marks sums memo memo′ i more level table x y k t r → ((i : ℕ) → getD memo i 0 ≡ 0) → Entered g marks sums i more level table x y k t r

@@ -8,7 +8,7 @@ use lib.ListN.{length, getD, take}
 use lib.Seq.{length-take-le}
 use Rattle.meaning.specs.Bounds.{signalsMost, tablesMost}
 use Rattle.memos.specs.Tracks.{Joins, shownMarks, tracksLength, marksAt, Tracking}
-use Rattle.memos.proofs.Marking.{joins-zero}
+use Rattle.memos.proofs.Marking.{joins-zero, true-false}
 use Rattle.memos.proofs.Tracking.{tracking-same, tracking-none, tracking-joined}
 use Rattle.plays.proofs.Tracks.{assigns-tracked, vector-tracked, chosen-tracked, pins-wide}
 use lib.Dec.{eqb, ltb}
@@ -40,7 +40,7 @@ use Rattle.heads.specs.declared.What.the-variants.{Ends, Vector, Assigns as Ass
 use Rattle.heads.specs.Heads.{kindOf, Tells}
 use Rattle.pins.specs.Shown.{tableOf, Feeding, Shows, Playable, Told, vector}
 use Rattle.plays.specs.declared.Played.{Played}
-use Rattle.plays.specs.Plays.{Ground, Holding, Behind, Summed, Single, Fits, Arrays, arrays, Showing, Standing, Telling, Plays, Ended, Steps, Moves, Using, Invoking, Calling}
+use Rattle.plays.specs.Plays.{Ground, Holding, Behind, Summed, Single, Fits, Arrays, arrays, Showing, Standing, Telling, Plays, Ended, nestOf, Steps, Moves, Using, Invoking, Calling}
 use Rattle.plays.proofs.Supply.{same-puts, same-changed, same-playing, same-play}
 use Rattle.plays.proofs.Fitting.{inside-parts, fits-again, fits-behind-vec, fits-behind-set, fits-behind-inner, fits-some, fits-looped, fits-shifted, fits-entered}
 use Rattle.plays.proofs.Following.{first-fails, second-alike, alike-same, alike-then}
@@ -51,7 +51,7 @@ use Rattle.plays.proofs.Heading.{holds-less, Met, met, met-split, met-f
 module _ {g : Ground} {memo memo′ : List ℕ} {ts : Toks} {more level : ℕ} {y : Arrays} {E : Env} {us : Toks} {k t : ℕ} {b : Body} {s : State} {r : Played} where
   -- behind the first statement, which is played by `step`, `rest` is held
   pub steps-on : (step : State → Play) (rest : Body) → ((z : State) → playFew k t b z ≡ follow (step z) (playFew k t rest)) → Holding g E → Fits more level (step s .0 .args) rest → r .ends ≡ false
-      → Telling g (E .tables) level y r (step s) → (r .failed ≡ false → Tracking (E .tables) (g .signals) level memo memo′ s step)
+      → Telling g (E .tables) level y r (step s) → (r .failed ≡ false → Tracking (E .tables) (g .signals) (nestOf more) memo memo′ s step)
       → (r .failed ≡ false → (alive (r .cursor) ≡ true) × Holds E (stream (g .text) (r .cursor)) rest us × (left (stream (g .text) (r .cursor)) < left ts))
       → Steps g memo memo′ ts more level y E us k t b s r
   steps-on step rest is holding fits more-comes told tracked on = record {
@@ -169,7 +169,8 @@ module _ {g : Ground} {c r : Cursor} {more level table : ℕ} {x : Arrays} {E : 
 
   -- what the assignments of a V or C mark was joined to what was tracked, under this table
   abbrev pub Marking : (memo memo′ : List ℕ) → ℕ → Type 0
-  Marking memo memo′ table = 0 < level → tracksLength ≤ length memo → (j : ℕ) → j < g .signals → Joins (marksAt memo level j) (shownMarks (getD given j 0) table) (marksAt memo′ level j)
+  Marking memo memo′ table =
+      0 < nestOf more → tracksLength ≤ length memo → (j : ℕ) → j < g .signals → Joins (marksAt memo (nestOf more) j) (shownMarks (getD given j 0) table) (marksAt memo′ (nestOf more) j)
 
   module _ {memo memo′ : List ℕ} {y : Arrays} {k t : ℕ} (few : g .signals ≤ signalsMost) (wide : g .signals ≤ length (x .values)) where
     pub vector-step : {f : Bool} (p : ℕ) → what ≡ Vector p → Marking memo memo′ table
@@ -314,7 +315,7 @@ one-vector i = i .fits .single .0
 inside-step : {g : Ground} {memo memo′ : List ℕ} {c r : Cursor} {more level : ℕ} {y : Arrays} {E : Env} {b : Body} {us : Toks} {s : State} {w : Way} {k t : ℕ} {z : Played} → Holding g E
     → (i : Inside g c r more level E b us s w) → z .ends ≡ false
     → Plays g (E .tables) level y (i .between) z (playingFew k t w (λ j. playFew j (shiftOf t w) (i .body)) s)
-    → (z .failed ≡ false → Tracking (E .tables) (g .signals) level memo memo′ s (playingFew k t w (λ j. playFew j (shiftOf t w) (i .body))))
+    → (z .failed ≡ false → Tracking (E .tables) (g .signals) (nestOf more) memo memo′ s (playingFew k t w (λ j. playFew j (shiftOf t w) (i .body))))
     → Steps g memo memo′ (stream (g .text) c) more level y E us k t b s z
 unfolding playFew
 inside-step {s = s} {w = w} {k = k} {t = t} holding i more-comes p tracked =
@@ -358,31 +359,30 @@ module _ {g : Ground} {c r : Cursor} {more level table : ℕ} {x : Arrays} {E : 
   reused-less : left (stream (g .text) r) < left (stream (g .text) c)
   reused-less = takes-head E _ _ _ .falls _ _ _ (reused .read)
 
-  pub reused-moves : {y : Arrays} {f : Bool} {p table′ : ℕ} → Feeding (g .text) (y .feeds) level (s .args)
-      → Moves g (stream (g .text) c) more level y E us (s .args) (record { cursor = r; failed = f; place = p; table = table′; ends = false })
-  reused-moves fed =
+  pub reused-moves : {y : Arrays} (z : Played) → z .cursor ≡ r → z .ends ≡ false → Feeding (g .text) (y .feeds) level (s .args) → Moves g (stream (g .text) c) more level y E us (s .args) z
+  reused-moves z there more-comes fed =
       let u = reused in
       record {
-        ended = λ e f. (let w : _≡_ {A = ℕ} 0 1 = cc in absurd (omega arith));
-        goes = λ e f. (record { rest = u .rest; on = on; holds = u .behind; fits = fits-behind-inner refl (u .fits); fed = record { rest = s .args; same = refl; feeding = fed } }, reused-less);
+        ended = λ e f. true-false f more-comes;
+        goes = λ e f. rw there (record { rest = u .rest; on = on; holds = u .behind; fits = fits-behind-inner refl (u .fits); fed = record { rest = s .args; same = refl; feeding = fed } }, reused-less);
       }
 
-  pub reused-step : {memo memo′ : List ℕ} {y : Arrays} (z : Played) (k t : ℕ)
+  pub reused-step : {memo memo′ : List ℕ} {y : Arrays} (z : Played) (k t : ℕ) → z .cursor ≡ r → z .ends ≡ false
       → Telling g (E .tables) level y z (entering (reused .kind) (reused .arguments) (playFew k (reused .turns) (reused .decl .body)) s)
-      → (z .failed ≡ false → Tracking (E .tables) (g .signals) level memo memo′ s (entering (reused .kind) (reused .arguments) (playFew k (reused .turns) (reused .decl .body))))
-      → Steps g memo memo′ (stream (g .text) c) more level y E us k t b s (record { cursor = r; failed = z .failed; place = z .place; table = z .table; ends = false })
+      → (z .failed ≡ false → Tracking (E .tables) (g .signals) (nestOf more) memo memo′ s (entering (reused .kind) (reused .arguments) (playFew k (reused .turns) (reused .decl .body))))
+      → Steps g memo memo′ (stream (g .text) c) more level y E us k t b s z
   unfolding playFew playingFew shiftOf
-  reused-step z k t p tracked =
+  reused-step z k t there more-comes p tracked =
       let u = reused in
       let w = entered (u .kind) (u .turns) (u .arguments) in
       steps-on (entering (u .kind) (u .arguments) (playFew k (u .turns) (u .decl .body))) (u .rest) (λ z. ap (λ (q : Body). playFew k t q z) (u .is)) (st .holding)
-      (fits-behind-inner (same-playing k t w (λ j. playFew j (u .turns) (u .decl .body)) (λ j. same-play j (u .turns) (u .decl .body)) s) (u .fits)) refl p tracked
-      λ h. (on, u .behind, reused-less)
+      (fits-behind-inner (same-playing k t w (λ j. playFew j (u .turns) (u .decl .body)) (λ j. same-play j (u .turns) (u .decl .body)) s) (u .fits)) more-comes p tracked
+      λ h. rw there (on, u .behind, reused-less)
 
 -- where the sums are known, a used body may be passed
-pub called-calling : {g : Ground} {c r : Cursor} {more level : ℕ} {E : Env} {b : Body} {us : Toks} {s : State} {i u : ℕ} {given args marks sums : List ℕ} → Holding g E
-    → (d : Called g c r more level E b us s i u given args) → Summed g marks sums E → Calling g marks sums i u given args E (d .body) (d .after) (d .arguments)
-called-calling holding d m = record { held = holding .held; holds = d .holds; good = d .body-fits .good; supplied = d .supplied; exact = d .exact; summed = m }
+pub invoked-calling : {g : Ground} {c : Cursor} {i t more level table : ℕ} {marks sums given : List ℕ} {x : Arrays} {E : Env} {b : Body} {us : Toks} {a : Args} {s : State}
+    → Invoking g c i t more level table given x E b us a s → Summed g marks sums E → Calling g marks sums i t given (x .args) E b us a
+invoked-calling v m = record { held = v .holding .held; holds = v .holds; good = v .fits .good; supplied = v .supplied; exact = v .exact; summed = m }
 
 pub called-invoking : {g : Ground} {c r : Cursor} {more level table i u : ℕ} {values feeds given args : List ℕ} {E : Env} {b : Body} {us : Toks} {s : State} → Holding g E
     → (d : Called g c r more level E b us s i u given args) → Showing g level table (arrays values feeds args) s
@@ -396,14 +396,15 @@ called-invoking holding d shown = record {
   fits = d .body-fits;
   shows = shown;
   supplied = d .supplied;
+  exact = d .exact;
 }
 
-pub called-moves : {g : Ground} {c r : Cursor} {more level : ℕ} {y : Arrays} {E : Env} {b : Body} {us : Toks} {s : State} {i u : ℕ} {given args : List ℕ} {f : Bool} {p table : ℕ}
-    → Called g c r more level E b us s i u given args → Feeding (g .text) (y .feeds) level (s .args)
-    → Moves g (stream (g .text) c) more level y E us (s .args) (record { cursor = r; failed = f; place = p; table = table; ends = false })
-called-moves {s = s} d fed = record {
-  ended = λ e f. (let w : _≡_ {A = ℕ} 0 1 = cc in absurd (omega arith));
-  goes = λ e f. (record { rest = d .rest; on = d .on; holds = d .behind; fits = fits-behind-inner refl (d .fits); fed = record { rest = s .args; same = refl; feeding = fed } }, d .less);
+pub called-moves : {g : Ground} {c r : Cursor} {more level : ℕ} {y : Arrays} {E : Env} {b : Body} {us : Toks} {s : State} {i u : ℕ} {given args : List ℕ} (z : Played)
+    → Called g c r more level E b us s i u given args → z .cursor ≡ r → z .ends ≡ false → Feeding (g .text) (y .feeds) level (s .args)
+    → Moves g (stream (g .text) c) more level y E us (s .args) z
+called-moves {s = s} z d there more-comes fed = record {
+  ended = λ e f. true-false f more-comes;
+  goes = λ e f. rw there (record { rest = d .rest; on = d .on; holds = d .behind; fits = fits-behind-inner refl (d .fits); fed = record { rest = s .args; same = refl; feeding = fed } }, d .less);
 }
 
 module _ {g : Ground} {c r : Cursor} {more level table : ℕ} {x y : Arrays} {E : Env} {b : Body} {us : Toks} {s : State} (st : Standing g (stream (g .text) c) more level table x E b us s)
@@ -412,11 +413,11 @@ module _ {g : Ground} {c r : Cursor} {more level table : ℕ} {x y : Arrays} {E 
       pub loop-standing : Showing g level table y s → Standing g (stream (g .text) r) (more - 1) level table y E (i .body) (i .between) s
       loop-standing shown = record { holding = st .holding; holds = i .holds; fits = fits-looped (i .fits); shows = shown }
 
-      pub loop-step : {memo memo′ : List ℕ} {z : Played} (k t : ℕ) → Plays g (E .tables) level y (i .between) z (loopFew n k (λ j. playFew j t (i .body)) s)
-          → (z .failed ≡ false → Tracking (E .tables) (g .signals) level memo memo′ s (loopFew n k (λ j. playFew j t (i .body))))
-          → Steps g memo memo′ (stream (g .text) c) more level y E us k t b s (record { cursor = z .cursor; failed = z .failed; place = z .place; table = z .table; ends = false })
+      pub loop-step : {memo memo′ : List ℕ} {z : Played} (k t : ℕ) → z .ends ≡ false → Plays g (E .tables) level y (i .between) z (loopFew n k (λ j. playFew j t (i .body)) s)
+          → (z .failed ≡ false → Tracking (E .tables) (g .signals) (nestOf more) memo memo′ s (loopFew n k (λ j. playFew j t (i .body))))
+          → Steps g memo memo′ (stream (g .text) c) more level y E us k t b s z
       unfolding playingFew shiftOf
-      loop-step k t p tracked = inside-step (st .holding) i refl (record { told = p .told; behind = p .behind }) tracked
+      loop-step k t more-comes p tracked = inside-step (st .holding) i more-comes p tracked
 
     module _ (i : Inside g c r more level E b us s shifted) where
       pub shift-standing : Showing g level table y s → Standing g (stream (g .text) r) more level table y E (vec (one-vector i .0) (one-vector i .1) done) (i .between) s
@@ -425,11 +426,11 @@ module _ {g : Ground} {c r : Cursor} {more level table : ℕ} {x y : Arrays} {E 
 
       pub shift-step : {memo memo′ : List ℕ} {z : Played} (k t : ℕ) → z .ends ≡ false
           → Plays g (E .tables) level y (i .between) z (again t (playFew k t (vec (one-vector i .0) (one-vector i .1) done)) s)
-          → (z .failed ≡ false → Tracking (E .tables) (g .signals) level memo memo′ s (again t (playFew k t (vec (one-vector i .0) (one-vector i .1) done))))
+          → (z .failed ≡ false → Tracking (E .tables) (g .signals) (nestOf more) memo memo′ s (again t (playFew k t (vec (one-vector i .0) (one-vector i .1) done))))
           → Steps g memo memo′ (stream (g .text) c) more level y E us k t b s z
       unfolding playingFew shiftOf
       shift-step {memo} {memo′} {z} k t more-comes p tracked = inside-step (st .holding) i more-comes (rw (one-vector i .2) p)
-          λ e. subst (λ (q : Body). Tracking (E .tables) (g .signals) level memo memo′ s (again t (playFew k t q))) (sym (one-vector i .2)) (tracked e)
+          λ e. subst (λ (q : Body). Tracking (E .tables) (g .signals) (nestOf more) memo memo′ s (again t (playFew k t q))) (sym (one-vector i .2)) (tracked e)
 
     module _ {i u : ℕ} {given args : List ℕ} (d : Called g c r more level E b us s i u given args) where
       pub called-using : Showing g level table y s → Feeding (g .text) (y .feeds) (level + 1) (d .arguments)
@@ -445,12 +446,12 @@ module _ {g : Ground} {c r : Cursor} {more level table : ℕ} {x y : Arrays} {E 
       }
 
       -- what a used body played, and then the rest
-      pub called-step : {memo memo′ : List ℕ} (z : Played) (k t : ℕ) → Telling g (E .tables) level y z (entering (kindOf i) (d .arguments) (playFew k u (d .body)) s)
-          → (z .failed ≡ false → Tracking (E .tables) (g .signals) level memo memo′ s (entering (kindOf i) (d .arguments) (playFew k u (d .body))))
-          → Steps g memo memo′ (stream (g .text) c) more level y E us k t b s (record { cursor = r; failed = z .failed; place = z .place; table = z .table; ends = false })
+      pub called-step : {memo memo′ : List ℕ} (z : Played) (k t : ℕ) → z .cursor ≡ r → z .ends ≡ false → Telling g (E .tables) level y z (entering (kindOf i) (d .arguments) (playFew k u (d .body)) s)
+          → (z .failed ≡ false → Tracking (E .tables) (g .signals) (nestOf more) memo memo′ s (entering (kindOf i) (d .arguments) (playFew k u (d .body))))
+          → Steps g memo memo′ (stream (g .text) c) more level y E us k t b s z
       unfolding playFew playingFew shiftOf
-      called-step z k t p tracked =
+      called-step z k t there more-comes p tracked =
           let w = entered (kindOf i) u (d .arguments) in
           steps-on (entering (kindOf i) (d .arguments) (playFew k u (d .body))) (d .rest) (λ z. ap (λ (q : Body). playFew k t q z) (d .is)) (st .holding)
-          (fits-behind-inner (same-playing k t w (λ j. playFew j u (d .body)) (λ j. same-play j u (d .body)) s) (d .fits)) refl p tracked
-          λ h. (d .on, d .behind, d .less)
+          (fits-behind-inner (same-playing k t w (λ j. playFew j u (d .body)) (λ j. same-play j u (d .body)) s) (d .fits)) more-comes p tracked
+          λ h. rw there (d .on, d .behind, d .less)

@@ -1,5 +1,5 @@
 -- What is tracked of each statement: which signals it assigns, and under which table it shows the others.
-use Prim.Native.Nat.{ℕ, zero, suc, _+_, _*_, _<_, _≤_}
+use Prim.Native.Nat.{ℕ, zero, suc, _+_, _-_, _*_, _<_, _≤_}
 use native.Mathlib.Nat.{add-zero, zero-add, add-suc, suc-add}
 use native.Mathlib.Omega.{arith}
 use mathlib.Core.Path.{_≡_, refl, sym, ap, _∙_, subst}
@@ -10,10 +10,13 @@ use mathlib.Core.List.{List, [], _∷_, _++_}
 use lib.Dec.{eqb, ltb}
 use lib.ListN.{length, getD, replicate}
 use borrow.Author.Tests.{eqb-true, eqb-false, ltb-true}
+use Rattle.tokens.specs.Tokens.{Toks}
 use Rattle.meaning.specs.Bounds.{signalsMost, tablesMost, depthMost}
 use Rattle.meaning.specs.Timing.{Wave, Tables}
 use Rattle.meaning.specs.Body.{Assigns, Args, mark, choosing, Kind, macro, procedure, Body, done, vec, marked, argOf}
 use Rattle.meaning.specs.Run.{State, Cycle, Played, unassigned, next, puts, changed, cycleAt, follow, again, bare, entering}
+use Rattle.meaning.specs.Statements.{Env}
+use Rattle.words.specs.declared.Cursor.{Cursor}
 use Rattle.meaning.specs.Meaning.{hasWave, allWaves, tableAt, playable, firstFailing}
 use Rattle.meaning.proofs.Turns.{orElse, fails-++}
 use Rattle.walks.specs.Turns.{lostAll}
@@ -22,7 +25,7 @@ use Rattle.measures.specs.Uses.{Given}
 use Rattle.assigns.specs.Given.{charOf}
 use lib.Seq.{length-take-le}
 use Rattle.pins.specs.Shown.{tableOf, valuesLength, Shows, vector}
-use Rattle.plays.specs.Plays.{Fits}
+use Rattle.plays.specs.Plays.{Ground, Arrays, nestOf, Fits, Invoking}
 use Rattle.pins.proofs.Puts.{shown, puts-table, puts-long, puts-pin}
 use Rattle.sums.specs.Sums.{okAt}
 use Rattle.sums.proofs.Cycles.{passes}
@@ -90,27 +93,30 @@ pub pins-roomy : {text : List ℕ} {n : ℕ} {values : List ℕ} {table : ℕ} {
     → length values ≡ valuesLength → length (s .pins) ≡ n
 pins-roomy h few long = pins-wide h (omega arith)
 
--- a level in which a body may stand
-pub level-fits : {more level : ℕ} {args : Args} {b : Body} → Fits more level args b → level ≤ depthMost
-level-fits f = omega (arith, f .levels)
-
-pub some-level : (level : ℕ) → 0 < level + 1
-some-level level = omega arith
-
 pub as-long : {a b c : ℕ} → a ≡ b → c ≤ b → c ≤ a
 as-long e h = omega arith
 
-pub level-less : {more : ℕ} (level : ℕ) {args : Args} {b : Body} → Fits more (level + 1) args b → level < depthMost
-level-less level f = omega (arith, f .levels)
+-- ---- how deep a body stands in the nest of Loops and uses
 
-pub level-above : {more : ℕ} (level : ℕ) {args : Args} {b : Body} → Fits more (level + 1) args b → level ≤ depthMost
-level-above level f = omega (arith, f .levels)
+pub nest-fits : (more : ℕ) → nestOf more ≤ depthMost
+nest-fits more = omega arith
 
-pub deeper : (level i : ℕ) → i < level * signalsMost → i < (level + 1) * signalsMost
-deeper level i h = omega arith
+pub nest-less : {more : ℕ} → 0 < more → nestOf more < depthMost
+nest-less h = omega arith
 
-pub tracked-place : (level i : ℕ) → level ≤ depthMost → i < level * signalsMost → i < tracksLength
-tracked-place level i l h = omega arith
+-- one in it stands one deeper
+pub nest-next : {more : ℕ} → 0 < more → more ≤ depthMost → nestOf (more - 1) ≡ nestOf more + 1
+nest-next h l = omega arith
+
+pub nest-some : (around : ℕ) {within : ℕ} → within ≡ around + 1 → 0 < within
+nest-some around e = omega arith
+
+pub nest-deep : {more : ℕ} (level : ℕ) {args : Args} {b : Body} → Fits more (level + 1) args b → 0 < nestOf more
+nest-deep level f = omega (arith, f .levels)
+
+pub invoked-next : {g : Ground} {c : Cursor} {i t more level table : ℕ} {given : List ℕ} {x : Arrays} {E : Env} {b : Body} {us : Toks} {a : Args} {s : State}
+    → Invoking g c i t more level table given x E b us a s → nestOf (more - 1) ≡ nestOf more + 1
+invoked-next v = nest-next (v .some-more) (omega (arith, v .fits .levels, v .some-more))
 
 pub few-below : {n j : ℕ} → n ≤ signalsMost → j < n → j < signalsMost
 few-below h l = omega arith

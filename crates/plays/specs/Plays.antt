@@ -13,7 +13,7 @@ use Rattle.meaning.specs.Body.{Assigns, Args, Kind, Way, looped, shifted, enter
 use Rattle.meaning.specs.Run.{State, Played as Play, follow, again, entering}
 use Rattle.meaning.specs.Meaning.{firstFailing}
 use Rattle.meaning.specs.Statements.{Decl, Env, uses}
-use Rattle.meaning.proofs.Turns.{Good}
+use Rattle.meaning.proofs.Turns.{Plain, Good}
 use Rattle.held.specs.Held.{HeadAt, Holds}
 use Rattle.turns.specs.Few.{playFew}
 use Rattle.words.specs.Cursor.{alive, stream}
@@ -123,9 +123,13 @@ pub record Recalls (waves memo : List ℕ) (n : ℕ) (u : Use) (table : ℕ) (va
   pub finds : Finds memo u table r
   pub granted : r .is ≡ true → (tabs : Tables) → Marked waves tabs → (i : ℕ) → i < n → Granted tabs (marksFrom memo (r .at + beforeAt + 1) i) i (getD values i 0)
 
--- what is tracked at levels that are lower is as it was
-abbrev pub Below : ℕ → List ℕ → List ℕ → Type 0
-Below level memo memo′ = (i : ℕ) → i < level * signalsMost → getD memo′ i 0 ≡ getD memo i 0
+-- how deep a body stands in the nest of Loops and uses, in which bodies may stand `more` deep: so deep is tracked what it shows and assigns
+abbrev pub nestOf : ℕ → ℕ
+nestOf more = depthMost - more
+
+-- what is tracked less deep is as it was
+pub record Below (nest : ℕ) (memo memo′ : List ℕ) : Type 0 where
+  pub each : (i : ℕ) → i < nest * signalsMost → getD memo′ i 0 ≡ getD memo i 0
 
 -- what is known of the bodies that a text uses
 pub record Knows (g : Ground) (marks sums memo : List ℕ) (E : Env) : Type 0 where
@@ -229,26 +233,29 @@ pub record Promised (g : Ground) (marks sums : List ℕ) (ts : Toks) (more level
   pub plays : (E : Env) (b : Body) (us : Toks) (s : State) → Standing g ts more level table x E b us s → Summed g marks sums E → Plays g (E .tables) level y us r (f b s)
 
 -- the same, of each body that is fine, where what is remembered is so; and it is so behind it
-pub record PromisedWhere (fine : Body → Type 0) (g : Ground) (marks sums memo memo′ : List ℕ) (ts : Toks) (more level table : ℕ) (x y : Arrays) (f : Body → State → Play) (r : Played) : Type 0 where
+pub record PromisedWhere (fine : Body → Type 0) (g : Ground) (marks sums memo memo′ : List ℕ) (ts : Toks) (more level nest table : ℕ) (x y : Arrays) (f : Body → State → Play) (r : Played) : Type 0 where
   pub kept : Kept level x y
   pub ended : (E : Env) (b : Body) (us : Toks) (s : State) → Standing g ts more level table x E b us s → r .failed ≡ false → Ended g level y us (s .args) (r .cursor)
   pub plays : (E : Env) (b : Body) (us : Toks) (s : State) → Standing g ts more level table x E b us s → Knows g marks sums memo E → fine b → Plays g (E .tables) level y us r (f b s)
   pub memo-long : length memo′ ≡ length memo
-  pub below : Below level memo memo′
+  pub below : Below nest memo memo′
   pub heads : Heads g memo′
   pub learnt : (E : Env) (b : Body) (us : Toks) (s : State) → Standing g ts more level table x E b us s → Knows g marks sums memo E → Knows g marks sums memo′ E
   pub tracks : (E : Env) (b : Body) (us : Toks) (s : State) → Standing g ts more level table x E b us s → Knows g marks sums memo E → fine b → r .failed ≡ false
-      → Tracking (E .tables) (g .signals) level memo memo′ s (f b)
+      → Tracking (E .tables) (g .signals) nest memo memo′ s (f b)
 
--- ---- a second turn that begins as the first began
+-- ---- a second turn that is left out
 
--- the first n values are those that were kept
-pub record SameTo (n : ℕ) (values kept : List ℕ) : Type 0 where
-  pub each : (s : ℕ) → s < n → getD values s 0 ≡ getD kept s 0
+-- where anything is tracked: a Loop's body has no `#`, and nothing was tracked so deep before its first turn
+abbrev pub Looping : (n nest : ℕ) → List ℕ → Body → Type 0
+Looping n nest memo b = tracksLength ≤ length memo → Plain b × ((j : ℕ) → j < n → marksAt memo nest j ≡ 0)
 
-pub record SamePins (n : ℕ) (values kept : List ℕ) (r : Bool) : Type 0 where
-  pub same : r ≡ true → SameTo n values kept
-  pub other : r ≡ false → SameTo n values kept → ⊥
+-- what is tracked so deep was played from this table on, and would play as well from the table and the pins behind it
+pub record Begins (waves memo : List ℕ) (n nest table behind : ℕ) (values : List ℕ) : Type 0 where
+  pub table-same : behind ≡ table
+  pub deep : 0 < nest
+  pub room : tracksLength ≤ length memo
+  pub granted : (tabs : Tables) → Marked waves tabs → (i : ℕ) → i < n → Granted tabs (marksAt memo nest i) i (getD values i 0)
 
 -- ---- one statement
 
@@ -267,13 +274,13 @@ pub record Onward (g : Ground) (memo memo′ : List ℕ) (more level table : ℕ
   pub step : State → Play
   pub is : (z : State) → playFew k t b z ≡ follow (step z) (playFew k t rest)
   pub here : state ≡ step s .0
-  pub tracks : Tracking (E .tables) (g .signals) level memo memo′ s step
+  pub tracks : Tracking (E .tables) (g .signals) (nestOf more) memo memo′ s step
 
 -- one statement of the body b was played: a cycle of it fails; or it was the `}`; or a rest of b is left, of fewer tokens
 pub record Steps (g : Ground) (memo memo′ : List ℕ) (ts : Toks) (more level : ℕ) (y : Arrays) (E : Env) (us : Toks) (k t : ℕ) (b : Body) (s : State) (r : Played) : Type 0 where
   pub fails : r .failed ≡ true → firstFailing (E .tables) (playFew k t b s .1) ≡ some (r .place)
   pub ended : r .failed ≡ false → r .ends ≡ true → Plays g (E .tables) level y us r (playFew k t b s)
-  pub last : r .failed ≡ false → r .ends ≡ true → Tracking (E .tables) (g .signals) level memo memo′ s (playFew k t b)
+  pub last : r .failed ≡ false → r .ends ≡ true → Tracking (E .tables) (g .signals) (nestOf more) memo memo′ s (playFew k t b)
   pub goes : r .failed ≡ false → r .ends ≡ false
       → Onward g memo memo′ more level (r .table) y E us k t b s (r .cursor) × (left (stream (g .text) (r .cursor)) < left ts)
 
@@ -295,7 +302,7 @@ pub record Stepped (g : Ground) (marks sums memo memo′ : List ℕ) (ts : Toks)
   pub steps : (E : Env) (b : Body) (us : Toks) (s : State) → Standing g ts more level table x E b us s → Knows g marks sums memo E
       → Steps g memo memo′ ts more level y E us k t b s r
   pub memo-long : length memo′ ≡ length memo
-  pub below : Below level memo memo′
+  pub below : Below (nestOf more) memo memo′
   pub heads : Heads g memo′
   pub learnt : (E : Env) (b : Body) (us : Toks) (s : State) → Standing g ts more level table x E b us s → Knows g marks sums memo E → Knows g marks sums memo′ E
 
@@ -309,9 +316,9 @@ pub record Shifted (g : Ground) (ts : Toks) (more level table : ℕ) (x y : Arra
 -- the same, and what was played is tracked
 pub record ShiftedOn (g : Ground) (memo memo′ : List ℕ) (ts : Toks) (more level table : ℕ) (x y : Arrays) (k t : ℕ) (r : Played) : Type 0 where
   pub shifted-is : Shifted g ts more level table x y k t r
-  pub at-level : AtLevel memo memo′ level
+  pub at-level : AtLevel memo memo′ (nestOf more)
   pub tracks : (E : Env) (p : ℕ) (a : Assigns) (us : Toks) (s : State) → Standing g ts more level table x E (vec p a done) us s → r .failed ≡ false
-      → Tracking (E .tables) (g .signals) level memo memo′ s (again t (playFew k t (vec p a done)))
+      → Tracking (E .tables) (g .signals) (nestOf more) memo memo′ s (again t (playFew k t (vec p a done)))
 
 -- ---- a body that a statement uses
 
@@ -349,13 +356,13 @@ pub record Performed (g : Ground) (marks sums memo memo′ : List ℕ) (i more l
   pub told : (E : Env) (b : Body) (us : Toks) (a : Args) (s : State) → Using g i more level table x E b us a s → Knows g marks sums memo E
       → Telling g (E .tables) level y r (entering (kindOf i) a (playFew k t b) s)
   pub memo-long : length memo′ ≡ length memo
-  pub below : Below (level + 1) memo memo′
+  pub below : Below (nestOf (more - 1)) memo memo′
   pub heads : Heads g memo′
   pub learnt : (E : Env) (b : Body) (us : Toks) (a : Args) (s : State) → Using g i more level table x E b us a s → Knows g marks sums memo E → Knows g marks sums memo′ E
-  -- where nothing was tracked a level deeper, it is
+  -- where nothing was tracked so deep, it is
   pub tracks : (E : Env) (b : Body) (us : Toks) (a : Args) (s : State) → Using g i more level table x E b us a s → Knows g marks sums memo E → r .failed ≡ false
-      → tracksLength ≤ length memo → ((j : ℕ) → j < g .signals → marksAt memo (level + 1) j ≡ 0)
-      → Tracked (E .tables) (g .signals) (marksAt memo′ (level + 1)) s (entering (kindOf i) a (playFew k t b))
+      → tracksLength ≤ length memo → ((j : ℕ) → j < g .signals → marksAt memo (nestOf (more - 1)) j ≡ 0)
+      → Tracked (E .tables) (g .signals) (marksAt memo′ (nestOf (more - 1))) s (entering (kindOf i) a (playFew k t b))
 
 -- the statement at the cursor c uses the declared body b of number i with the arguments a, for t turns of its Shift
 pub record Invoking (g : Ground) (c : Cursor) (i t more level table : ℕ) (given : List ℕ) (x : Arrays) (E : Env) (b : Body) (us : Toks) (a : Args) (s : State) : Type 0 where
@@ -367,6 +374,7 @@ pub record Invoking (g : Ground) (c : Cursor) (i t more level table : ℕ) (give
   pub fits : Fits (more - 1) (level + 1) a b
   pub shows : Showing g level table x s
   pub supplied : Supplied (g .text) a given (x .args)
+  pub exact : ((j : ℕ) → count j (shifting b) ≤ 1) → Exact t b a
 
 pub record SomeInvoked (g : Ground) (c : Cursor) (i t more level table : ℕ) (given : List ℕ) (x : Arrays) : Type 0 where
   pub env : Env
@@ -385,12 +393,12 @@ pub record Served (g : Ground) (marks sums memo memo′ : List ℕ) (c : Cursor)
   pub told : (E : Env) (b : Body) (us : Toks) (a : Args) (s : State) → Invoking g c i t more level table given x E b us a s → Knows g marks sums memo E
       → Telling g (E .tables) level y r (entering (kindOf i) a (playFew k t b) s)
   pub memo-long : length memo′ ≡ length memo
-  pub below : Below level memo memo′
+  pub below : Below (nestOf more) memo memo′
   pub heads : Heads g memo′
   pub learnt : (E : Env) (b : Body) (us : Toks) (a : Args) (s : State) → Invoking g c i t more level table given x E b us a s → Knows g marks sums memo E
       → Knows g marks sums memo′ E
   pub tracks : (E : Env) (b : Body) (us : Toks) (a : Args) (s : State) → Invoking g c i t more level table given x E b us a s → Knows g marks sums memo E → r .failed ≡ false
-      → Tracking (E .tables) (g .signals) level memo memo′ s (entering (kindOf i) a (playFew k t b))
+      → Tracking (E .tables) (g .signals) (nestOf more) memo memo′ s (entering (kindOf i) a (playFew k t b))
 
 -- ---- a used body that is passed
 

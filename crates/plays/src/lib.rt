@@ -1,9 +1,9 @@
 // Playing bodies where the text holds them, to find the first cycle that fails: one without a table, or with an assigned character that has no waveform
-// in it. Every Loop plays its first turn, and its second where fewer than two second turns are open and it isn't the first again. A used body whose sum is known
-// (`marks`, `sums`) and granted is passed; only one that may fail is entered, and once for each table, as long as that is remembered: what it shows of the pins before
-// it and what it assigns is tracked (`memos`), so that it is known for which other pins it would play as well.
+// in it. A used body whose sum is known (`marks`, `sums`) and granted is passed; only one that may fail is entered, and once for each table, as long as that is remembered:
+// what it shows of the pins before it and what it assigns is tracked (`memos`), so that it is known for which other pins it would play as well. Every Loop plays its first
+// turn, which is tracked so too, and its second where fewer than two second turns are open and the first would not play as well from what it left.
 ghost use mathlib.Core.Path.{_≡_};
-ghost use mathlib.Core.Bool.{true};
+ghost use mathlib.Core.Bool.{true, false};
 ghost use Rattle.pins.specs.Shown.{tableOf};
 ghost use Rattle.sums.specs.Sums.{okAt};
 ghost use mathlib.Core.List.{List};
@@ -22,13 +22,13 @@ ghost use Rattle.pins.specs.Shown.{valuesLength};
 ghost use Rattle.heads.specs.declared.Known.{Known};
 ghost use Rattle.texts.specs.declared.Parts.{Parts};
 ghost use Rattle.plays.specs.Run.{SomeListed, PlaysListed, SomeRun, Runs, Decides};
-ghost use Rattle.plays.specs.Plays.{ground, arrays, Heads, Behind, Stood, Used, Promised, PromisedWhere, SamePins, Stepped, Shifted, ShiftedOn, Entered, Performed, SomeInvoked, Served, Summed, Settles, Passing, Recalls, SumMarks, PassedMarks};
+ghost use Rattle.plays.specs.Plays.{ground, arrays, Heads, Behind, Stood, Used, Promised, nestOf, Looping, PromisedWhere, Begins, Stepped, Shifted, ShiftedOn, Entered, Performed, SomeInvoked, Served, Summed, useAt, Settles, Passing, Recalls, SumMarks, PassedMarks};
 ghost use Rattle.tallies.specs.Rows.{rowSize, sumAt, Marked};
 ghost use Rattle.timing.specs.Held.{Held};
 ghost use Rattle.meaning.specs.Timing.{Tables};
 ghost use Rattle.meaning.specs.Bounds.{depthMost};
 ghost use Rattle.memos.specs.Tracks.{isMarked, assignedMark, marksMost, Joins, shownMarks, tracksLength, marksFrom, marksAt, Granted};
-ghost use Rattle.memos.specs.Memo.{memoRow, beforeAt, AtLevel};
+ghost use Rattle.memos.specs.Memo.{memoRow, beforeAt, AtLevel, Brings};
 use heads::Known;
 use memos::Found;
 use memos::Use;
@@ -39,6 +39,7 @@ const DEPTH: usize = 8;
 const SECONDS: usize = 2;
 
 // How a body is played: with so many second turns open in it at most, its Shift so often, in so many levels of bodies at most, at a level of its own.
+// What is tracked of it stands DEPTH - depth deep, in the nest of Loops and uses around it.
 pub struct Frame {
     pub seconds: usize,
     pub turns: usize,
@@ -68,6 +69,31 @@ pub struct Failing {
 }
 
 // ---- one statement
+
+// A statement was played in which no cycle fails, and statements go on.
+fn goes_on(cursor: Cursor, table: usize) -> Played
+    ensures { λ r. ⌜ r ≡ record { cursor = cursor; failed = false; place = 0; table = table; ends = false } ⌝ }
+{
+    Played {
+        cursor,
+        failed: false,
+        place: 0,
+        table,
+        ends: false,
+    }
+}
+
+// The statement at the cursor, as it is remembered.
+fn use_at(seconds: usize, c: Cursor) -> Use
+    ensures { λ r. ⌜ r ≡ useAt seconds c ⌝ }
+{
+    Use {
+        seconds,
+        fault: c.fault as usize,
+        at: c.at,
+        end: c.end,
+    }
+}
 
 // What t turns of a V mark: the same as one, and nothing where there is none.
 fn mark_turns(memo: &mut [u16], level: usize, given: &[u8], table: usize, t: usize, signals: usize)
@@ -118,7 +144,8 @@ fn shift_on<'a>(
         &mut given,
         args,
     );
-    mark_turns(memo, frame.level, &given, table, frame.turns, signals);
+    let nest = DEPTH - frame.depth;
+    mark_turns(memo, nest, &given, table, frame.turns, signals);
     let failed = pins::vectors(
         text,
         &given,
@@ -183,38 +210,8 @@ pub fn shift<'a>(
     )
 }
 
-// The pins before a turn, where they are asked for behind it.
-fn keep(values: &[u8], kept: &mut [u8], signals: usize, asked: bool)
-    requires { ⌜ (signals ≤ length (now values)) × (signals ≤ length (now kept)) ⌝ }
-    ensures { λ _. ⌜ (length (now (kept .exit)) ≡ length (now (kept .entry))) × (asked ≡ true → Settles signals (now (values .entry)) (now (kept .entry)) (now (kept .exit))) ⌝ }
-{
-    if !asked {
-        return;
-    }
-    let mut s = 0;
-    while s < signals {
-        kept[s] = values[s];
-        s += 1;
-    }
-}
-
-// Are the pins those that were kept?
-fn same_pins(values: &[u8], kept: &[u8], signals: usize) -> bool
-    requires { ⌜ (signals ≤ length (now values)) × (signals ≤ length (now kept)) ⌝ }
-    ensures { λ r. ⌜ SamePins signals (now (values .entry)) (now (kept .entry)) r ⌝ }
-{
-    let mut s = 0;
-    while s < signals {
-        if values[s] != kept[s] {
-            return false;
-        }
-        s += 1;
-    }
-    true
-}
-
-// Loop N { .. }: those of its two turns that are needed. Where `plain` says that its body has no `#`, a second turn that begins as the first began is the first
-// again: no cycle of it fails, and it leaves the same.
+// Loop N { .. }: those of its two turns that are needed. Where what is tracked of the first says that it would play as well from what it left, no cycle of the second fails,
+// and it leaves the same.
 fn needed_turns<'a>(
     text: &'a [u8],
     c: Cursor,
@@ -230,7 +227,6 @@ fn needed_turns<'a>(
     signals: usize,
     frame: Frame,
     n: usize,
-    plain: bool,
     table: usize,
     values: &mut [u8],
     feeds: &mut [usize],
@@ -238,7 +234,7 @@ fn needed_turns<'a>(
     memo: &mut [u16],
 ) -> Played
     requires { ⌜ (alive c ≡ true) × (0 < n) × (0 < frame .depth) × Stood (ground (now text) (now places) (now lists) (now tplaces) (now book) (now rows) (now waves) known signals) (stream (now text) c) (frame .depth - 1) (frame .level) table (arrays (now values) (now feeds) (now args)) × Heads (ground (now text) (now places) (now lists) (now tplaces) (now book) (now rows) (now waves) known signals) (now memo) ⌝ }
-    ensures { λ r. ⌜ PromisedWhere (λ b. plain ≡ true → Plain b) (ground (now (text .entry)) (now (places .entry)) (now (lists .entry)) (now (tplaces .entry)) (now (book .entry)) (now (rows .entry)) (now (waves .entry)) known signals) (now (marks .entry)) (now (sums .entry)) (now (memo .entry)) (now (memo .exit)) (stream (now (text .entry)) c) (frame .depth - 1) (frame .level) table (arrays (now (values .entry)) (now (feeds .entry)) (now (args .entry))) (arrays (now (values .exit)) (now (feeds .exit)) (now (args .exit))) (λ b. loopFew n (frame .seconds) (λ j. playFew j (frame .turns) b)) r ⌝ }
+    ensures { λ r. ⌜ PromisedWhere (Looping signals (nestOf (frame .depth - 1)) (now (memo .entry))) (ground (now (text .entry)) (now (places .entry)) (now (lists .entry)) (now (tplaces .entry)) (now (book .entry)) (now (rows .entry)) (now (waves .entry)) known signals) (now (marks .entry)) (now (sums .entry)) (now (memo .entry)) (now (memo .exit)) (stream (now (text .entry)) c) (frame .depth - 1) (frame .level) (nestOf (frame .depth - 1)) table (arrays (now (values .entry)) (now (feeds .entry)) (now (args .entry))) (arrays (now (values .exit)) (now (feeds .exit)) (now (args .exit))) (λ b. loopFew n (frame .seconds) (λ j. playFew j (frame .turns) b)) r ⌝ }
 {
     let first = Frame {
         seconds: frame.seconds,
@@ -246,13 +242,6 @@ fn needed_turns<'a>(
         depth: frame.depth - 1,
         level: frame.level,
     };
-    let mut kept = [0u8; sets::MOST];
-    keep(
-        values,
-        &mut kept,
-        signals,
-        plain & (1 < n) & (0 < frame.seconds),
-    );
     let a = statements(
         text,
         c,
@@ -276,11 +265,18 @@ fn needed_turns<'a>(
     if a.failed | (n < 2) | (frame.seconds == 0) {
         return a;
     }
-    let after = a.table;
-    let same = same_pins(values, &kept, signals);
-    if plain & (frame.level == 0) & (after == table) & same {
+    if begins_again(
+        memo,
+        DEPTH - first.depth,
+        waves,
+        values,
+        signals,
+        table,
+        a.table,
+    ) {
         return a;
     }
+    let after = a.table;
     let second = Frame {
         seconds: frame.seconds - 1,
         turns: frame.turns,
@@ -307,6 +303,65 @@ fn needed_turns<'a>(
         args,
         memo,
     )
+}
+
+// Loop N { .. }: what its turns show and assign is tracked in the nest of its own, and then in the one around it.
+fn looped<'a>(
+    text: &'a [u8],
+    c: Cursor,
+    places: &'a [usize],
+    lists: &'a [u16],
+    tplaces: &'a [usize],
+    book: &'a [usize],
+    rows: &'a [u16],
+    waves: &'a [u8],
+    marks: &'a [u8],
+    sums: &'a [u8],
+    known: Known,
+    signals: usize,
+    frame: Frame,
+    n: usize,
+    table: usize,
+    values: &mut [u8],
+    feeds: &mut [usize],
+    args: &mut [usize],
+    memo: &mut [u16],
+) -> Played
+    requires { ⌜ (alive c ≡ true) × (0 < n) × (0 < frame .depth) × (frame .depth ≤ depthMost) × Stood (ground (now text) (now places) (now lists) (now tplaces) (now book) (now rows) (now waves) known signals) (stream (now text) c) (frame .depth - 1) (frame .level) table (arrays (now values) (now feeds) (now args)) × Heads (ground (now text) (now places) (now lists) (now tplaces) (now book) (now rows) (now waves) known signals) (now memo) ⌝ }
+    ensures { λ r. ⌜ (r .ends ≡ false) × PromisedWhere Plain (ground (now (text .entry)) (now (places .entry)) (now (lists .entry)) (now (tplaces .entry)) (now (book .entry)) (now (rows .entry)) (now (waves .entry)) known signals) (now (marks .entry)) (now (sums .entry)) (now (memo .entry)) (now (memo .exit)) (stream (now (text .entry)) c) (frame .depth - 1) (frame .level) (nestOf (frame .depth)) table (arrays (now (values .entry)) (now (feeds .entry)) (now (args .entry))) (arrays (now (values .exit)) (now (feeds .exit)) (now (args .exit))) (λ b. loopFew n (frame .seconds) (λ j. playFew j (frame .turns) b)) r ⌝ }
+{
+    let around = DEPTH - frame.depth;
+    memos::fresh(memo, DEPTH - (frame.depth - 1), signals);
+    let r = needed_turns(
+        text,
+        c,
+        places,
+        lists,
+        tplaces,
+        book,
+        rows,
+        waves,
+        marks,
+        sums,
+        known,
+        signals,
+        frame,
+        n,
+        table,
+        values,
+        feeds,
+        args,
+        memo,
+    );
+    memos::rise(memo, around, signals);
+    let behind = r.cursor;
+    Played {
+        cursor: behind,
+        failed: r.failed,
+        place: r.place,
+        table: r.table,
+        ends: false,
+    }
 }
 
 // Loop N { .. }, whatever its body: its first turn, and its second where there is one and a second turn may be open.
@@ -349,7 +404,6 @@ pub fn turns<'a>(
         signals,
         frame,
         n,
-        false,
         table,
         values,
         feeds,
@@ -436,7 +490,7 @@ fn play_body<'a>(
         memo,
     );
     pins::come_back(values, inner.level);
-    memos::fresh(memo, inner.level, signals);
+    memos::fresh(memo, DEPTH - inner.depth, signals);
     let cursor = r.cursor;
     Played {
         cursor,
@@ -644,19 +698,38 @@ fn pin_granted(waves: &[u8], m: u16, s: usize, x: u8) -> bool
     true
 }
 
-// Does the row at o hold for these pins?
-fn row_granted(memo: &[u16], o: usize, waves: &[u8], values: &[u8], signals: usize) -> bool
-    requires { ⌜ (o + memoRow ≤ length (now memo)) × (length (now waves) ≡ tablesMost * tableSize) × (signals ≤ signalsMost) × (signals ≤ length (now values)) ⌝ }
-    ensures { λ b. ⌜ (b ≡ true → (tabs : Tables) → Marked (now (waves .entry)) tabs → (i : ℕ) → i < signals → Granted tabs (marksFrom (now (memo .entry)) (o + beforeAt + 1) i) i (getD (now (values .entry)) i 0)) ⌝ }
+// Does what is tracked, with the marks that stand from a place on, hold for these pins?
+fn pins_granted(memo: &[u16], from: usize, waves: &[u8], values: &[u8], signals: usize) -> bool
+    requires { ⌜ (from + signals ≤ length (now memo)) × (length (now waves) ≡ tablesMost * tableSize) × (signals ≤ signalsMost) × (signals ≤ length (now values)) ⌝ }
+    ensures { λ b. ⌜ (b ≡ true → (tabs : Tables) → Marked (now (waves .entry)) tabs → (i : ℕ) → i < signals → Granted tabs (marksFrom (now (memo .entry)) from i) i (getD (now (values .entry)) i 0)) ⌝ }
 {
     let mut s = 0;
     while s < signals {
-        if !pin_granted(waves, memos::marks_of(memo, o, s), s, values[s]) {
+        if !pin_granted(waves, memos::marks(memo, from + s), s, values[s]) {
             return false;
         }
         s += 1;
     }
     true
+}
+
+// Would what was played at this nest from a table on play as well from the table and the pins behind it?
+fn begins_again(
+    memo: &[u16],
+    nest: usize,
+    waves: &[u8],
+    values: &[u8],
+    signals: usize,
+    table: usize,
+    after: usize,
+) -> bool
+    requires { ⌜ (nest ≤ depthMost) × (length (now waves) ≡ tablesMost * tableSize) × (signals ≤ signalsMost) × (signals ≤ length (now values)) ⌝ }
+    ensures { λ b. ⌜ (b ≡ true → Begins (now (waves .entry)) (now (memo .entry)) signals nest table after (now (values .entry))) ⌝ }
+{
+    if (after != table) | !memos::tracks(memo, nest) {
+        return false;
+    }
+    pins_granted(memo, nest * sets::MOST, waves, values, signals)
 }
 
 // The row of a use from this table, if it is remembered and holds for these pins.
@@ -669,7 +742,7 @@ fn recall(memo: &[u16], waves: &[u8], u: Use, table: usize, values: &[u8], signa
         return f;
     }
     let at = f.at;
-    let is = row_granted(memo, at, waves, values, signals);
+    let is = pins_granted(memo, at + memos::MARKED, waves, values, signals);
     Found { is, at }
 }
 
@@ -702,7 +775,8 @@ fn used<'a>(
     requires { ⌜ SomeInvoked (ground (now text) (now places) (now lists) (now tplaces) (now book) (now rows) (now waves) known signals) c i t (frame .depth) (frame .level) table (now given) (arrays (now values) (now feeds) (now args)) × Heads (ground (now text) (now places) (now lists) (now tplaces) (now book) (now rows) (now waves) known signals) (now memo) × Behind (ground (now text) (now places) (now lists) (now tplaces) (now book) (now rows) (now waves) known signals) c behind ⌝ }
     ensures { λ r. ⌜ Served (ground (now (text .entry)) (now (places .entry)) (now (lists .entry)) (now (tplaces .entry)) (now (book .entry)) (now (rows .entry)) (now (waves .entry)) known signals) (now (marks .entry)) (now (sums .entry)) (now (memo .entry)) (now (memo .exit)) c i t (frame .depth) (frame .level) table (now (given .entry)) (arrays (now (values .entry)) (now (feeds .entry)) (now (args .entry))) (arrays (now (values .exit)) (now (feeds .exit)) (now (args .exit))) (frame .seconds) r ⌝ }
 {
-    memos::fresh(memo, frame.level + 1, signals);
+    let within = DEPTH - (frame.depth - 1);
+    memos::fresh(memo, within, signals);
     pins::supply(given, args, feeds, frame.level + 1);
     let left = play_body(
         text,
@@ -728,24 +802,99 @@ fn used<'a>(
     if left.failed {
         return left;
     }
-    let u = Use {
-        seconds: frame.seconds,
-        fault: c.fault as usize,
-        at: c.at,
-        end: c.end,
-    };
-    memos::remember(
-        memo,
-        u,
-        behind,
-        frame.level + 1,
-        table,
-        left.table,
-        values,
-        signals,
-    );
-    memos::rise(memo, frame.level, signals);
+    let u = use_at(frame.seconds, c);
+    memos::remember(memo, u, behind, within, table, left.table, values, signals);
+    memos::rise(memo, DEPTH - frame.depth, signals);
     left
+}
+
+// Macro or Call at the cursor c, with another past it, of the body of number i: it is passed where its sum is known and granted, else played.
+fn uses<'a>(
+    text: &'a [u8],
+    c: Cursor,
+    past: Cursor,
+    places: &'a [usize],
+    lists: &'a [u16],
+    tplaces: &'a [usize],
+    book: &'a [usize],
+    rows: &'a [u16],
+    waves: &'a [u8],
+    marks: &'a [u8],
+    sums: &'a [u8],
+    known: Known,
+    signals: usize,
+    frame: Frame,
+    i: usize,
+    t: usize,
+    given: &'a [u8],
+    table: usize,
+    values: &mut [u8],
+    feeds: &mut [usize],
+    args: &mut [usize],
+    memo: &mut [u16],
+) -> Played
+    requires { ⌜ SomeInvoked (ground (now text) (now places) (now lists) (now tplaces) (now book) (now rows) (now waves) known signals) c i t (frame .depth) (frame .level) table (now given) (arrays (now values) (now feeds) (now args)) × Heads (ground (now text) (now places) (now lists) (now tplaces) (now book) (now rows) (now waves) known signals) (now memo) × Behind (ground (now text) (now places) (now lists) (now tplaces) (now book) (now rows) (now waves) known signals) c past ⌝ }
+    ensures { λ r. ⌜ (r .cursor ≡ past) × (r .ends ≡ false) × Served (ground (now (text .entry)) (now (places .entry)) (now (lists .entry)) (now (tplaces .entry)) (now (book .entry)) (now (rows .entry)) (now (waves .entry)) known signals) (now (marks .entry)) (now (sums .entry)) (now (memo .entry)) (now (memo .exit)) c i t (frame .depth) (frame .level) table (now (given .entry)) (arrays (now (values .entry)) (now (feeds .entry)) (now (args .entry))) (arrays (now (values .exit)) (now (feeds .exit)) (now (args .exit))) (frame .seconds) r ⌝ }
+{
+    let p = pass(
+        text,
+        waves,
+        marks,
+        sums,
+        signals,
+        i,
+        t,
+        given,
+        args,
+        table,
+        values,
+    );
+    if p.done {
+        mark_passed(memo, DEPTH - frame.depth, sums, i, table, signals);
+        return goes_on(past, p.table);
+    }
+    let r = used(
+        text,
+        c,
+        past,
+        places,
+        lists,
+        tplaces,
+        book,
+        rows,
+        waves,
+        marks,
+        sums,
+        known,
+        signals,
+        frame,
+        i,
+        t,
+        given,
+        table,
+        values,
+        feeds,
+        args,
+        memo,
+    );
+    Played {
+        cursor: past,
+        failed: r.failed,
+        place: r.place,
+        table: r.table,
+        ends: false,
+    }
+}
+
+// A use whose row begins at o was played before: what it assigned is left, and what it shows and assigns is tracked.
+fn repeated(memo: &mut [u16], nest: usize, o: usize, values: &mut [u8], signals: usize) -> Played
+    requires { ⌜ (nest ≤ depthMost) × (signals ≤ signalsMost) × (signals ≤ length (now values)) × (tracksLength ≤ o) × (o + memoRow ≤ length (now memo)) ⌝ }
+    ensures { λ r. ⌜ (r .failed ≡ false) × (r .ends ≡ false) × Brings (now (memo .entry)) signals o (now (values .entry)) (now (values .exit)) (record { table = r .table; cursor = r .cursor }) × AtLevel (now (memo .entry)) (now (memo .exit)) nest × (0 < nest → (s : ℕ) → s < signals → Joins (marksAt (now (memo .entry)) nest s) (marksFrom (now (memo .entry)) (o + beforeAt + 1) s) (marksAt (now (memo .exit)) nest s)) ⌝ }
+{
+    let q = memos::bring(memo, o, values, signals);
+    memos::again(memo, nest, o, signals);
+    let past = q.cursor;
+    goes_on(past, q.table)
 }
 
 // The statement at the cursor, or the `}` there. A use that was played from this table before, with pins that these could stand for, is not read again: what it
@@ -773,24 +922,10 @@ fn statement<'a>(
     requires { ⌜ (alive c ≡ true) × Stood (ground (now text) (now places) (now lists) (now tplaces) (now book) (now rows) (now waves) known signals) (stream (now text) c) (frame .depth) (frame .level) table (arrays (now values) (now feeds) (now args)) × Heads (ground (now text) (now places) (now lists) (now tplaces) (now book) (now rows) (now waves) known signals) (now memo) ⌝ }
     ensures { λ r. ⌜ Stepped (ground (now (text .entry)) (now (places .entry)) (now (lists .entry)) (now (tplaces .entry)) (now (book .entry)) (now (rows .entry)) (now (waves .entry)) known signals) (now (marks .entry)) (now (sums .entry)) (now (memo .entry)) (now (memo .exit)) (stream (now (text .entry)) c) (frame .depth) (frame .level) table (arrays (now (values .entry)) (now (feeds .entry)) (now (args .entry))) (arrays (now (values .exit)) (now (feeds .exit)) (now (args .exit))) (frame .seconds) (frame .turns) r ⌝ }
 {
-    let u = Use {
-        seconds: frame.seconds,
-        fault: c.fault as usize,
-        at: c.at,
-        end: c.end,
-    };
+    let u = use_at(frame.seconds, c);
     let f = recall(memo, waves, u, table, values, signals);
     if f.is {
-        let q = memos::bring(memo, f.at, values, signals);
-        memos::again(memo, frame.level, f.at, signals);
-        let past = q.cursor;
-        return Played {
-            cursor: past,
-            failed: false,
-            place: 0,
-            table: q.table,
-            ends: false,
-        };
+        return repeated(memo, DEPTH - frame.depth, f.at, values, signals);
     }
     let mut given = [0; sets::MOST];
     let h = heads::head(
@@ -819,7 +954,7 @@ fn statement<'a>(
             ends: true,
         },
         heads::What::Vector(place) => {
-            memos::mark(memo, frame.level, &given, table, signals);
+            memos::mark(memo, DEPTH - frame.depth, &given, table, signals);
             let failed = pins::vectors(
                 text,
                 &given,
@@ -840,55 +975,32 @@ fn statement<'a>(
             }
         }
         heads::What::Assigns => {
-            memos::mark(memo, frame.level, &given, pins::NONE, signals);
+            memos::mark(memo, DEPTH - frame.depth, &given, pins::NONE, signals);
             pins::put(text, &given, values, feeds, frame.level, signals);
-            Played {
-                cursor,
-                failed: false,
-                place: 0,
-                table,
-                ends: false,
-            }
+            goes_on(cursor, table)
         }
-        heads::What::Chooses(k) => Played {
+        heads::What::Chooses(k) => goes_on(cursor, k),
+        heads::What::Loops(n) => looped(
+            text,
             cursor,
-            failed: false,
-            place: 0,
-            table: k,
-            ends: false,
-        },
-        heads::What::Loops(n) => {
-            let r = needed_turns(
-                text,
-                cursor,
-                places,
-                lists,
-                tplaces,
-                book,
-                rows,
-                waves,
-                marks,
-                sums,
-                known,
-                signals,
-                frame,
-                n,
-                true,
-                table,
-                values,
-                feeds,
-                args,
-                memo,
-            );
-            let behind = r.cursor;
-            Played {
-                cursor: behind,
-                failed: r.failed,
-                place: r.place,
-                table: r.table,
-                ends: false,
-            }
-        }
+            places,
+            lists,
+            tplaces,
+            book,
+            rows,
+            waves,
+            marks,
+            sums,
+            known,
+            signals,
+            frame,
+            n,
+            table,
+            values,
+            feeds,
+            args,
+            memo,
+        ),
         heads::What::Shifts => shift_on(
             text,
             cursor,
@@ -907,62 +1019,30 @@ fn statement<'a>(
             args,
             memo,
         ),
-        heads::What::Uses(i, t) => {
-            let p = pass(
-                text,
-                waves,
-                marks,
-                sums,
-                signals,
-                i,
-                t,
-                &given,
-                args,
-                table,
-                values,
-            );
-            if p.done {
-                mark_passed(memo, frame.level, sums, i, table, signals);
-                return Played {
-                    cursor,
-                    failed: false,
-                    place: 0,
-                    table: p.table,
-                    ends: false,
-                };
-            }
-            let r = used(
-                text,
-                c,
-                cursor,
-                places,
-                lists,
-                tplaces,
-                book,
-                rows,
-                waves,
-                marks,
-                sums,
-                known,
-                signals,
-                frame,
-                i,
-                t,
-                &given,
-                table,
-                values,
-                feeds,
-                args,
-                memo,
-            );
-            Played {
-                cursor,
-                failed: r.failed,
-                place: r.place,
-                table: r.table,
-                ends: false,
-            }
-        }
+        heads::What::Uses(i, t) => uses(
+            text,
+            c,
+            cursor,
+            places,
+            lists,
+            tplaces,
+            book,
+            rows,
+            waves,
+            marks,
+            sums,
+            known,
+            signals,
+            frame,
+            i,
+            t,
+            &given,
+            table,
+            values,
+            feeds,
+            args,
+            memo,
+        ),
     }
 }
 
@@ -990,7 +1070,7 @@ fn statements<'a>(
     memo: &mut [u16],
 ) -> Played
     requires { ⌜ (alive c ≡ true) × Stood (ground (now text) (now places) (now lists) (now tplaces) (now book) (now rows) (now waves) known signals) (stream (now text) c) (frame .depth) (frame .level) table (arrays (now values) (now feeds) (now args)) × Heads (ground (now text) (now places) (now lists) (now tplaces) (now book) (now rows) (now waves) known signals) (now memo) ⌝ }
-    ensures { λ r. ⌜ PromisedWhere (λ b. Unit {0}) (ground (now (text .entry)) (now (places .entry)) (now (lists .entry)) (now (tplaces .entry)) (now (book .entry)) (now (rows .entry)) (now (waves .entry)) known signals) (now (marks .entry)) (now (sums .entry)) (now (memo .entry)) (now (memo .exit)) (stream (now (text .entry)) c) (frame .depth) (frame .level) table (arrays (now (values .entry)) (now (feeds .entry)) (now (args .entry))) (arrays (now (values .exit)) (now (feeds .exit)) (now (args .exit))) (playFew (frame .seconds) (frame .turns)) r ⌝ }
+    ensures { λ r. ⌜ PromisedWhere (λ b. Unit {0}) (ground (now (text .entry)) (now (places .entry)) (now (lists .entry)) (now (tplaces .entry)) (now (book .entry)) (now (rows .entry)) (now (waves .entry)) known signals) (now (marks .entry)) (now (sums .entry)) (now (memo .entry)) (now (memo .exit)) (stream (now (text .entry)) c) (frame .depth) (frame .level) (nestOf (frame .depth)) table (arrays (now (values .entry)) (now (feeds .entry)) (now (args .entry))) (arrays (now (values .exit)) (now (feeds .exit)) (now (args .exit))) (playFew (frame .seconds) (frame .turns)) r ⌝ }
 {
     let mut cursor = c;
     let mut chosen = table;
@@ -1045,7 +1125,7 @@ fn body_of<'a>(
     memo: &mut [u16],
 ) -> Played
     requires { ⌜ (length (now body) ≤ length (now text)) × Stood (ground (now text) (now places) (now lists) (now tplaces) (now book) (now rows) (now waves) known signals) (toks (now text) (length (now text) - length (now body))) (frame .depth) (frame .level) table (arrays (now values) (now feeds) (now args)) × Heads (ground (now text) (now places) (now lists) (now tplaces) (now book) (now rows) (now waves) known signals) (now memo) ⌝ }
-    ensures { λ r. ⌜ PromisedWhere (λ b. Unit {0}) (ground (now (text .entry)) (now (places .entry)) (now (lists .entry)) (now (tplaces .entry)) (now (book .entry)) (now (rows .entry)) (now (waves .entry)) known signals) (now (marks .entry)) (now (sums .entry)) (now (memo .entry)) (now (memo .exit)) (toks (now (text .entry)) (length (now (text .entry)) - length (now (body .entry)))) (frame .depth) (frame .level) table (arrays (now (values .entry)) (now (feeds .entry)) (now (args .entry))) (arrays (now (values .exit)) (now (feeds .exit)) (now (args .exit))) (playFew (frame .seconds) (frame .turns)) r ⌝ }
+    ensures { λ r. ⌜ PromisedWhere (λ b. Unit {0}) (ground (now (text .entry)) (now (places .entry)) (now (lists .entry)) (now (tplaces .entry)) (now (book .entry)) (now (rows .entry)) (now (waves .entry)) known signals) (now (marks .entry)) (now (sums .entry)) (now (memo .entry)) (now (memo .exit)) (toks (now (text .entry)) (length (now (text .entry)) - length (now (body .entry)))) (frame .depth) (frame .level) (nestOf (frame .depth)) table (arrays (now (values .entry)) (now (feeds .entry)) (now (args .entry))) (arrays (now (values .exit)) (now (feeds .exit)) (now (args .exit))) (playFew (frame .seconds) (frame .turns)) r ⌝ }
 {
     let c = words::cursor_at(text, text.len() - body.len());
     statements(

@@ -6,7 +6,7 @@ use Rattle.plays.specs.Plays.{arrays}
 use Rattle.tokens.specs.Written.{bytes}
 use Rattle.assigns.proofs.Table.{gave-zeros}
 use Rattle.plays.proofs.Keeping.{kept-others}
-use Rattle.plays.proofs.Tracks.{pins-wide}
+use Rattle.plays.proofs.Tracks.{pins-wide, nest-fits}
 use Rattle.plays.proofs.Shifting.{shift-plays, shift-given, shift-tracked}
 use borrow.Author.Needs.{needs}
 use Rattle.plays.proofs.shift_on.Statement.{statement}
@@ -24,21 +24,24 @@ head-requires c κs =
     let stood = c .before .before .before .before .before .before .before .before .before .before .before .before .before .pre .1 in
     (record { env = stood .env; describes = stood .standing .holding .describes }, (omega arith), gave-zeros, stood .sized .args-long)
 
+sub-nest : tie.Need-sub-nest
+sub-nest c = omega (arith, c .before .before .before .before .before .before .before .before .before .before .before .before .before .before .before .before .before .before .pre .1 .standing .fits .levels)
+
 slice-aggregate-mark-turns : tie.Need-slice-aggregate-mark-turns
 slice-aggregate-mark-turns c = search needs
 
 mark-turns-requires : tie.Need-mark-turns-requires
 mark-turns-requires c κs =
-    let stood = c .before .before .before .before .before .before .before .before .before .before .before .before .before .before .before .before .before .before .before .pre .1 in
-    (omega (arith, stood .sized .roomy .inside-levels), stood .sized .roomy .few, c .before .before .before .before .before .head .ensures .0)
+    let stood = c .before .before .before .before .before .before .before .before .before .before .before .before .before .before .before .before .before .before .before .before .pre .1 in
+    (nest-fits _, stood .sized .roomy .few, c .before .before .before .before .before .before .head .ensures .0)
 
 slice-aggregate-vectors : tie.Need-slice-aggregate-vectors
 slice-aggregate-vectors c = search needs
 
 vectors-requires : tie.Need-vectors-requires
 vectors-requires c κs =
-    let stood = c .before .before .before .before .before .before .before .before .before .before .before .before .before .before .before .before .before .before .before .before .before .before .before .before .before .pre .1 in
-    (stood .sized .roomy, c .before .before .before .before .before .before .before .before .before .before .before .head .ensures .0, stood .sized .waves-long)
+    let stood = c .before .before .before .before .before .before .before .before .before .before .before .before .before .before .before .before .before .before .before .before .before .before .before .before .before .before .pre .1 in
+    (stood .sized .roomy, c .before .before .before .before .before .before .before .before .before .before .before .before .head .ensures .0, stood .sized .waves-long)
 
 slice-aggregate-due : tie.Need-slice-aggregate-due
 slice-aggregate-due c = search needs
@@ -61,8 +64,8 @@ same-length-4 c = search needs
 returns : tie.Need-returns
 unfolding bytes
 returns c =
-    let start = c .before .before .before .before .before .before .before .before .before .before .before .before .before .before .before .before .before .before .before .before .before .before .before .before .before .before .before .before .before .before .before .before .before .pre in
-    let h = c .before .before .before .before .before .before .before .before .before .before .before .before .before .before .before .before .before .before .before .head .ensures in
+    let start = c .before .before .before .before .before .before .before .before .before .before .before .before .before .before .before .before .before .before .before .before .before .before .before .before .before .before .before .before .before .before .before .before .before .before .pre in
+    let h = c .before .before .before .before .before .before .before .before .before .before .before .before .before .before .before .before .before .before .before .before .head .ensures in
     let v = c .before .before .before .before .before .before .before .vectors .ensures in
     let q = c .before .before .before .before .before .before .before .before .before .before .before .before .before .mark-turns .ensures in
     let roomy = start .1 .sized .roomy in
@@ -85,6 +88,7 @@ shift-on-spec =
     (tie.spec
     slice-aggregate-head
     head-requires
+    sub-nest
     slice-aggregate-mark-turns
     mark-turns-requires
     slice-aggregate-vectors

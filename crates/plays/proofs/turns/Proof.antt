@@ -1,4 +1,5 @@
 -- No turn is left out, whatever the body, and nothing is remembered.
+use native.Mathlib.Omega.{arith}
 use borrow.Author.Needs.{needs}
 use Rattle.memos.proofs.Rows.{zeros}
 use Rattle.plays.proofs.Recalling.{heads-none, promised-all}
@@ -21,7 +22,7 @@ same-length-3 : tie.Need-same-length-3
 same-length-3 c = search needs
 
 returns : tie.Need-returns
-returns c = promised-all (c .before .before .before .before .before .before .before .needed-turns .ensures) (zeros 0)
+returns c = promised-all (c .before .before .before .before .before .before .before .needed-turns .ensures) (zeros 0) (omega arith)
 
 pub turns-spec : {M : Type 1} → statement M
 turns-spec = tie.close (tie.spec slice-aggregate-needed-turns needed-turns-requires same-length same-length-2 same-length-3 returns)
