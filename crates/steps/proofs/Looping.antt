@@ -1,9 +1,10 @@
 -- A Loop: passed with all its turns; or entered in the turn that has the cycle looked for, in the state that one turn leaves.
 use Prim.Native.Nat.{ℕ, zero, suc, _+_, _*_, _-_, _/_, _%_, _≤_, _<_}
-use native.Mathlib.Nat.{one-mul, le-mul-of-pos-right, mul-le-mul-right, mod-lt, mod-eq-of-lt, mod-eq-sub-div-mul, div-mul-le-self}
+use native.Mathlib.Nat.{one-mul, le-mul-of-pos-right, mul-le-mul-right, mod-lt, mod-eq-sub-div-mul, div-mul-le-self}
 use native.Mathlib.Omega.{arith}
 use mathlib.Core.Path.{_≡_, refl, sym, ap, _∙_, subst}
-use mathlib.Core.Bool.{false}
+use mathlib.Core.Bool.{true, false}
+use mathlib.Core.Option.{none}
 use mathlib.Core.List.{List}
 use lib.ListN.{length}
 use Rattle.tokens.specs.Tokens.{Toks}
@@ -30,10 +31,10 @@ use Rattle.rows.specs.Went.{Going, spent, past, Went}
 use Rattle.rows.proofs.Going.{went-from}
 use Rattle.steps.specs.declared.Walked.{Walked}
 use Rattle.steps.specs.Walks.{Ready, Walks, Turning, only}
-use Rattle.steps.proofs.Passing.{Passed, only-left, only-sound, loop-told}
+use Rattle.steps.proofs.Passing.{Passed, only-left, only-cycles, only-sound, loop-told}
 use Rattle.steps.proofs.Alone.{only-small, only-few, only-passed, only-affords, only-entered}
 use Rattle.steps.proofs.Parting.{sound-parts}
-use Rattle.steps.proofs.Turning.{turns-split, turn-standing}
+use Rattle.steps.proofs.Turning.{went-cost, turns-split, turn-standing}
 
 -- ---- its body is held
 
@@ -54,6 +55,17 @@ module _ {g : Ground} {ts us : Toks} {more level table : ℕ} {E : Env} {b : Bod
   pub standing-args : {values feeds args : List ℕ} (args′ : List ℕ) → Standing g ts more level table (arrays values feeds args) E b us s
       → Standing g ts more level table (arrays values feeds args′) E b us s
   standing-args args′ st = record { holding = st .holding; holds = st .holds; fits = st .fits; shows = st .shows }
+
+-- entered in the turn that has the cycle looked for; its body has k cycles
+pub record Reaching (g : Ground) (ts : Toks) (more level table t n k : ℕ) (x : Arrays) (E : Env) (b : Body) (us : Toks) (s : State) (w : Walk) : Type 0 where
+  pub standing : Standing g ts more level table x E b us s
+  pub plain : Plain b
+  pub cycles-are : cycles t b ≡ k
+  pub within : w .pass < n * k
+  pub few-cycles : n * k ≤ cyclesMost
+  pub small : size b ≤ sizeMost
+  pub sound : firstFailing (E .tables) (playedIn t (looped n) b s .1) ≡ none
+  pub pays : w .walking ≡ true → visits t b (w .pass % k) ≤ w .budget
 
 -- ---- its measure
 
@@ -98,9 +110,9 @@ module _ {g : Ground} {ts us : Toks} {more level table t n : ℕ} {x : Arrays} {
     inside : w .pass < cyclesIn t (looped n) b
     inside = omega (arith, loop-all ready some plain measured)
 
-    pub loop-turning : Turning g ts more level table t n (m .cycles) x E b us s (spent w (m .size + 1))
+    pub loop-reaching : Reaching g ts more level table t n (m .cycles) x E b us s (spent w (m .size + 1))
     unfolding shiftOf
-    loop-turning = record {
+    loop-reaching = record {
       standing = st;
       plain = plain;
       cycles-are = loop-cycles ready some plain measured;
@@ -123,6 +135,35 @@ module _ {g : Ground} {ts us : Toks} {more level table t n : ℕ} {x : Arrays} {
       behind = p .behind;
     }
 
+-- ---- behind the cycle looked for its turns are gone through as they stand
+
+module _ {g : Ground} {ts us : Toks} {more level table t n : ℕ} {x : Arrays} {E : Env} {b : Body} {s : State} {w : Walk}
+    (st : Standing g ts more level table x E b us s) (plain : Plain b) (ready : Ready (E .tables) t (only (looped n) b) s w) (shown : w .walking ≡ false) where
+  never : w .walking ≡ true → ⊥
+  never e = let z : _≡_ {A = ℕ} 0 1 = cc in omega arith
+
+  pub loop-turning : Turning g ts more level table t n x E b us s w
+  unfolding turnsOf shiftOf
+  loop-turning = record {
+    standing = st;
+    plain = plain;
+    within = λ e. absurd (never e);
+    few-cycles = only-few ready;
+    small = only-small ready;
+    sound = only-sound t (looped n) b s (E .tables) (ready .sound);
+    pays = λ e. absurd (never e);
+  }
+
+  pub loop-shown : {y : Arrays} {before after : List ℕ} {r : Walked} → Walks g level y us (playedIn t (looped n) b s) (visits t b (w .pass)) w before after r
+      → Walks g level y us (play t (only (looped n) b) s) (visits t (only (looped n) b) (w .pass)) w before after r
+  loop-shown p = record {
+    tells = record {
+      went = rw (only-cycles t (looped n) b s) (went-cost (λ e. absurd (never e)) (p .tells .went));
+      shows = λ q. rw (only-left t (looped n) b s) (p .tells .shows q);
+    };
+    behind = p .behind;
+  }
+
 -- ---- the turn that is entered
 
 -- behind the first turn, and behind the Loop, the state is that which one turn leaves
@@ -137,7 +178,7 @@ loop-leaves t b plain zero s h = absurd (omega arith)
 loop-leaves t b plain (suc n) s h = loop-left t b plain s n
 
 module _ {g : Ground} {ts us : Toks} {more level table t n k : ℕ} {x : Arrays} {E : Env} {b : Body} {s : State} {w : Walk}
-    (turning : Turning g ts more level table t n k x E b us s w) where
+    (turning : Reaching g ts more level table t n k x E b us s w) where
   -- the one that is entered
   abbrev turn : ℕ
   turn = w .pass / k
@@ -154,8 +195,8 @@ module _ {g : Ground} {ts us : Toks} {more level table t n k : ℕ} {x : Arrays}
   pub pass-within : past w (w .pass / k * k) .pass < k
   pass-within = omega (arith, mod-lt (w .pass) some-in-turn, mod-eq-sub-div-mul (w .pass) k)
 
-  pass-is : past w (w .pass / k * k) .pass % k ≡ w .pass % k
-  pass-is = mod-eq-of-lt pass-within ∙ sym (mod-eq-sub-div-mul (w .pass) k)
+  pass-is : past w (w .pass / k * k) .pass ≡ w .pass % k
+  pass-is = sym (mod-eq-sub-div-mul (w .pass) k)
 
   -- behind the first turn it begins where that ended
   pub first-left : {y : Arrays} {r : Played} → 0 < w .pass / k → Passed g level y r (playedIn t (looped n) b s)
@@ -166,25 +207,23 @@ module _ {g : Ground} {ts us : Toks} {more level table t n k : ℕ} {x : Arrays}
       (turn-standing t (r .table) y (turning .standing) (turning .plain) there)
 
   pub turn-turning : {table′ : ℕ} {y : Arrays} → Standing g ts more level table′ y E b us (begins t b (w .pass / k) s)
-      → Turning g ts more level table′ t (n - w .pass / k) k y E b us (begins t b (w .pass / k) s) (past w (w .pass / k * k))
+      → Turning g ts more level table′ t (n - w .pass / k) y E b us (begins t b (w .pass / k) s) (past w (w .pass / k * k))
   unfolding playing shiftOf
   turn-turning st =
-      let one : 1 * k ≤ (n - turn) * k = mul-le-mul-right k (omega (arith, turn-among)) in
       let less : (n - turn) * k ≤ n * k = mul-le-mul-right k (omega arith) in
       let split = turns-split (play t b) s turn n (omega (arith, turn-among)) in
       record {
         standing = st;
         plain = turning .plain;
-        cycles-are = turning .cycles-are;
-        within = omega (arith, pass-within, one-mul k);
-        few-cycles = omega (arith, turning .few-cycles);
+        within = λ _. omega (arith, pass-within, turning .cycles-are);
+        few-cycles = rw (turning .cycles-are) (omega (arith, turning .few-cycles));
         small = turning .small;
         sound = rw (← loop-begins t b (turning .plain) s turn) (sound-parts (E .tables) (again turn (play t b) s .1) _ (ap (firstFailing (E .tables)) (sym split) ∙ turning .sound) .1);
         pays = rw pass-is (turning .pays);
       }
 
   pub turn-whole : {y : Arrays} {before after : List ℕ} {r : Walked}
-      → Walks g level y us (playedIn t (looped (n - w .pass / k)) b (begins t b (w .pass / k) s)) (visits t b (past w (w .pass / k * k) .pass % k)) (past w (w .pass / k * k)) before after r
+      → Walks g level y us (playedIn t (looped (n - w .pass / k)) b (begins t b (w .pass / k) s)) (visits t b (past w (w .pass / k * k) .pass)) (past w (w .pass / k * k)) before after r
       → Walks g level y us (playedIn t (looped n) b s) (visits t b (w .pass % k)) w before after r
   unfolding playing shiftOf
   turn-whole {y} {before} {after} {r} p =

@@ -1,9 +1,9 @@
 -- Turns of a Loop one by one, the cycle looked for being in the first of them: each is gone through as a body, and begins where the one before ended.
-use Prim.Native.Nat.{ℕ, suc, _+_, _*_, _-_, _%_, _≤_, _<_}
-use native.Mathlib.Nat.{eq-zero-or-pos, zero-add, add-zero, zero-mul, one-mul, mul-le-mul-right, mod-eq-of-lt}
+use Prim.Native.Nat.{ℕ, suc, _+_, _*_, _-_, _≤_, _<_}
+use native.Mathlib.Nat.{eq-zero-or-pos, zero-add, add-zero, zero-mul, one-mul, mul-le-mul-right}
 use native.Mathlib.Omega.{arith}
-use mathlib.Core.Path.{_≡_, sym, ap, _∙_, subst}
-use mathlib.Core.Bool.{true, false}
+use mathlib.Core.Path.{_≡_, refl, sym, ap, _∙_, subst}
+use mathlib.Core.Bool.{Bool, true, false}
 use mathlib.Core.Logic.{_⊎_, inl, inr}
 use mathlib.Core.Option.{none}
 use mathlib.Core.List.{List, _++_, append-nil}
@@ -13,27 +13,43 @@ use borrow.Author.Tests.{le-leb, lt-leb, lt-ltb, le-ltb, leb-true}
 use Rattle.tokens.specs.Tokens.{Toks}
 use Rattle.meaning.specs.Timing.{Tables}
 use Rattle.meaning.specs.Body.{looped, Body, supplied}
-use Rattle.meaning.specs.Run.{State, Cycle, Played as Play, shiftOf, visits, follow, again, playing, play}
+use Rattle.meaning.specs.Run.{State, Cycle, Played as Play, shiftOf, cycles, visits, follow, again, playing, play}
 use Rattle.meaning.specs.Meaning.{firstFailing}
 use Rattle.meaning.specs.Statements.{Env}
 use Rattle.meaning.proofs.Turns.{Plain, keeps, copies, steady}
-use Rattle.meaning.proofs.Rows.{length-play, length-again}
+use Rattle.meaning.proofs.Rows.{AllWide, length-play, length-again}
 use Rattle.walks.specs.Statement.{playedIn}
 use Rattle.walks.specs.Turns.{begins}
 use Rattle.walks.proofs.Loops.{again-add, loop-begins, loop-behind}
 use Rattle.words.specs.Cursor.{alive, stream}
 use Rattle.words.specs.declared.Cursor.{Cursor}
-use Rattle.plays.specs.Plays.{Ground, Arrays, Sized, Showing, Standing}
+use Rattle.plays.specs.Plays.{Ground, Arrays, Showing, Standing}
 use Rattle.plays.proofs.Fitting.{both, fits-again}
 use Rattle.rows.specs.declared.Walk.{Walk}
 use Rattle.rows.specs.Went.{over, spends, Went}
-use Rattle.rows.specs.Again.{Again}
 use Rattle.rows.proofs.Going.{went-both, went-over}
 use Rattle.steps.specs.declared.Walked.{Walked}
-use Rattle.steps.specs.Walks.{Ready, Walks, Turning}
+use Rattle.steps.specs.Walks.{Ready, Walks, Turning, Repeated}
 use Rattle.steps.proofs.Parting.{sound-parts, spends-none, went-none}
-use Rattle.steps.proofs.Wide.{play-wide}
-use Rattle.steps.proofs.Copying.{went-again}
+use Rattle.steps.proofs.Copying.{went-repeated}
+
+-- ---- what it costs counts only on the way to the cycle looked for
+
+spends-same : (k : Bool) (v v′ : ℕ) → (k ≡ true → v ≡ v′) → spends k v ≡ spends k v′
+spends-same true v v′ h = h refl
+spends-same false v v′ h = refl
+
+pub went-cost : {signals : ℕ} {l : List Cycle} {v v′ : ℕ} {w w′ : Walk} {x y : List ℕ} → (w .walking ≡ true → v ≡ v′) → Went signals l v w w′ x y → Went signals l v′ w w′ x y
+went-cost {v = v} {v′ = v′} {w = w} {w′ = w′} h p = record {
+  rows = p .rows;
+  show = p .show;
+  pass = p .pass;
+  walking = p .walking;
+  spending = p .spending ∙ ap (λ (n : ℕ). w′ .budget + n) (spends-same (w .walking) v v′ h);
+  marked = p .marked;
+  written = p .written;
+  long = p .long;
+}
 
 -- ---- turns of any kind
 
@@ -86,14 +102,14 @@ pub record Turns (g : Ground) (ts us : Toks) (more level t : ℕ) (E : Env) (b :
   pub went : Went (g .signals) (again i (play t b) s .1) (spends (ltb 0 i) (visits t b (w₀ .pass))) w₀ w before now
   pub behind : 0 < i → (alive c ≡ true) × (stream (g .text) c ≡ us)
 
-module _ {g : Ground} {ts us : Toks} {more level table₀ t m k : ℕ} {x₀ : Arrays} {E : Env} {b : Body} {s : State} {w₀ : Walk}
-    (turning : Turning g ts more level table₀ t m k x₀ E b us s w₀) (first : w₀ .pass < k) where
-  long : (i : ℕ) → length (again i (play t b) s .1) ≡ i * k
-  long i = length-again i k (play t b) s (λ u. length-play t b u ∙ turning .cycles-are)
+module _ {g : Ground} {ts us : Toks} {more level table₀ t m : ℕ} {x₀ : Arrays} {E : Env} {b : Body} {s : State} {w₀ : Walk}
+    (turning : Turning g ts more level table₀ t m x₀ E b us s w₀) where
+  long : (i : ℕ) → length (again i (play t b) s .1) ≡ i * cycles t b
+  long i = length-again i (cycles t b) (play t b) s (length-play t b)
 
   -- behind the first turn the cycle looked for is reached
-  reached : (i : ℕ) → 0 < i → w₀ .pass < length (again i (play t b) s .1)
-  reached i h = let p : 1 * k ≤ i * k = mul-le-mul-right k h in omega (arith, long i, one-mul k)
+  reached : w₀ .walking ≡ true → (i : ℕ) → 0 < i → w₀ .pass < length (again i (play t b) s .1)
+  reached on i h = let p : 1 * cycles t b ≤ i * cycles t b = mul-le-mul-right (cycles t b) h in omega (arith, long i, one-mul (cycles t b), turning .within on)
 
   sound : firstFailing (E .tables) (again m (play t b) s .1) ≡ none
   unfolding playing shiftOf
@@ -107,19 +123,20 @@ module _ {g : Ground} {ts us : Toks} {more level table₀ t m k : ℕ} {x₀ : A
     module _ {i table : ℕ} {x : Arrays} {w : Walk} {now : List ℕ} {c : Cursor} (left : Turns g ts us more level t E b s w₀ before i table x w now c) (going : over w ≡ false) where
       -- in the first turn as many are to be passed as were at its beginning
       pass-first : i ≡ 0 → w .pass ≡ w₀ .pass
-      pass-first e = omega (arith, left .went .pass going, long i, zero-mul k, ap (λ (n : ℕ). n * k) e)
+      pass-first e = omega (arith, left .went .pass going, long i, zero-mul (cycles t b), ap (λ (n : ℕ). n * cycles t b) e)
 
-      cost-next : spends (ltb 0 i) (visits t b (w₀ .pass)) + spends (leb (length (again i (play t b) s .1)) (w₀ .pass)) (visits t b (w .pass))
+      cost-next : w₀ .walking ≡ true
+          → spends (ltb 0 i) (visits t b (w₀ .pass)) + spends (leb (length (again i (play t b) s .1)) (w₀ .pass)) (visits t b (w .pass))
           ≡ spends (ltb 0 (i + 1)) (visits t b (w₀ .pass))
-      cost-next = rw (lt-ltb 0 (i + 1) (omega arith)) (by (eq-zero-or-pos i))
+      cost-next on = rw (lt-ltb 0 (i + 1) (omega arith)) (by (eq-zero-or-pos i))
         where
           by : (i ≡ 0) ⊎ (0 < i)
               → spends (ltb 0 i) (visits t b (w₀ .pass)) + spends (leb (length (again i (play t b) s .1)) (w₀ .pass)) (visits t b (w .pass)) ≡ visits t b (w₀ .pass)
           by (inl e) =
-              rw (le-ltb 0 i (omega arith), le-leb (length (again i (play t b) s .1)) (w₀ .pass) (omega (arith, long i, zero-mul k, ap (λ (n : ℕ). n * k) e)))
+              rw (le-ltb 0 i (omega arith), le-leb (length (again i (play t b) s .1)) (w₀ .pass) (omega (arith, long i, zero-mul (cycles t b), ap (λ (n : ℕ). n * cycles t b) e)))
               (zero-add _ ∙ ap (visits t b) (pass-first e))
           by (inr h) =
-              rw (lt-ltb 0 i h, lt-leb (length (again i (play t b) s .1)) (w₀ .pass) (reached i h)) (add-zero _)
+              rw (lt-ltb 0 i h, lt-leb (length (again i (play t b) s .1)) (w₀ .pass) (reached on i h)) (add-zero _)
 
       pays : (i ≡ 0) ⊎ (0 < i) → w .walking ≡ true → visits t b (w .pass) ≤ w .budget
       pays (inl e) h =
@@ -127,17 +144,18 @@ module _ {g : Ground} {ts us : Toks} {more level table₀ t m k : ℕ} {x₀ : A
           let none-spent : spends (ltb 0 i) (visits t b (w₀ .pass)) ≡ 0 = rw (le-ltb 0 i (omega arith)) in
           let same : w₀ .budget ≡ w .budget =
           left .went .spending ∙ ap (λ (n : ℕ). w .budget + spends (w₀ .walking) n) none-spent ∙ ap (λ (n : ℕ). w .budget + n) (spends-none (w₀ .walking)) ∙ add-zero (w .budget) in
-          rw (pass-first e, ← same) (rw (mod-eq-of-lt first) at (turning .pays on))
+          rw (pass-first e, ← same) (turning .pays on)
       pays (inr p) h =
-          absurd (omega (arith, reached i p, leb-true (length (again i (play t b) s .1)) (w₀ .pass) (both (w₀ .walking) (leb (length (again i (play t b) s .1)) (w₀ .pass)) (sym (left .went .walking) ∙ h) .1)))
+          let q = both (w₀ .walking) (leb (length (again i (play t b) s .1)) (w₀ .pass)) (sym (left .went .walking) ∙ h) in
+          absurd (omega (arith, reached (q .0) i p, leb-true (length (again i (play t b) s .1)) (w₀ .pass) (q .1)))
 
       -- turn i can be gone through
       module _ (more-turns : i < m) where
         pub turns-ready : Ready (E .tables) t b (begins t b i s) w
         turns-ready =
-            let one : 1 * k ≤ m * k = mul-le-mul-right k (omega arith) in
+            let one : 1 * cycles t b ≤ m * cycles t b = mul-le-mul-right (cycles t b) (omega arith) in
             record {
-              few-cycles = omega (arith, turning .cycles-are, turning .few-cycles, one-mul k);
+              few-cycles = omega (arith, turning .few-cycles, one-mul (cycles t b));
               small = turning .small;
               sound = turn-sound t b (turning .plain) s (E .tables) i m more-turns sound;
               pays = pays (eq-zero-or-pos i);
@@ -145,7 +163,7 @@ module _ {g : Ground} {ts us : Toks} {more level table₀ t m k : ℕ} {x₀ : A
 
         module _ {y : Arrays} {after : List ℕ} {r : Walked} (p : Walks g level y us (play t b (begins t b i s)) (visits t b (w .pass)) w now after r) where
           went-next : Went (g .signals) (again (i + 1) (play t b) s .1) (spends (ltb 0 (i + 1)) (visits t b (w₀ .pass))) w₀ (r .walk) before after
-          went-next = rw (← cost-next, cycles-next t b (turning .plain) s i) (went-both (left .went) going (p .tells .went))
+          went-next = rw (cycles-next t b (turning .plain) s i) (went-cost cost-next (went-both (left .went) going (p .tells .went)))
 
           pub turns-next : over (r .walk) ≡ false → Turns g ts us more level t E b s w₀ before (i + 1) (r .table) y (r .walk) after (r .cursor)
           turns-next h = record {
@@ -157,7 +175,7 @@ module _ {g : Ground} {ts us : Toks} {more level table₀ t m k : ℕ} {x₀ : A
 
           -- nothing is left to do, and so the turns behind it are not gone through
           pub turns-over : over (r .walk) ≡ true
-              → Walks g level y us (playedIn t (looped m) b s) (visits t b (w₀ .pass % k)) w₀ before after (record { cursor = r .cursor; table = r .table; walk = r .walk; ends = false })
+              → Walks g level y us (playedIn t (looped m) b s) (visits t b (w₀ .pass)) w₀ before after (record { cursor = r .cursor; table = r .table; walk = r .walk; ends = false })
           unfolding playing shiftOf
           turns-over h =
               let rest = again (m - (i + 1)) (play t b) (again (i + 1) (play t b) s .0) .1 in
@@ -166,7 +184,7 @@ module _ {g : Ground} {ts us : Toks} {more level table₀ t m k : ℕ} {x₀ : A
               rw (lt-ltb 0 (i + 1) (omega arith), spends-none passed) (add-zero (visits t b (w₀ .pass))) in
               record {
                 tells = record {
-                  went = rw (mod-eq-of-lt first, turns-split (play t b) s (i + 1) m (omega arith), ← cost) (went-over went-next h rest 0);
+                  went = rw (turns-split (play t b) s (i + 1) m (omega arith), ← cost) (went-over went-next h rest 0);
                   shows = λ q. absurd (never q);
                 };
                 behind = λ q. absurd (never q);
@@ -191,18 +209,15 @@ module _ {g : Ground} {ts us : Toks} {more level table₀ t m k : ℕ} {x₀ : A
             state-left : play t b (begins t b i s) .0 ≡ again m (play t b) s .0
             state-left = same ∙ sym (ap (λ (y : Play). y .0) again-left) ∙ loop-behind t b (turning .plain) s i m (omega arith)
 
-            pub turns-copied : Sized g level x → over (r .walk) ≡ false → r .walk .row ≡ w .row + k → {w′ : Walk} {last : List ℕ}
-                → Again (g .signals) k (m - (i + 1)) (r .walk) w′ after last
-                → Walks g level y us (playedIn t (looped m) b s) (visits t b (w₀ .pass % k)) w₀ before last (record { cursor = r .cursor; table = r .table; walk = w′; ends = false })
+            pub turns-copied : over (r .walk) ≡ false → w .pass ≡ 0 → AllWide (g .signals) (play t b (begins t b i s) .1) → {w′ : Walk} {last : List ℕ}
+                → Repeated (g .signals) (w .row) (m - (i + 1)) (r .walk) w′ after last
+                → Walks g level y us (playedIn t (looped m) b s) (visits t b (w₀ .pass)) w₀ before last (record { cursor = r .cursor; table = r .table; walk = w′; ends = false })
             unfolding playing shiftOf
-            turns-copied sized h whole copied =
-                let even = length-play t b (begins t b i s) ∙ turning .cycles-are in
-                let wide = play-wide sized (left .standing .shows) t b in
+            turns-copied h start wide copied =
                 let cost : spends (ltb 0 (i + 1)) (visits t b (w₀ .pass)) ≡ visits t b (w₀ .pass) = rw (lt-ltb 0 (i + 1) (omega arith)) in
                 record {
                   tells = record {
-                    went = rw (mod-eq-of-lt first, cycles-left, ← cost, ← cost-next)
-                        (went-both (left .went) going (went-again (p .tells .went) (omega (arith, even)) (omega (arith, even)) even wide copied));
+                    went = rw cycles-left (went-cost (λ on. cost-next on ∙ cost) (went-both (left .went) going (went-repeated (p .tells .went) start h wide copied)));
                     shows = λ q. rw (← state-left) (p .tells .shows h);
                   };
                   behind = λ q. p .behind h;
@@ -210,7 +225,7 @@ module _ {g : Ground} {ts us : Toks} {more level table₀ t m k : ℕ} {x₀ : A
 
       -- all turns are gone through
       pub turns-all : i ≡ m → 0 < m
-          → Walks g level x us (playedIn t (looped m) b s) (visits t b (w₀ .pass % k)) w₀ before now (record { cursor = c; table = table; walk = w; ends = false })
+          → Walks g level x us (playedIn t (looped m) b s) (visits t b (w₀ .pass)) w₀ before now (record { cursor = c; table = table; walk = w; ends = false })
       unfolding playing shiftOf
       turns-all e h =
           let some : 0 < i = omega arith in
@@ -218,7 +233,7 @@ module _ {g : Ground} {ts us : Toks} {more level table₀ t m k : ℕ} {x₀ : A
           let there : Showing g level table x (again i (play t b) s .0) = rw (loop-begins t b (turning .plain) s i) (left .standing .shows) in
           record {
             tells = record {
-              went = rw (mod-eq-of-lt first, ← e, ← cost) (left .went);
+              went = rw (← e, ← cost) (left .went);
               shows = λ q. subst (λ (n : ℕ). Showing g level table x (again n (play t b) s .0)) e there;
             };
             behind = λ q. left .behind some;

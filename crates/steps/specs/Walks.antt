@@ -1,10 +1,10 @@
 -- What is promised of the walk to a cycle and of the rows from there on, through bodies where the text holds them.
-use Prim.Native.Nat.{ℕ, _+_, _*_, _-_, _%_, _<_, _≤_}
+use Prim.Native.Nat.{ℕ, _+_, _*_, _-_, _<_, _≤_}
 use mathlib.Core.Path.{_≡_}
 use mathlib.Core.Bool.{true, false}
 use mathlib.Core.Option.{none}
 use mathlib.Core.List.{List, _++_}
-use lib.ListN.{length}
+use lib.ListN.{length, getD}
 use lib.Dec.{leb}
 use Rattle.tokens.specs.Tokens.{Toks, left}
 use Rattle.meaning.specs.Bounds.{sizeMost, cyclesMost}
@@ -12,6 +12,7 @@ use Rattle.meaning.specs.Timing.{Tables}
 use Rattle.meaning.specs.Body.{Assigns, Args, Way, looped, shifted, entered, Body, done, vec, inner}
 use Rattle.meaning.specs.Run.{State, Cycle, Played as Play, size, cycles, visits, play}
 use Rattle.meaning.specs.Meaning.{firstFailing}
+use Rattle.meaning.specs.Services.{rowWidth}
 use Rattle.meaning.specs.Statements.{Env}
 use Rattle.meaning.proofs.Turns.{Plain}
 use Rattle.words.specs.Cursor.{alive, stream}
@@ -23,6 +24,7 @@ use Rattle.plays.specs.declared.Frame.{Frame}
 use Rattle.plays.specs.Plays.{Ground, Arrays, Sized, Showing, Standing, Kept, Using}
 use Rattle.rows.specs.declared.Walk.{Walk}
 use Rattle.rows.specs.Went.{over, Going, spends, Went}
+use Rattle.rows.specs.Again.{Again}
 use Rattle.steps.specs.declared.Walked.{Walked}
 
 -- how what is passed is played
@@ -122,31 +124,50 @@ pub record Looped (g : Ground) (ts : Toks) (more level table t n : ℕ) (x y : A
   pub walks : (E : Env) (b : Body) (us : Toks) (s : State) → Standing g ts more level table x E b us s → Plain b → Ready (E .tables) t (only (looped n) b) s w
       → Walks g level y us (play t (only (looped n) b) s) (visits t (only (looped n) b) (w .pass)) w before after r
 
--- one that is entered, in the turn that has the cycle looked for; its body has k cycles
-pub record Turning (g : Ground) (ts : Toks) (more level table t n k : ℕ) (x : Arrays) (E : Env) (b : Body) (us : Toks) (s : State) (w : Walk) : Type 0 where
+-- n turns of it, of which the first has the cycle looked for, unless that was reached before
+pub record Turning (g : Ground) (ts : Toks) (more level table t n : ℕ) (x : Arrays) (E : Env) (b : Body) (us : Toks) (s : State) (w : Walk) : Type 0 where
   pub standing : Standing g ts more level table x E b us s
   pub plain : Plain b
-  pub cycles-are : cycles t b ≡ k
-  pub within : w .pass < n * k
-  pub few-cycles : n * k ≤ cyclesMost
+  pub within : w .walking ≡ true → w .pass < cycles t b
+  pub few-cycles : n * cycles t b ≤ cyclesMost
   pub small : size b ≤ sizeMost
   pub sound : firstFailing (E .tables) (playedIn t (looped n) b s .1) ≡ none
-  pub pays : w .walking ≡ true → visits t b (w .pass % k) ≤ w .budget
+  pub pays : w .walking ≡ true → visits t b (w .pass) ≤ w .budget
 
-pub record TurnStood (g : Ground) (ts : Toks) (more level table t n k : ℕ) (x : Arrays) (w : Walk) (buffer : List ℕ) : Type 0 where
+pub record TurnStood (g : Ground) (ts : Toks) (more level table t n : ℕ) (x : Arrays) (w : Walk) (buffer : List ℕ) : Type 0 where
+  pub some : 0 < n
   pub env : Env
   pub body : Body
   pub rest : Toks
   pub state : State
-  pub turning : Turning g ts more level table t n k x env body rest state w
+  pub turning : Turning g ts more level table t n x env body rest state w
   pub sized : Sized g level x
   pub going : Going (g .signals) w buffer
 
-pub record Turned (g : Ground) (ts : Toks) (more level table t n k : ℕ) (x y : Arrays) (w : Walk) (before after : List ℕ) (r : Walked) : Type 0 where
+pub record Turned (g : Ground) (ts : Toks) (more level table t n : ℕ) (x y : Arrays) (w : Walk) (before after : List ℕ) (r : Walked) : Type 0 where
   pub kept : Kept level x y
   pub goes-on : r .ends ≡ false
-  pub walks : (E : Env) (b : Body) (us : Toks) (s : State) → Turning g ts more level table t n k x E b us s w
-      → Walks g level y us (playedIn t (looped n) b s) (visits t b (w .pass % k)) w before after r
+  pub walks : (E : Env) (b : Body) (us : Toks) (s : State) → Turning g ts more level table t n x E b us s w
+      → Walks g level y us (playedIn t (looped n) b s) (visits t b (w .pass)) w before after r
+
+-- ---- a turn's rows again
+
+-- the first n bytes of two rows are the same
+pub record Alike (n : ℕ) (v w : List ℕ) : Type 0 where
+  pub each : (i : ℕ) → i < n → getD v i 0 ≡ getD w i 0
+
+-- n turns of k cycles can be shown: the cycle looked for is reached, and there is room
+pub record Copiable (signals k n : ℕ) (w : Walk) (buffer : List ℕ) : Type 0 where
+  pub reached : w .walking ≡ false
+  pub none-left : w .pass ≡ 0
+  pub few : n * k ≤ cyclesMost
+  pub room : (w .row + w .show) * rowWidth signals ≤ length buffer
+
+-- n turns were shown behind one whose rows are those from `shown` on; where it has none there was nothing to do
+pub record Repeated (signals shown n : ℕ) (w w′ : Walk) (before after : List ℕ) : Type 0 where
+  pub none : w .row ≡ shown → (w′ ≡ w) × (after ≡ before)
+  pub again : shown < w .row → Again signals (w .row - shown) n w w′ before after
+  pub long : length after ≡ length before
 
 -- a Shift, whose V is held from ts on
 pub record ShiftStood (g : Ground) (ts : Toks) (more level table t : ℕ) (x : Arrays) (w : Walk) (buffer : List ℕ) : Type 0 where

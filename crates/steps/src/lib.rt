@@ -9,7 +9,7 @@ ghost use Rattle.tokens.specs.Tokens.{toks};
 ghost use Rattle.words.specs.Cursor.{alive, stream};
 ghost use Rattle.plays.specs.Plays.{ground, arrays};
 ghost use Rattle.plays.specs.declared.Frame.{Frame};
-ghost use Rattle.steps.specs.Walks.{onceOf, Stood, Promised, Stepped, LoopStood, Looped, TurnStood, Turned, ShiftStood, Shifted, UseStood, Entered, IntoStood, WentInto};
+ghost use Rattle.steps.specs.Walks.{onceOf, Alike, Copiable, Repeated, Stood, Promised, Stepped, LoopStood, Looped, TurnStood, Turned, ShiftStood, Shifted, UseStood, Entered, IntoStood, WentInto};
 use heads::Known;
 use plays::Frame;
 use rows::Walk;
@@ -127,8 +127,49 @@ fn shift<'a>(
     }
 }
 
-// A Loop of n turns, entered in the one that has the cycle: every turn behind the first begins where the first ended. The body has so many cycles. Once one
-// such turn was shown whole, its rows are those of every turn left.
+// ---- a Loop
+
+// The pins before a turn.
+fn keep(values: &[u8], kept: &mut [u8], signals: usize)
+    requires { ⌜ (signals ≤ length (now values)) × (signals ≤ length (now kept)) ⌝ }
+    ensures { λ _. ⌜ (length (now (kept .exit)) ≡ length (now (kept .entry))) × Alike signals (now (kept .exit)) (now (values .entry)) ⌝ }
+{
+    let mut s = 0;
+    while s < signals {
+        kept[s] = values[s];
+        s += 1;
+    }
+}
+
+// Are the pins behind it the same?
+fn same_pins(values: &[u8], kept: &[u8], signals: usize) -> bool
+    requires { ⌜ (signals ≤ length (now values)) × (signals ≤ length (now kept)) ⌝ }
+    ensures { λ r. ⌜ (r ≡ true → Alike signals (now (values .entry)) (now (kept .entry))) ⌝ }
+{
+    let mut s = 0;
+    while s < signals {
+        if values[s] != kept[s] {
+            return false;
+        }
+        s += 1;
+    }
+    true
+}
+
+// So many turns behind one that leaves what it found: the rows of that turn, those from the row `shown` on, again. Where it has none nothing is to be done.
+fn repeated(w: Walk, shown: usize, turns: usize, signals: usize, buffer: &mut [u8]) -> Walk
+    requires { ⌜ (shown ≤ w .row) × (shown < w .row → Copiable signals (w .row - shown) turns w (now buffer)) ⌝ }
+    ensures { λ r. ⌜ Repeated signals shown turns w r (now (buffer .entry)) (now (buffer .exit)) ⌝ }
+{
+    let cycles = w.row - shown;
+    if cycles == 0 {
+        return w;
+    }
+    rows::again(w, cycles, turns, signals, buffer)
+}
+
+// Turns of a Loop, of which the first has the cycle looked for, unless that was reached before. A turn that was shown whole, and leaves the pins and the table that it
+// found, is that of every turn left.
 fn turns<'a>(
     text: &'a [u8],
     c: Cursor,
@@ -142,7 +183,6 @@ fn turns<'a>(
     signals: usize,
     frame: Frame,
     n: usize,
-    cycles: usize,
     table: usize,
     walk: Walk,
     values: &mut [u8],
@@ -150,8 +190,8 @@ fn turns<'a>(
     args: &mut [usize],
     buffer: &mut [u8],
 ) -> Walked
-    requires { ⌜ (alive c ≡ true) × (0 < frame .depth) × TurnStood (ground (now text) (now places) (now lists) (now tplaces) (now book) (now rows) (now waves) known signals) (stream (now text) c) (frame .depth - 1) (frame .level) table (frame .turns) n cycles (arrays (now values) (now feeds) (now args)) walk (now buffer) ⌝ }
-    ensures { λ r. ⌜ Turned (ground (now (text .entry)) (now (places .entry)) (now (lists .entry)) (now (tplaces .entry)) (now (book .entry)) (now (rows .entry)) (now (waves .entry)) known signals) (stream (now (text .entry)) c) (frame .depth - 1) (frame .level) table (frame .turns) n cycles (arrays (now (values .entry)) (now (feeds .entry)) (now (args .entry))) (arrays (now (values .exit)) (now (feeds .exit)) (now (args .exit))) walk (now (buffer .entry)) (now (buffer .exit)) r ⌝ }
+    requires { ⌜ (alive c ≡ true) × (0 < frame .depth) × TurnStood (ground (now text) (now places) (now lists) (now tplaces) (now book) (now rows) (now waves) known signals) (stream (now text) c) (frame .depth - 1) (frame .level) table (frame .turns) n (arrays (now values) (now feeds) (now args)) walk (now buffer) ⌝ }
+    ensures { λ r. ⌜ Turned (ground (now (text .entry)) (now (places .entry)) (now (lists .entry)) (now (tplaces .entry)) (now (book .entry)) (now (rows .entry)) (now (waves .entry)) known signals) (stream (now (text .entry)) c) (frame .depth - 1) (frame .level) table (frame .turns) n (arrays (now (values .entry)) (now (feeds .entry)) (now (args .entry))) (arrays (now (values .exit)) (now (feeds .exit)) (now (args .exit))) walk (now (buffer .entry)) (now (buffer .exit)) r ⌝ }
 {
     let inner = Frame {
         seconds: frame.seconds,
@@ -159,35 +199,15 @@ fn turns<'a>(
         depth: frame.depth - 1,
         level: frame.level,
     };
-    let mut j = walk.pass / cycles;
-    let mut w = rows::past(walk, j * cycles);
+    let mut i = 0;
+    let mut w = walk;
     let mut chosen = table;
-    if 0 < j {
-        let first = plays::turns(
-            text,
-            c,
-            places,
-            lists,
-            tplaces,
-            book,
-            rows,
-            waves,
-            b"",
-            b"",
-            known,
-            signals,
-            once(frame),
-            n,
-            table,
-            values,
-            feeds,
-            args,
-        );
-        chosen = first.table;
-    }
     let mut cursor = c;
-    while j < n {
-        let shown = w.row;
+    while i < n {
+        let start = w;
+        let before = chosen;
+        let mut kept = [0u8; sets::MOST];
+        keep(values, &mut kept, signals);
         let r = statements(
             text,
             c,
@@ -213,9 +233,10 @@ fn turns<'a>(
         if rows::over(w) {
             break;
         }
-        j += 1;
-        if (1 < j) & (w.row - shown == cycles) {
-            w = rows::again(w, cycles, n - j, signals, buffer);
+        i += 1;
+        let same = same_pins(values, &kept, signals);
+        if (start.pass == 0) & (chosen == before) & same {
+            w = repeated(w, start.row, n - i, signals, buffer);
             break;
         }
     }
@@ -229,8 +250,8 @@ fn turns<'a>(
     }
 }
 
-// Loop N { .. }: passed with all its turns, or entered.
-fn repeat<'a>(
+// A Loop on the way to the cycle: passed with all its turns, or entered in the one that has the cycle. Every turn behind the first begins where the first ended.
+fn reach<'a>(
     text: &'a [u8],
     c: Cursor,
     places: &'a [usize],
@@ -269,8 +290,109 @@ fn repeat<'a>(
     let measure = m.measure;
     let w = rows::spend(walk, measure.size + 1);
     let all = n * measure.cycles;
-    if w.pass < all {
-        return turns(
+    if all <= w.pass {
+        let r = plays::turns(
+            text,
+            c,
+            places,
+            lists,
+            tplaces,
+            book,
+            rows,
+            waves,
+            b"",
+            b"",
+            known,
+            signals,
+            once(frame),
+            n,
+            table,
+            values,
+            feeds,
+            args,
+        );
+        let behind = r.cursor;
+        return Walked {
+            cursor: behind,
+            table: r.table,
+            walk: rows::past(w, all),
+            ends: false,
+        };
+    }
+    let j = w.pass / measure.cycles;
+    let x = rows::past(w, j * measure.cycles);
+    let mut chosen = table;
+    if 0 < j {
+        let first = plays::turns(
+            text,
+            c,
+            places,
+            lists,
+            tplaces,
+            book,
+            rows,
+            waves,
+            b"",
+            b"",
+            known,
+            signals,
+            once(frame),
+            n,
+            table,
+            values,
+            feeds,
+            args,
+        );
+        chosen = first.table;
+    }
+    turns(
+        text,
+        c,
+        places,
+        lists,
+        tplaces,
+        book,
+        rows,
+        waves,
+        known,
+        signals,
+        frame,
+        n - j,
+        chosen,
+        x,
+        values,
+        feeds,
+        args,
+        buffer,
+    )
+}
+
+// Loop N { .. }: measured only on the way to the cycle.
+fn repeat<'a>(
+    text: &'a [u8],
+    c: Cursor,
+    places: &'a [usize],
+    lists: &'a [u16],
+    tplaces: &'a [usize],
+    book: &'a [usize],
+    rows: &'a [u16],
+    waves: &'a [u8],
+    known: Known,
+    signals: usize,
+    frame: Frame,
+    n: usize,
+    table: usize,
+    walk: Walk,
+    values: &mut [u8],
+    feeds: &mut [usize],
+    args: &mut [usize],
+    buffer: &mut [u8],
+) -> Walked
+    requires { ⌜ (alive c ≡ true) × (0 < n) × (0 < frame .depth) × LoopStood (ground (now text) (now places) (now lists) (now tplaces) (now book) (now rows) (now waves) known signals) (stream (now text) c) (frame .depth - 1) (frame .level) table (frame .turns) n (arrays (now values) (now feeds) (now args)) walk (now buffer) ⌝ }
+    ensures { λ r. ⌜ Looped (ground (now (text .entry)) (now (places .entry)) (now (lists .entry)) (now (tplaces .entry)) (now (book .entry)) (now (rows .entry)) (now (waves .entry)) known signals) (stream (now (text .entry)) c) (frame .depth - 1) (frame .level) table (frame .turns) n (arrays (now (values .entry)) (now (feeds .entry)) (now (args .entry))) (arrays (now (values .exit)) (now (feeds .exit)) (now (args .exit))) walk (now (buffer .entry)) (now (buffer .exit)) r ⌝ }
+{
+    if walk.walking {
+        return reach(
             text,
             c,
             places,
@@ -283,16 +405,15 @@ fn repeat<'a>(
             signals,
             frame,
             n,
-            measure.cycles,
             table,
-            w,
+            walk,
             values,
             feeds,
             args,
             buffer,
         );
     }
-    let r = plays::turns(
+    turns(
         text,
         c,
         places,
@@ -301,25 +422,20 @@ fn repeat<'a>(
         book,
         rows,
         waves,
-        b"",
-        b"",
         known,
         signals,
-        once(frame),
+        frame,
         n,
         table,
+        walk,
         values,
         feeds,
         args,
-    );
-    let behind = r.cursor;
-    Walked {
-        cursor: behind,
-        table: r.table,
-        walk: rows::past(w, all),
-        ends: false,
-    }
+        buffer,
+    )
 }
+
+// ---- a body that is used
 
 // The body of number i, its Shift played t times, from its own first byte. A macro runs in place; from a procedure the caller's pins and table come back.
 fn into<'a>(

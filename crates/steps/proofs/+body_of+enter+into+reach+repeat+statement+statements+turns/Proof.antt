@@ -1,7 +1,7 @@
 -- Statements and the bodies in them, one proof for all: a body in a body has one level less to go, so that the number of levels falls at each call that
 -- enters one; at each turn of a body's statements fewer tokens are left, and at each turn of a Loop fewer turns.
 use Prim.Native.Nat.{ℕ, _+_, _*_, _-_, _≤_, _<_}
-use native.Mathlib.Nat.{sub-self, div-mul-le-self}
+use native.Mathlib.Nat.{div-mul-le-self}
 use native.Mathlib.Omega.{arith}
 use mathlib.Core.Path.{refl, sym, _∙_}
 use mathlib.Core.Logic.{⊎-elim}
@@ -9,6 +9,7 @@ use borrow.Author.Needs.{needs}
 use borrow.Author.Tests.{eq-eqb}
 use Rattle.tokens.specs.Tokens.{left}
 use Rattle.meaning.specs.Run.{bare}
+use Rattle.walks.proofs.Loops.{some-cycles, turn-below}
 use Rattle.words.specs.Cursor.{stream}
 use Rattle.assigns.proofs.Table.{gave-zeros}
 use Rattle.plays.specs.Plays.{ground, arrays}
@@ -18,10 +19,10 @@ use Rattle.plays.proofs.Summing.{summed-empty}
 use Rattle.plays.proofs.Keeping.{kept-none, kept-then, kept-others, kept-args, kept-supplied, sized-kept, sized-at, shows-supplied}
 use Rattle.plays.proofs.Stepping.{in-loop, in-shift, called, one-vector, loop-standing, shift-standing, called-using}
 use Rattle.plays.proofs.Entering.{kind-macro, kind-procedure, kept-below, kept-returned, sized-left, macro-standing, procedure-standing, part-within, part-begins}
-use Rattle.rows.proofs.Going.{going-spent, going-past}
-use Rattle.steps.proofs.Looping.{some-in-turn, turn-among, few-turns}
-use Rattle.steps.proofs.Copying.{both-told}
-use Rattle.steps.proofs.Repeating.{Begun, begun-first, begun-later, Repeats, repeats-begin, turned-all, turn-stood, turn-long, turned-over, turned-once, turn-rows, copied-requires, turned-copied, loop-stood, repeat-small, repeat-few, repeat-pays, repeat-played, repeat-passed, repeat-stood, repeat-entered}
+use Rattle.rows.specs.Went.{spent}
+use Rattle.rows.proofs.Going.{going-spent}
+use Rattle.steps.proofs.Copying.{all-told}
+use Rattle.steps.proofs.Repeating.{Begun, begun-first, begun-later, Repeats, repeats-begin, turned-all, turn-stood, turn-long, turn-kept, turned-over, turned-once, turn-rows, turn-copiable, turned-copied, loop-stood, reach-small, reach-few, reach-pays, reach-played, reach-passed, reach-stood, reach-entered, shown-stood, shown-looped}
 use Rattle.steps.proofs.Stepping.{vector-pays, assigns-pays, chooses-pays, ends-step, vector-step, assigns-step, chooses-step}
 use Rattle.steps.proofs.Inside.{inside-ready, inside-step, loop-plain, shift-ready, shift-step, called-measured, called-use, called-step}
 use Rattle.steps.proofs.Going.{starts, onward-next, fewer, going-next, long-next, gone, Underway}
@@ -30,25 +31,28 @@ use borrow.Fn.Kinds.{In}
 use borrow.Fn.PlainCycle.{Measures, is, falls, and}
 use Rattle.steps.proofs.body_of.Reads as body-of
 use Rattle.steps.proofs.body_of.Kinds as body-of-kinds
-use Rattle.steps.proofs.+body_of+enter+into+repeat+statement+statements+turns.Lts-body_of as body-of-lts
+use Rattle.steps.proofs.+body_of+enter+into+reach+repeat+statement+statements+turns.Lts-body_of as body-of-lts
 use Rattle.steps.proofs.enter.Reads as enter
 use Rattle.steps.proofs.enter.Kinds as enter-kinds
-use Rattle.steps.proofs.+body_of+enter+into+repeat+statement+statements+turns.Lts-enter as enter-lts
+use Rattle.steps.proofs.+body_of+enter+into+reach+repeat+statement+statements+turns.Lts-enter as enter-lts
 use Rattle.steps.proofs.into.Reads as into
 use Rattle.steps.proofs.into.Kinds as into-kinds
-use Rattle.steps.proofs.+body_of+enter+into+repeat+statement+statements+turns.Lts-into as into-lts
+use Rattle.steps.proofs.+body_of+enter+into+reach+repeat+statement+statements+turns.Lts-into as into-lts
+use Rattle.steps.proofs.reach.Reads as reach
+use Rattle.steps.proofs.reach.Kinds as reach-kinds
+use Rattle.steps.proofs.+body_of+enter+into+reach+repeat+statement+statements+turns.Lts-reach as reach-lts
 use Rattle.steps.proofs.repeat.Reads as repeat
 use Rattle.steps.proofs.repeat.Kinds as repeat-kinds
-use Rattle.steps.proofs.+body_of+enter+into+repeat+statement+statements+turns.Lts-repeat as repeat-lts
+use Rattle.steps.proofs.+body_of+enter+into+reach+repeat+statement+statements+turns.Lts-repeat as repeat-lts
 use Rattle.steps.proofs.statement.Reads as statement′
 use Rattle.steps.proofs.statement.Kinds as statement-kinds
-use Rattle.steps.proofs.+body_of+enter+into+repeat+statement+statements+turns.Lts-statement as statement-lts
+use Rattle.steps.proofs.+body_of+enter+into+reach+repeat+statement+statements+turns.Lts-statement as statement-lts
 use Rattle.steps.proofs.statements.Reads as statements
 use Rattle.steps.proofs.statements.Kinds as statements-kinds
-use Rattle.steps.proofs.+body_of+enter+into+repeat+statement+statements+turns.Lts-statements as statements-lts
+use Rattle.steps.proofs.+body_of+enter+into+reach+repeat+statement+statements+turns.Lts-statements as statements-lts
 use Rattle.steps.proofs.turns.Reads as turns
 use Rattle.steps.proofs.turns.Kinds as turns-kinds
-use Rattle.steps.proofs.+body_of+enter+into+repeat+statement+statements+turns.Lts-turns as turns-lts
+use Rattle.steps.proofs.+body_of+enter+into+reach+repeat+statement+statements+turns.Lts-turns as turns-lts
 use Rattle.heads.proofs.head.Reads as head-reads
 use Rattle.loops.proofs.measure.Reads as measure-reads
 use Rattle.measures.proofs.measure_at.Reads as measure-at-reads
@@ -59,37 +63,42 @@ use Rattle.pins.proofs.put.Reads as put-reads
 use Rattle.pins.proofs.supply.Reads as supply-reads
 use Rattle.plays.proofs.enter.Reads as enter-reads
 use Rattle.plays.proofs.turns.Reads as turns-reads
-use Rattle.rows.proofs.again.Reads as again-reads
 use Rattle.rows.proofs.cycle.Reads as cycle-reads
 use Rattle.rows.proofs.over.Reads as over-reads
 use Rattle.rows.proofs.past.Reads as past-reads
 use Rattle.rows.proofs.spend.Reads as spend-reads
+use Rattle.steps.proofs.keep.Reads as keep-reads
 use Rattle.steps.proofs.once.Reads as once-reads
+use Rattle.steps.proofs.repeated.Reads as repeated-reads
+use Rattle.steps.proofs.same_pins.Reads as same-pins-reads
 use Rattle.steps.proofs.shift.Reads as shift-reads
 use Rattle.words.proofs.cursor_at.Reads as cursor-at-reads
-use Rattle.steps.proofs.+body_of+enter+into+repeat+statement+statements+turns.{statement}
-use Rattle.steps.proofs.+body_of+enter+into+repeat+statement+statements+turns.Tie.{close}
+use Rattle.steps.proofs.+body_of+enter+into+reach+repeat+statement+statements+turns.{statement}
+use Rattle.steps.proofs.+body_of+enter+into+reach+repeat+statement+statements+turns.Tie.{close}
 
 abbrev μ-body-of : Measures 5 body-of-kinds.ps ℕ
-μ-body-of κs a = 5 * a .1 .1 .1 .1 .1 .1 .1 .1 .1 .1 .0 .depth + 4
+μ-body-of κs a = 6 * a .1 .1 .1 .1 .1 .1 .1 .1 .1 .1 .0 .depth + 5
 
 abbrev μ-enter : Measures 5 enter-kinds.ps ℕ
-μ-enter κs a = 5 * a .1 .1 .1 .1 .1 .1 .1 .1 .1 .0 .depth + 1
+μ-enter κs a = 6 * a .1 .1 .1 .1 .1 .1 .1 .1 .1 .0 .depth + 1
 
 abbrev μ-into : Measures 5 into-kinds.ps ℕ
-μ-into κs a = 5 * a .1 .1 .1 .1 .1 .1 .1 .1 .1 .0 .depth
+μ-into κs a = 6 * a .1 .1 .1 .1 .1 .1 .1 .1 .1 .0 .depth
+
+abbrev μ-reach : Measures 5 reach-kinds.ps ℕ
+μ-reach κs a = 6 * a .1 .1 .1 .1 .1 .1 .1 .1 .1 .1 .0 .depth + 1
 
 abbrev μ-repeat : Measures 5 repeat-kinds.ps ℕ
-μ-repeat κs a = 5 * a .1 .1 .1 .1 .1 .1 .1 .1 .1 .1 .0 .depth + 1
+μ-repeat κs a = 6 * a .1 .1 .1 .1 .1 .1 .1 .1 .1 .1 .0 .depth + 2
 
 abbrev μ-statement : Measures 5 statement-kinds.ps ℕ
-μ-statement κs a = 5 * a .1 .1 .1 .1 .1 .1 .1 .1 .1 .1 .0 .depth + 2
+μ-statement κs a = 6 * a .1 .1 .1 .1 .1 .1 .1 .1 .1 .1 .0 .depth + 3
 
 abbrev μ-statements : Measures 5 statements-kinds.ps ℕ
-μ-statements κs a = 5 * a .1 .1 .1 .1 .1 .1 .1 .1 .1 .1 .0 .depth + 3
+μ-statements κs a = 6 * a .1 .1 .1 .1 .1 .1 .1 .1 .1 .1 .0 .depth + 4
 
 abbrev μ-turns : Measures 5 turns-kinds.ps ℕ
-μ-turns κs a = 5 * a .1 .1 .1 .1 .1 .1 .1 .1 .1 .1 .0 .depth
+μ-turns κs a = 6 * a .1 .1 .1 .1 .1 .1 .1 .1 .1 .1 .0 .depth
 
 abbrev body-of-at : ℕ → In 5 body-of-kinds.ps
 body-of-at t = and 5 body-of-kinds.ps (is 5 body-of-kinds.ps μ-body-of t) body-of.Pre
@@ -108,6 +117,12 @@ into-at t = and 5 into-kinds.ps (is 5 into-kinds.ps μ-into t) into.Pre
 
 abbrev into-below : ℕ → In 5 into-kinds.ps
 into-below t = and 5 into-kinds.ps (falls 5 into-kinds.ps _<_ μ-into t) into.Pre
+
+abbrev reach-at : ℕ → In 5 reach-kinds.ps
+reach-at t = and 5 reach-kinds.ps (is 5 reach-kinds.ps μ-reach t) reach.Pre
+
+abbrev reach-below : ℕ → In 5 reach-kinds.ps
+reach-below t = and 5 reach-kinds.ps (falls 5 reach-kinds.ps _<_ μ-reach t) reach.Pre
 
 abbrev repeat-at : ℕ → In 5 repeat-kinds.ps
 repeat-at t = and 5 repeat-kinds.ps (is 5 repeat-kinds.ps μ-repeat t) repeat.Pre
@@ -145,8 +160,11 @@ enter-calls t = (measure-at-reads.Asked, measure-at-reads.Learnt, spend-reads.As
 abbrev into-calls : ℕ → into-lts.Claims
 into-calls t = (start-at-reads.Asked, start-at-reads.Learnt, body-of-below t, body-of.Post, leave-reads.Asked, leave-reads.Learnt, come-back-reads.Asked, come-back-reads.Learnt)
 
+abbrev reach-calls : ℕ → reach-lts.Claims
+reach-calls t = (measure-reads.Asked, measure-reads.Learnt, spend-reads.Asked, spend-reads.Learnt, once-reads.Asked, once-reads.Learnt, turns-reads.Asked, turns-reads.Learnt, past-reads.Asked, past-reads.Learnt, turns-below t, turns.Post)
+
 abbrev repeat-calls : ℕ → repeat-lts.Claims
-repeat-calls t = (measure-reads.Asked, measure-reads.Learnt, spend-reads.Asked, spend-reads.Learnt, turns-below t, turns.Post, once-reads.Asked, once-reads.Learnt, turns-reads.Asked, turns-reads.Learnt, past-reads.Asked, past-reads.Learnt)
+repeat-calls t = (reach-below t, reach.Post, turns-below t, turns.Post)
 
 abbrev statement-calls : ℕ → statement-lts.Claims
 statement-calls t = (head-reads.Asked, head-reads.Learnt, put-reads.Asked, put-reads.Learnt, cycle-reads.Asked, cycle-reads.Learnt, spend-reads.Asked, spend-reads.Learnt, repeat-below t, repeat.Post, shift-reads.Asked, shift-reads.Learnt, supply-reads.Asked, supply-reads.Learnt, enter-below t, enter.Post)
@@ -155,7 +173,7 @@ abbrev statements-calls : ℕ → statements-lts.Claims
 statements-calls t = (statement-below t, statement′.Post, over-reads.Asked, over-reads.Learnt)
 
 abbrev turns-calls : ℕ → turns-lts.Claims
-turns-calls t = (past-reads.Asked, past-reads.Learnt, once-reads.Asked, once-reads.Learnt, turns-reads.Asked, turns-reads.Learnt, statements-below t, statements.Post, over-reads.Asked, over-reads.Learnt, again-reads.Asked, again-reads.Learnt)
+turns-calls t = (keep-reads.Asked, keep-reads.Learnt, statements-below t, statements.Post, over-reads.Asked, over-reads.Learnt, same-pins-reads.Asked, same-pins-reads.Learnt, repeated-reads.Asked, repeated-reads.Learnt)
 
 body-of-sub-cursor-at : (t : ℕ) → body-of-lts.Need-sub-cursor-at (body-of-calls t) (body-of-at t) body-of.Post
 body-of-sub-cursor-at t c =
@@ -479,43 +497,183 @@ into-returns-2 t c =
           procedure-tells v _ kind sized l (p .kept) (come-back′ .ensures) (p .walks E b us _ (procedure-standing (v .use′) sized l) (procedure-ready v kind));
     }
 
-repeat-sub-measure : (t : ℕ) → repeat-lts.Need-sub-measure (repeat-calls t) (repeat-at t) repeat.Post
-repeat-sub-measure t c =
+-- where the turns begin: with the first, or behind it
+reach-begun : (t : ℕ) (c : reach-lts.Joined2 (reach-calls t) (reach-at t) reach.Post)
+    → let a = c .before .before .before .before .before .before .before .before .before .before .before .before .before .before .before .before .before .before .before .before .before .before .before .before .before .before .before .args in
+    let m = c .before .before .before .before .before .before .before .before .before .before .before .before .before .measure in
+    Begun (ground (a .text .now) (a .places .now) (a .lists .now) (a .tplaces .now) (a .book .now) (a .rows .now) (a .waves .now) (a .known) (a .signals)) (stream (a .text .now) (a .c))
+    (a .frame .depth - 1) (a .frame .level) (a .table) (a .frame .turns) (a .n) (m .result .measure .cycles) (arrays (a .values .now) (a .feeds .now) (m .last .1 .1 .1 .1 .1 .1 .1 .1 .1 .1 .0)) (spent (a .walk) (m .result .measure .size + 1))
+    (c .if2 .chosen) (arrays (c .if2 .values) (c .if2 .feeds) (c .if2 .args))
+reach-begun t c =
+    let spend′ = c .before .before .before .before .before .before .before .before .spend in
+    ⊎-elim
+    (λ w. rw (w .14, w .15, w .16, w .17) (begun-later (omega (arith, rw (spend′ .ensures) at (w .0 .taken))) (rw (w .3 .ensures) at (w .7 .ensures))))
+    (λ w. rw (w .1, w .2, w .3, w .4) (begun-first (omega (arith, rw (spend′ .ensures) at (w .0 .left)))))
+    (c .if2 .came)
+
+reach-sub-measure : (t : ℕ) → reach-lts.Need-sub-measure (reach-calls t) (reach-at t) reach.Post
+reach-sub-measure t c =
     let pre′ = c .before .before .before .before .before .before .before .before .before .before .before .before .pre in
     omega (arith, pre′ .1 .2)
 
-repeat-measure-requires : (t : ℕ) → repeat-lts.Need-measure-requires (repeat-calls t) (repeat-at t) repeat.Post
-repeat-measure-requires t c κs =
+reach-measure-requires : (t : ℕ) → reach-lts.Need-measure-requires (reach-calls t) (reach-at t) reach.Post
+reach-measure-requires t c κs =
     let pre′ = c .before .before .before .before .before .before .before .before .before .before .before .before .before .pre in
     (pre′ .1 .0, pre′ .1 .3 .sized .args-long, loop-stood (pre′ .1 .3))
 
-repeat-add-spend : (t : ℕ) → repeat-lts.Need-add-spend (repeat-calls t) (repeat-at t) repeat.Post
-repeat-add-spend t c =
+reach-add-spend : (t : ℕ) → reach-lts.Need-add-spend (reach-calls t) (reach-at t) reach.Post
+reach-add-spend t c =
     let pre′ = c .before .before .before .before .before .before .before .before .before .before .before .before .before .before .before .before .before .before .pre in
     let measure′ = c .before .before .before .before .measure in
-    omega (arith, repeat-small (pre′ .1 .3) (pre′ .1 .1) (measure′ .ensures .1))
+    omega (arith, reach-small (pre′ .1 .3) (pre′ .1 .1) (measure′ .ensures .1))
 
-repeat-spend-requires : (t : ℕ) → repeat-lts.Need-spend-requires (repeat-calls t) (repeat-at t) repeat.Post
-repeat-spend-requires t c κs =
+reach-spend-requires : (t : ℕ) → reach-lts.Need-spend-requires (reach-calls t) (reach-at t) reach.Post
+reach-spend-requires t c κs =
     let pre′ = c .before .before .before .before .before .before .before .before .before .before .before .before .before .before .before .before .before .before .pre in
     let measure′ = c .before .before .before .before .measure in
-    repeat-pays (pre′ .1 .3) (pre′ .1 .1) (measure′ .ensures .1)
+    reach-pays (pre′ .1 .3) (pre′ .1 .1) (measure′ .ensures .1)
 
-repeat-mul-all : (t : ℕ) → repeat-lts.Need-mul-all (repeat-calls t) (repeat-at t) repeat.Post
-repeat-mul-all t c =
+reach-mul-all : (t : ℕ) → reach-lts.Need-mul-all (reach-calls t) (reach-at t) reach.Post
+reach-mul-all t c =
     let pre′ = c .before .before .before .before .before .before .before .before .before .before .before .before .before .before .before .before .before .before .before .before .pre in
     let measure′ = c .before .before .before .before .before .before .measure in
-    omega (arith, repeat-few (pre′ .1 .3) (pre′ .1 .1) (measure′ .ensures .1))
+    omega (arith, reach-few (pre′ .1 .3) (pre′ .1 .1) (measure′ .ensures .1))
 
-repeat-turns-requires : (t : ℕ) → repeat-lts.Need-turns-requires (repeat-calls t) (repeat-at t) repeat.Post
-repeat-turns-requires t c κs =
-    let pre′ = c .before .before .before .before .before .before .before .before .before .before .before .before .before .before .before .before .before .before .before .before .before .before .before .before .before .before .pre in
-    let measure′ = c .before .before .before .before .before .before .before .before .before .before .before .before .measure in
-    let spend′ = c .before .before .before .before .before .before .before .spend in
-    let if1′ = c .before .before .before .before .if1 in (
-      omega (arith, pre′ .0),
-      rw (spend′ .ensures) (pre′ .1 .0, pre′ .1 .2, repeat-stood (pre′ .1 .3) (pre′ .1 .1) (measure′ .ensures .1) (measure′ .ensures .0) (rw (spend′ .ensures) at (if1′ .taken))),
-    )
+reach-slice-aggregate-turns : (t : ℕ) → reach-lts.Need-slice-aggregate-turns (reach-calls t) (reach-at t) reach.Post
+reach-slice-aggregate-turns t c = search needs
+
+reach-slice-aggregate-turns-2 : (t : ℕ) → reach-lts.Need-slice-aggregate-turns-2 (reach-calls t) (reach-at t) reach.Post
+reach-slice-aggregate-turns-2 t c = search needs
+
+reach-once-requires : (t : ℕ) → reach-lts.Need-once-requires (reach-calls t) (reach-at t) reach.Post
+reach-once-requires t c κs = search needs
+
+reach-turns-requires : (t : ℕ) → reach-lts.Need-turns-requires (reach-calls t) (reach-at t) reach.Post
+reach-turns-requires t c κs =
+    let once′ = c .before .before .before .once in
+    let pre′ = c .before .before .before .before .before .before .before .before .before .before .before .before .before .before .before .before .before .before .before .before .before .before .before .before .before .before .before .before .pre in
+    let measure′ = c .before .before .before .before .before .before .before .before .before .before .before .before .before .before .measure in
+    rw (once′ .ensures) (pre′ .1 .0, pre′ .1 .1, pre′ .1 .2, reach-played (pre′ .1 .3) (pre′ .1 .1) (measure′ .ensures .1) (measure′ .ensures .0))
+
+reach-past-requires : (t : ℕ) → reach-lts.Need-past-requires (reach-calls t) (reach-at t) reach.Post
+reach-past-requires t c κs = search needs
+
+reach-same-length : (t : ℕ) → reach-lts.Need-same-length (reach-calls t) (reach-at t) reach.Post
+reach-same-length t c = search needs
+
+reach-same-length-2 : (t : ℕ) → reach-lts.Need-same-length-2 (reach-calls t) (reach-at t) reach.Post
+reach-same-length-2 t c = search needs
+
+reach-same-length-3 : (t : ℕ) → reach-lts.Need-same-length-3 (reach-calls t) (reach-at t) reach.Post
+reach-same-length-3 t c =
+    let turns′ = c .before .before .before .before .before .before .before .before .turns in
+    let measure′ = c .before .before .before .before .before .before .before .before .before .before .before .before .before .before .before .before .before .before .before .before .before .before .before .measure in
+    let pre′ = c .before .before .before .before .before .before .before .before .before .before .before .before .before .before .before .before .before .before .before .before .before .before .before .before .before .before .before .before .before .before .before .before .before .before .before .before .before .pre in
+    turns′ .ensures .kept .args-long ∙ measure′ .ensures .0 ∙ sym (pre′ .1 .3 .sized .args-long)
+
+reach-returns : (t : ℕ) → reach-lts.Need-returns (reach-calls t) (reach-at t) reach.Post
+reach-returns t c =
+    let past′ = c .past in
+    let spend′ = c .before .before .before .before .before .before .before .before .before .before .before .before .before .before .before .before .before .before .spend in
+    let pre′ = c .before .before .before .before .before .before .before .before .before .before .before .before .before .before .before .before .before .before .before .before .before .before .before .before .before .before .before .before .before .before .before .before .before .before .before .before .before .pre in
+    let measure′ = c .before .before .before .before .before .before .before .before .before .before .before .before .before .before .before .before .before .before .before .before .before .before .before .measure in
+    let if1′ = c .before .before .before .before .before .before .before .before .before .before .before .before .before .before .before .if1 in
+    let once′ = c .before .before .before .before .before .before .before .before .before .before .before .before .once in
+    let turns′ = c .before .before .before .before .before .before .before .before .turns in
+    rw (past′ .ensures, spend′ .ensures)
+    (reach-passed (pre′ .1 .3) (pre′ .1 .1) (measure′ .ensures .1) (measure′ .ensures .0) (rw (spend′ .ensures) at (if1′ .taken)) (rw (once′ .ensures) at (turns′ .ensures)))
+
+reach-div-j : (t : ℕ) → reach-lts.Need-div-j (reach-calls t) (reach-at t) reach.Post
+reach-div-j t c =
+    let args′ = c .before .before .before .before .before .before .before .before .before .before .before .before .before .before .before .before .before .before .before .before .before .before .before .before .args in
+    let measure′ = c .before .before .before .before .before .before .before .before .before .before .measure in
+    let spend′ = c .before .before .before .before .before .spend in
+    let if1′ = c .before .before .if1 in
+    omega (arith, some-cycles (args′ .n) (measure′ .result .measure .cycles) (args′ .walk .pass) (rw (spend′ .ensures) at (if1′ .left)))
+
+reach-mul-past : (t : ℕ) → reach-lts.Need-mul-past (reach-calls t) (reach-at t) reach.Post
+reach-mul-past t c =
+    let spend′ = c .before .before .before .before .before .before .spend in
+    let args′ = c .before .before .before .before .before .before .before .before .before .before .before .before .before .before .before .before .before .before .before .before .before .before .before .before .before .args in
+    let measure′ = c .before .before .before .before .before .before .before .before .before .before .before .measure in
+    let if1′ = c .before .before .before .if1 in
+    let pre′ = c .before .before .before .before .before .before .before .before .before .before .before .before .before .before .before .before .before .before .before .before .before .before .before .before .before .pre in
+    rw (spend′ .ensures) (omega (arith, div-mul-le-self (args′ .walk .pass) (measure′ .result .measure .cycles), (rw (spend′ .ensures) at (if1′ .left)), reach-few (pre′ .1 .3) (pre′ .1 .1) (measure′ .ensures .1)))
+
+reach-past-requires-2 : (t : ℕ) → reach-lts.Need-past-requires-2 (reach-calls t) (reach-at t) reach.Post
+reach-past-requires-2 t c κs =
+    let spend′ = c .before .before .before .before .before .before .spend in
+    let args′ = c .before .before .before .before .before .before .before .before .before .before .before .before .before .before .before .before .before .before .before .before .before .before .before .before .before .args in
+    let measure′ = c .before .before .before .before .before .before .before .before .before .before .before .measure in
+    rw (spend′ .ensures) (div-mul-le-self (args′ .walk .pass) (measure′ .result .measure .cycles))
+
+reach-slice-aggregate-turns-3 : (t : ℕ) → reach-lts.Need-slice-aggregate-turns-3 (reach-calls t) (reach-at t) reach.Post
+reach-slice-aggregate-turns-3 t c = search needs
+
+reach-slice-aggregate-turns-4 : (t : ℕ) → reach-lts.Need-slice-aggregate-turns-4 (reach-calls t) (reach-at t) reach.Post
+reach-slice-aggregate-turns-4 t c = search needs
+
+reach-once-requires-2 : (t : ℕ) → reach-lts.Need-once-requires-2 (reach-calls t) (reach-at t) reach.Post
+reach-once-requires-2 t c κs = search needs
+
+reach-turns-requires-2 : (t : ℕ) → reach-lts.Need-turns-requires-2 (reach-calls t) (reach-at t) reach.Post
+reach-turns-requires-2 t c κs =
+    let once2′ = c .before .before .before .once2 in
+    let pre′ = c .before .before .before .before .before .before .before .before .before .before .before .before .before .before .before .before .before .before .before .before .before .before .before .before .before .before .before .before .before .before .before .before .before .pre in
+    let measure′ = c .before .before .before .before .before .before .before .before .before .before .before .before .before .before .before .before .before .before .before .measure in
+    rw (once2′ .ensures) (pre′ .1 .0, pre′ .1 .1, pre′ .1 .2, reach-played (pre′ .1 .3) (pre′ .1 .1) (measure′ .ensures .1) (measure′ .ensures .0))
+
+reach-sub-turns : (t : ℕ) → reach-lts.Need-sub-turns (reach-calls t) (reach-at t) reach.Post
+reach-sub-turns t c =
+    let spend′ = c .before .before .before .before .before .before .before .before .spend in
+    let args′ = c .before .before .before .before .before .before .before .before .before .before .before .before .before .before .before .before .before .before .before .before .before .before .before .before .before .before .before .args in
+    let measure′ = c .before .before .before .before .before .before .before .before .before .before .before .before .before .measure in
+    let if1′ = c .before .before .before .before .before .if1 in
+    rw (spend′ .ensures) (omega (arith, turn-below (args′ .n) (measure′ .result .measure .cycles) (args′ .walk .pass) (rw (spend′ .ensures) at (if1′ .left))))
+
+reach-turns-requires-3 : (t : ℕ) → reach-lts.Need-turns-requires-3 (reach-calls t) (reach-at t) reach.Post
+reach-turns-requires-3 t c κs =
+    let pre′ = c .before .before .before .before .before .before .before .before .before .before .before .before .before .before .before .before .before .before .before .before .before .before .before .before .before .before .before .before .before .before .before .pre in
+    let past2′ = c .before .before .before .before .before .past2 in
+    let spend′ = c .before .before .before .before .before .before .before .before .before .before .before .before .spend in
+    let measure′ = c .before .before .before .before .before .before .before .before .before .before .before .before .before .before .before .before .before .measure in
+    let if1′ = c .before .before .before .before .before .before .before .before .before .if1 in
+    (omega (arith, pre′ .0), rw (past2′ .ensures, spend′ .ensures) (pre′ .1 .0, pre′ .1 .2, reach-stood (pre′ .1 .3) (pre′ .1 .1) (measure′ .ensures .1) (measure′ .ensures .0) (rw (spend′ .ensures) at (if1′ .left)) (reach-begun t (c .before .before .before .before))))
+
+reach-same-length-4 : (t : ℕ) → reach-lts.Need-same-length-4 (reach-calls t) (reach-at t) reach.Post
+reach-same-length-4 t c =
+    let turns3′ = c .before .before .before .before .before .before .before .before .turns3 in
+    turns3′ .ensures .kept .values-long ∙ reach-begun t (c .before .before .before .before .before .before .before .before .before .before .before .before .before) .kept .values-long
+
+reach-same-length-5 : (t : ℕ) → reach-lts.Need-same-length-5 (reach-calls t) (reach-at t) reach.Post
+reach-same-length-5 t c =
+    let turns3′ = c .before .before .before .before .before .before .before .before .turns3 in
+    turns3′ .ensures .kept .feeds-long ∙ reach-begun t (c .before .before .before .before .before .before .before .before .before .before .before .before .before) .kept .feeds-long
+
+reach-same-length-6 : (t : ℕ) → reach-lts.Need-same-length-6 (reach-calls t) (reach-at t) reach.Post
+reach-same-length-6 t c =
+    let turns3′ = c .before .before .before .before .before .before .before .before .turns3 in
+    let measure′ = c .before .before .before .before .before .before .before .before .before .before .before .before .before .before .before .before .before .before .before .before .before .before .before .before .before .before .measure in
+    let pre′ = c .before .before .before .before .before .before .before .before .before .before .before .before .before .before .before .before .before .before .before .before .before .before .before .before .before .before .before .before .before .before .before .before .before .before .before .before .before .before .before .before .pre in
+    turns3′ .ensures .kept .args-long ∙ reach-begun t (c .before .before .before .before .before .before .before .before .before .before .before .before .before) .kept .args-long ∙ measure′ .ensures .0 ∙ sym (pre′ .1 .3 .sized .args-long)
+
+reach-same-length-7 : (t : ℕ) → reach-lts.Need-same-length-7 (reach-calls t) (reach-at t) reach.Post
+reach-same-length-7 t c = search needs
+
+reach-returns-2 : (t : ℕ) → reach-lts.Need-returns-2 (reach-calls t) (reach-at t) reach.Post
+reach-returns-2 t c =
+    let pre′ = c .before .before .before .before .before .before .before .before .before .before .before .before .before .before .before .before .before .before .before .before .before .before .before .before .before .before .before .before .before .before .before .before .before .before .before .before .before .before .before .before .pre in
+    let measure′ = c .before .before .before .before .before .before .before .before .before .before .before .before .before .before .before .before .before .before .before .before .before .before .before .before .before .before .measure in
+    let spend′ = c .before .before .before .before .before .before .before .before .before .before .before .before .before .before .before .before .before .before .before .before .before .spend in
+    let if1′ = c .before .before .before .before .before .before .before .before .before .before .before .before .before .before .before .before .before .before .if1 in
+    let past2′ = c .before .before .before .before .before .before .before .before .before .before .before .before .before .before .past2 in
+    let turns3′ = c .before .before .before .before .before .before .before .before .turns3 in
+    reach-entered (pre′ .1 .3) (pre′ .1 .1) (measure′ .ensures .1) (measure′ .ensures .0) (rw (spend′ .ensures) at (if1′ .left)) (reach-begun t (c .before .before .before .before .before .before .before .before .before .before .before .before .before)) (rw (past2′ .ensures, spend′ .ensures) at (turns3′ .ensures))
+
+repeat-reach-requires : (t : ℕ) → repeat-lts.Need-reach-requires (repeat-calls t) (repeat-at t) repeat.Post
+repeat-reach-requires t c κs =
+    let pre′ = c .before .before .before .before .before .before .before .before .before .before .before .before .before .before .before .before .pre in
+    (omega (arith, pre′ .0), pre′ .1)
 
 repeat-same-length : (t : ℕ) → repeat-lts.Need-same-length (repeat-calls t) (repeat-at t) repeat.Post
 repeat-same-length t c = search needs
@@ -524,42 +682,21 @@ repeat-same-length-2 : (t : ℕ) → repeat-lts.Need-same-length-2 (repeat-calls
 repeat-same-length-2 t c = search needs
 
 repeat-same-length-3 : (t : ℕ) → repeat-lts.Need-same-length-3 (repeat-calls t) (repeat-at t) repeat.Post
-repeat-same-length-3 t c =
-    let pre′ = c .before .before .before .before .before .before .before .before .before .before .before .before .before .before .before .before .before .before .before .before .before .before .before .before .before .before .before .before .before .before .before .before .before .before .before .pre in
-    let measure′ = c .before .before .before .before .before .before .before .before .before .before .before .before .before .before .before .before .before .before .before .before .before .measure in
-    let turns′ = c .before .before .before .before .before .before .before .before .turns in
-    turns′ .ensures .kept .args-long ∙ measure′ .ensures .0 ∙ sym (pre′ .1 .3 .sized .args-long)
+repeat-same-length-3 t c = search needs
 
 repeat-same-length-4 : (t : ℕ) → repeat-lts.Need-same-length-4 (repeat-calls t) (repeat-at t) repeat.Post
 repeat-same-length-4 t c = search needs
 
 repeat-returns : (t : ℕ) → repeat-lts.Need-returns (repeat-calls t) (repeat-at t) repeat.Post
 repeat-returns t c =
-    let pre′ = c .before .before .before .before .before .before .before .before .before .before .before .before .before .before .before .before .before .before .before .before .before .before .before .before .before .before .before .before .before .before .before .before .before .before .before .pre in
-    let measure′ = c .before .before .before .before .before .before .before .before .before .before .before .before .before .before .before .before .before .before .before .before .before .measure in
-    let spend′ = c .before .before .before .before .before .before .before .before .before .before .before .before .before .before .before .before .spend in
-    let if1′ = c .before .before .before .before .before .before .before .before .before .before .before .before .before .if1 in
-    let turns′ = c .before .before .before .before .before .before .before .before .turns in
-    repeat-entered (pre′ .1 .3) (pre′ .1 .1) (measure′ .ensures .1) (measure′ .ensures .0) (rw (spend′ .ensures) at (if1′ .taken)) (rw (spend′ .ensures) at (turns′ .ensures))
+    let reach′ = c .before .before .before .before .before .before .before .before .reach in
+    reach′ .ensures
 
-repeat-slice-aggregate-turns : (t : ℕ) → repeat-lts.Need-slice-aggregate-turns (repeat-calls t) (repeat-at t) repeat.Post
-repeat-slice-aggregate-turns t c = search needs
-
-repeat-slice-aggregate-turns-2 : (t : ℕ) → repeat-lts.Need-slice-aggregate-turns-2 (repeat-calls t) (repeat-at t) repeat.Post
-repeat-slice-aggregate-turns-2 t c = search needs
-
-repeat-once-requires : (t : ℕ) → repeat-lts.Need-once-requires (repeat-calls t) (repeat-at t) repeat.Post
-repeat-once-requires t c κs = search needs
-
-repeat-turns-requires-2 : (t : ℕ) → repeat-lts.Need-turns-requires-2 (repeat-calls t) (repeat-at t) repeat.Post
-repeat-turns-requires-2 t c κs =
-    let pre′ = c .before .before .before .before .before .before .before .before .before .before .before .before .before .before .before .before .before .before .before .before .before .before .before .before .before .before .before .before .pre in
-    let measure′ = c .before .before .before .before .before .before .before .before .before .before .before .before .before .before .measure in
-    let once′ = c .before .before .before .once in
-    rw (once′ .ensures) (pre′ .1 .0, pre′ .1 .1, pre′ .1 .2, repeat-played (pre′ .1 .3) (pre′ .1 .1) (measure′ .ensures .1) (measure′ .ensures .0))
-
-repeat-past-requires : (t : ℕ) → repeat-lts.Need-past-requires (repeat-calls t) (repeat-at t) repeat.Post
-repeat-past-requires t c κs = search needs
+repeat-turns-requires : (t : ℕ) → repeat-lts.Need-turns-requires (repeat-calls t) (repeat-at t) repeat.Post
+repeat-turns-requires t c κs =
+    let pre′ = c .before .before .before .before .before .before .before .before .before .before .before .before .before .before .before .before .pre in
+    let if1′ = c .before .before .before .before .if1 in
+    (omega (arith, pre′ .0), (pre′ .1 .0, pre′ .1 .2, shown-stood (pre′ .1 .3) (pre′ .1 .1) (if1′ .left)))
 
 repeat-same-length-5 : (t : ℕ) → repeat-lts.Need-same-length-5 (repeat-calls t) (repeat-at t) repeat.Post
 repeat-same-length-5 t c = search needs
@@ -568,22 +705,17 @@ repeat-same-length-6 : (t : ℕ) → repeat-lts.Need-same-length-6 (repeat-calls
 repeat-same-length-6 t c = search needs
 
 repeat-same-length-7 : (t : ℕ) → repeat-lts.Need-same-length-7 (repeat-calls t) (repeat-at t) repeat.Post
-repeat-same-length-7 t c =
-    let pre′ = c .before .before .before .before .before .before .before .before .before .before .before .before .before .before .before .before .before .before .before .before .before .before .before .before .before .before .before .before .before .before .before .before .before .before .before .before .before .pre in
-    let measure′ = c .before .before .before .before .before .before .before .before .before .before .before .before .before .before .before .before .before .before .before .before .before .before .before .measure in
-    let turns2′ = c .before .before .before .before .before .before .before .before .turns2 in
-    turns2′ .ensures .kept .args-long ∙ measure′ .ensures .0 ∙ sym (pre′ .1 .3 .sized .args-long)
+repeat-same-length-7 t c = search needs
+
+repeat-same-length-8 : (t : ℕ) → repeat-lts.Need-same-length-8 (repeat-calls t) (repeat-at t) repeat.Post
+repeat-same-length-8 t c = search needs
 
 repeat-returns-2 : (t : ℕ) → repeat-lts.Need-returns-2 (repeat-calls t) (repeat-at t) repeat.Post
 repeat-returns-2 t c =
-    let pre′ = c .before .before .before .before .before .before .before .before .before .before .before .before .before .before .before .before .before .before .before .before .before .before .before .before .before .before .before .before .before .before .before .before .before .before .before .before .before .pre in
-    let measure′ = c .before .before .before .before .before .before .before .before .before .before .before .before .before .before .before .before .before .before .before .before .before .before .before .measure in
-    let spend′ = c .before .before .before .before .before .before .before .before .before .before .before .before .before .before .before .before .before .before .spend in
-    let if1′ = c .before .before .before .before .before .before .before .before .before .before .before .before .before .before .before .if1 in
-    let once′ = c .before .before .before .before .before .before .before .before .before .before .before .before .once in
-    let turns2′ = c .before .before .before .before .before .before .before .before .turns2 in
-    rw (c .past .ensures, spend′ .ensures)
-    (repeat-passed (pre′ .1 .3) (pre′ .1 .1) (measure′ .ensures .1) (measure′ .ensures .0) (rw (spend′ .ensures) at (if1′ .left)) (rw (once′ .ensures) at (turns2′ .ensures)))
+    let pre′ = c .before .before .before .before .before .before .before .before .before .before .before .before .before .before .before .before .before .before .before .before .before .before .before .before .before .pre in
+    let if1′ = c .before .before .before .before .before .before .before .before .before .before .before .before .before .if1 in
+    let turns′ = c .before .before .before .before .before .before .before .before .turns in
+    shown-looped (pre′ .1 .3) (pre′ .1 .1) (if1′ .left) (turns′ .ensures)
 
 statement-slice-aggregate-head : (t : ℕ) → statement-lts.Need-slice-aggregate-head (statement-calls t) (statement-at t) statement′.Post
 statement-slice-aggregate-head t c = search needs
@@ -1029,249 +1161,221 @@ statements-loop-again t c =
     }
 
 abbrev turns-Inv-loop : turns-lts.InvT-loop
-turns-Inv-loop text c places lists tplaces book rows waves known signals n cycles table values₀ feeds₀ args₀ buffer₀ inner j₀ w₀ chosen₀ cursor₀ values feeds args buffer j w chosen cursor =
-    (j₀ ≤ j) × (j ≤ n)
-    × Repeats (ground text places lists tplaces book rows waves known signals) (stream text c) (inner .depth) (inner .level) (inner .turns) (n - j₀) cycles chosen₀ (arrays values₀ feeds₀ args₀) w₀ buffer₀
-    (j - j₀) chosen (arrays values feeds args) w buffer cursor
+turns-Inv-loop text c places lists tplaces book rows waves known signals n table values₀ feeds₀ args₀ buffer₀ inner i₀ w₀ chosen₀ cursor₀ values feeds args buffer i w chosen cursor =
+    (i ≤ n)
+    × Repeats (ground text places lists tplaces book rows waves known signals) (stream text c) (inner .depth) (inner .level) (inner .turns) n chosen₀ (arrays values₀ feeds₀ args₀) w₀ buffer₀
+    i chosen (arrays values feeds args) w buffer cursor
 
 abbrev turns-μ-loop : turns-lts.MeasureT-loop
-turns-μ-loop text c places lists tplaces book rows waves known signals n cycles table values₀ feeds₀ args₀ buffer₀ inner j₀ w₀ chosen₀ cursor₀ values feeds args buffer j w chosen cursor =
-    n - j
+turns-μ-loop text c places lists tplaces book rows waves known signals n table values₀ feeds₀ args₀ buffer₀ inner i₀ w₀ chosen₀ cursor₀ values feeds args buffer i w chosen cursor =
+    n - i
 
--- where the turns begin: with the first, or behind it
-turns-begun : (t : ℕ) (c : turns-lts.Joined1 (turns-calls t) (turns-at t) turns.Post turns-Inv-loop turns-μ-loop)
-    → let a = c .before .before .before .before .before .before .before .before .before .before .before .before .before .before .before .args in
-    Begun (ground (a .text .now) (a .places .now) (a .lists .now) (a .tplaces .now) (a .book .now) (a .rows .now) (a .waves .now) (a .known) (a .signals)) (stream (a .text .now) (a .c))
-    (a .frame .depth - 1) (a .frame .level) (a .table) (a .frame .turns) (a .n) (a .cycles) (arrays (a .values .now) (a .feeds .now) (a .args .now)) (a .walk)
-    (c .if1 .chosen) (arrays (c .if1 .values) (c .if1 .feeds) (c .if1 .args))
-turns-begun t c =
-    ⊎-elim
-    (λ w. rw (w .14, w .15, w .16, w .17) (begun-later (omega (arith, w .0 .taken)) (rw (w .3 .ensures) at (w .7 .ensures))))
-    (λ w. rw (w .1, w .2, w .3, w .4) (begun-first (omega (arith, w .0 .left))))
-    (c .if1 .came)
-
-turns-sub-past : (t : ℕ) → turns-lts.Need-sub-past (turns-calls t) (turns-at t) turns.Post turns-Inv-loop turns-μ-loop
-turns-sub-past t c =
+turns-sub-t30 : (t : ℕ) → turns-lts.Need-sub-t30 (turns-calls t) (turns-at t) turns.Post turns-Inv-loop turns-μ-loop
+turns-sub-t30 t c =
     let pre′ = c .before .before .before .before .before .before .before .before .before .before .before .before .pre in
     omega (arith, pre′ .1 .1)
 
-turns-div-j : (t : ℕ) → turns-lts.Need-div-j (turns-calls t) (turns-at t) turns.Post turns-Inv-loop turns-μ-loop
-turns-div-j t c =
-    let pre′ = c .before .before .before .before .before .before .before .before .before .before .before .before .before .pre in
-    omega (arith, some-in-turn (pre′ .1 .2 .turning))
-
-turns-mul-past : (t : ℕ) → turns-lts.Need-mul-past (turns-calls t) (turns-at t) turns.Post turns-Inv-loop turns-μ-loop
-turns-mul-past t c =
-    let args′ = c .before .before .before .before .before .before .before .before .before .before .before .before .before .args in
-    omega (arith, div-mul-le-self (args′ .walk .pass) (args′ .cycles))
-
-turns-past-requires : (t : ℕ) → turns-lts.Need-past-requires (turns-calls t) (turns-at t) turns.Post turns-Inv-loop turns-μ-loop
-turns-past-requires t c κs =
-    let args′ = c .before .before .before .before .before .before .before .before .before .before .before .before .before .args in
-    div-mul-le-self (args′ .walk .pass) (args′ .cycles)
-
-turns-slice-aggregate-turns : (t : ℕ) → turns-lts.Need-slice-aggregate-turns (turns-calls t) (turns-at t) turns.Post turns-Inv-loop turns-μ-loop
-turns-slice-aggregate-turns t c = search needs
-
-turns-slice-aggregate-turns-2 : (t : ℕ) → turns-lts.Need-slice-aggregate-turns-2 (turns-calls t) (turns-at t) turns.Post turns-Inv-loop turns-μ-loop
-turns-slice-aggregate-turns-2 t c = search needs
-
-turns-once-requires : (t : ℕ) → turns-lts.Need-once-requires (turns-calls t) (turns-at t) turns.Post turns-Inv-loop turns-μ-loop
-turns-once-requires t c κs = search needs
-
-turns-turns-requires : (t : ℕ) → turns-lts.Need-turns-requires (turns-calls t) (turns-at t) turns.Post turns-Inv-loop turns-μ-loop
-turns-turns-requires t c κs =
-    let pre′ = c .before .before .before .before .before .before .before .before .before .before .before .before .before .before .before .before .before .before .before .before .before .pre in
-    let once′ = c .before .before .before .once in
-    let stood = pre′ .1 .2 in
-    rw (once′ .ensures) (
-      pre′ .1 .0,
-      (omega (arith, turn-among (stood .turning))),
-      pre′ .1 .1,
-      record { env = stood .env; body = stood .body; rest = stood .rest; state = stood .state; standing = stood .turning .standing; sized = stood .sized },
-    )
-
 turns-loop-holds : (t : ℕ) → turns-lts.Need-loop-holds (turns-calls t) (turns-at t) turns.Post turns-Inv-loop turns-μ-loop
 turns-loop-holds t c =
-    let pre′ = c .before .before .before .before .before .before .before .before .before .before .before .before .before .before .before .pre in
-    let args′ = c .before .before .before .before .before .before .before .before .before .before .before .before .before .before .before .args in
-    let past′ = c .before .past in (
-      (omega arith),
-      (omega (arith, turn-among (pre′ .1 .2 .turning))),
-      repeats-begin (sub-self _) (rw (past′ .ensures) (going-past (pre′ .1 .2 .going) _ (div-mul-le-self (args′ .walk .pass) (args′ .cycles)))),
-    )
+    let pre′ = c .before .before .before .before .before .before .before .before .before .before .before .before .pre in
+    (omega arith, repeats-begin (pre′ .1 .2 .going))
+
+turns-slice-aggregate-keep : (t : ℕ) → turns-lts.Need-slice-aggregate-keep (turns-calls t) (turns-at t) turns.Post turns-Inv-loop turns-μ-loop
+turns-slice-aggregate-keep t c = search needs
+
+turns-keep-requires : (t : ℕ) → turns-lts.Need-keep-requires (turns-calls t) (turns-at t) turns.Post turns-Inv-loop turns-μ-loop
+turns-keep-requires t c κs =
+    let pre′ = c .before .before .before .before .before .before .before .before .before .before .before .before .before .before .before .before .pre in
+    let loop′ = c .before .before .before .loop in
+    let roomy = sized-kept (pre′ .1 .2 .sized) (loop′ .inv .1 .kept) .roomy in
+    (omega (arith, roomy .few, roomy .values-long), omega (arith, roomy .few))
 
 turns-statements-requires : (t : ℕ) → turns-lts.Need-statements-requires (turns-calls t) (turns-at t) turns.Post turns-Inv-loop turns-μ-loop
 turns-statements-requires t c κs =
-    let pre′ = c .before .before .before .before .before .before .before .before .before .before .before .before .before .before .before .before .before .before .before .before .before .pre in
-    let past′ = c .before .before .before .before .before .before .before .past in
-    let loop′ = c .before .before .before .before .before .loop in
-    let loop-test′ = c .before .before .before .before .loop-test in (
-      omega (arith, pre′ .0, pre′ .1 .1),
-      (pre′ .1 .0, turn-stood (pre′ .1 .2) (turns-begun t (c .before .before .before .before .before .before)) (loop′ .inv .0) (rw (past′ .ensures) at (loop′ .inv .2)) (loop-test′ .taken)),
-    )
+    let pre′ = c .before .before .before .before .before .before .before .before .before .before .before .before .before .before .before .before .before .before .before .before .before .before .pre in
+    let loop′ = c .before .before .before .before .before .before .before .before .before .loop in
+    let loop-test′ = c .before .before .before .before .before .before .before .before .loop-test in
+    (omega (arith, pre′ .0, pre′ .1 .1), (pre′ .1 .0, turn-stood (pre′ .1 .2) (loop′ .inv .1) (loop-test′ .taken)))
 
 turns-over-requires : (t : ℕ) → turns-lts.Need-over-requires (turns-calls t) (turns-at t) turns.Post turns-Inv-loop turns-μ-loop
 turns-over-requires t c κs = search needs
 
-turns-add-j : (t : ℕ) → turns-lts.Need-add-j (turns-calls t) (turns-at t) turns.Post turns-Inv-loop turns-μ-loop
-turns-add-j t c =
-    let pre′ = c .before .before .before .before .before .before .before .before .before .before .before .before .before .before .before .before .before .before .before .before .before .before .before .before .before .before .before .before .before .before .before .before .before .before .pre in
-    let loop-test′ = c .before .before .before .before .before .before .before .before .before .before .before .before .before .before .before .before .before .loop-test in
-    omega (arith, loop-test′ .taken, few-turns (pre′ .1 .2 .turning))
-
-turns-sub-if3 : (t : ℕ) → turns-lts.Need-sub-if3 (turns-calls t) (turns-at t) turns.Post turns-Inv-loop turns-μ-loop
-turns-sub-if3 t c =
-    let pre′ = c .before .before .before .before .before .before .before .before .before .before .before .before .before .before .before .before .before .before .before .before .before .before .before .before .before .before .before .before .before .before .before .before .before .before .before .pre in
-    let past′ = c .before .before .before .before .before .before .before .before .before .before .before .before .before .before .before .before .before .before .before .before .before .past in
-    let loop′ = c .before .before .before .before .before .before .before .before .before .before .before .before .before .before .before .before .before .before .before .loop in
-    let loop-test′ = c .before .before .before .before .before .before .before .before .before .before .before .before .before .before .before .before .before .before .loop-test in
-    let statements′ = c .before .before .before .before .before .before .before .before .before .before .before .before .before .statements in
-    omega (arith, turn-rows (pre′ .1 .2) (turns-begun t (c .before .before .before .before .before .before .before .before .before .before .before .before .before .before .before .before .before .before .before .before)) (loop′ .inv .0) (rw (past′ .ensures) at (loop′ .inv .2)) (loop-test′ .taken) (statements′ .ensures))
-
-turns-sub-again : (t : ℕ) → turns-lts.Need-sub-again (turns-calls t) (turns-at t) turns.Post turns-Inv-loop turns-μ-loop
-turns-sub-again t c =
-    let loop-test′ = c .before .before .before .before .before .before .before .before .before .before .before .before .before .before .before .before .before .before .before .loop-test in
+turns-add-i : (t : ℕ) → turns-lts.Need-add-i (turns-calls t) (turns-at t) turns.Post turns-Inv-loop turns-μ-loop
+turns-add-i t c =
+    let fits′ = c .before .before .before .before .before .before .before .before .before .before .before .before .before .before .before .before .before .before .before .before .before .before .before .before .before .before .before .before .before .before .before .before .before .before .before .fits in
+    let loop-test′ = c .before .before .before .before .before .before .before .before .before .before .before .before .before .before .before .before .before .before .before .before .before .loop-test in
+    let fits = fits′ in
     omega (arith, loop-test′ .taken)
 
-turns-again-requires : (t : ℕ) → turns-lts.Need-again-requires (turns-calls t) (turns-at t) turns.Post turns-Inv-loop turns-μ-loop
-turns-again-requires t c κs =
+turns-slice-aggregate-same-pins : (t : ℕ) → turns-lts.Need-slice-aggregate-same-pins (turns-calls t) (turns-at t) turns.Post turns-Inv-loop turns-μ-loop
+turns-slice-aggregate-same-pins t c = search needs
+
+turns-same-pins-requires : (t : ℕ) → turns-lts.Need-same-pins-requires (turns-calls t) (turns-at t) turns.Post turns-Inv-loop turns-μ-loop
+turns-same-pins-requires t c κs =
     let pre′ = c .before .before .before .before .before .before .before .before .before .before .before .before .before .before .before .before .before .before .before .before .before .before .before .before .before .before .before .before .before .before .before .before .before .before .before .before .before .pre in
-    let past′ = c .before .before .before .before .before .before .before .before .before .before .before .before .before .before .before .before .before .before .before .before .before .before .before .past in
-    let loop′ = c .before .before .before .before .before .before .before .before .before .before .before .before .before .before .before .before .before .before .before .before .before .loop in
-    let loop-test′ = c .before .before .before .before .before .before .before .before .before .before .before .before .before .before .before .before .before .before .before .before .loop-test in
-    let statements′ = c .before .before .before .before .before .before .before .before .before .before .before .before .before .before .before .statements in
-    let over′ = c .before .before .before .before .over in
-    copied-requires (pre′ .1 .2) (turns-begun t (c .before .before .before .before .before .before .before .before .before .before .before .before .before .before .before .before .before .before .before .before .before .before)) (loop′ .inv .0) (rw (past′ .ensures) at (loop′ .inv .2)) (loop-test′ .taken) (statements′ .ensures) (sym (over′ .ensures) ∙ c .before .before .before .if2 .left) (both-told _ (loop′ .j + 1) _ _ (c .before .if3 .taken) .1)
+    let loop′ = c .before .before .before .before .before .before .before .before .before .before .before .before .before .before .before .before .before .before .before .before .before .before .before .before .loop in
+    let statements′ = c .before .before .before .before .before .before .before .before .before .before .before .before .before .before .statements in
+    let keep′ = c .before .before .before .before .before .before .before .before .before .before .before .before .before .before .before .before .before .before .before .before .keep in
+    let roomy = sized-kept (pre′ .1 .2 .sized) (loop′ .inv .1 .kept) .roomy in
+    (omega (arith, roomy .few, roomy .values-long, statements′ .ensures .kept .values-long), omega (arith, roomy .few, keep′ .ensures .0))
+
+turns-sub-repeated : (t : ℕ) → turns-lts.Need-sub-repeated (turns-calls t) (turns-at t) turns.Post turns-Inv-loop turns-μ-loop
+turns-sub-repeated t c =
+    let loop-test′ = c .before .before .before .before .before .before .before .before .before .before .before .before .before .before .before .before .before .before .before .before .before .before .before .before .before .before .loop-test in
+    omega (arith, loop-test′ .taken)
+
+turns-repeated-requires : (t : ℕ) → turns-lts.Need-repeated-requires (turns-calls t) (turns-at t) turns.Post turns-Inv-loop turns-μ-loop
+turns-repeated-requires t c κs =
+    let loop′ = c .before .before .before .before .before .before .before .before .before .before .before .before .before .before .before .before .before .before .before .before .before .before .before .before .before .before .before .before .loop in
+    let statements′ = c .before .before .before .before .before .before .before .before .before .before .before .before .before .before .before .before .before .before .statements in
+    let if2′ = c .before .if2 in
+    let pre′ = c .before .before .before .before .before .before .before .before .before .before .before .before .before .before .before .before .before .before .before .before .before .before .before .before .before .before .before .before .before .before .before .before .before .before .before .before .before .before .before .before .before .pre in
+    let loop-test′ = c .before .before .before .before .before .before .before .before .before .before .before .before .before .before .before .before .before .before .before .before .before .before .before .before .before .before .before .loop-test in
+    let over′ = c .before .before .before .before .before .before .before .over in
+    let if1′ = c .before .before .before .before .before .before .if1 in
+    let told = all-told (loop′ .w .pass) (statements′ .result .table) (loop′ .chosen) _ (if2′ .taken) in
+    (turn-rows (pre′ .1 .2) (loop′ .inv .1) (loop-test′ .taken) (statements′ .ensures), turn-copiable (pre′ .1 .2) (loop′ .inv .1) (loop-test′ .taken) (statements′ .ensures) (sym (over′ .ensures) ∙ if1′ .left) (told .0))
 
 turns-loop-less : (t : ℕ) → turns-lts.Need-loop-less (turns-calls t) (turns-at t) turns.Post turns-Inv-loop turns-μ-loop
 turns-loop-less t c =
-    let loop-test′ = c .before .before .before .before .before .before .before .before .before .before .before .before .before .before .before .before .before .before .before .loop-test in
+    let loop-test′ = c .before .before .before .before .before .before .before .before .before .before .before .before .before .before .before .before .before .before .before .before .before .before .before .before .before .before .loop-test in
     omega (arith, loop-test′ .taken)
 
 turns-loop-again : (t : ℕ) → turns-lts.Need-loop-again (turns-calls t) (turns-at t) turns.Post turns-Inv-loop turns-μ-loop
 turns-loop-again t c =
-    let pre′ = c .before .before .before .before .before .before .before .before .before .before .before .before .before .before .before .before .before .before .before .before .before .before .before .before .before .before .before .before .before .before .before .before .before .before .before .before .pre in
-    let past′ = c .before .before .before .before .before .before .before .before .before .before .before .before .before .before .before .before .before .before .before .before .before .before .past in
-    let loop′ = c .before .before .before .before .before .before .before .before .before .before .before .before .before .before .before .before .before .before .before .before .loop in
-    let loop-test′ = c .before .before .before .before .before .before .before .before .before .before .before .before .before .before .before .before .before .before .before .loop-test in
-    let statements′ = c .before .before .before .before .before .before .before .before .before .before .before .before .before .before .statements in
-    let over′ = c .before .before .before .over in (
-      omega (arith, loop′ .inv .0),
-      omega (arith, loop-test′ .taken),
-      rw (past′ .ensures) (turned-once (pre′ .1 .2) (turns-begun t (c .before .before .before .before .before .before .before .before .before .before .before .before .before .before .before .before .before .before .before .before .before)) (loop′ .inv .0) (rw (past′ .ensures) at (loop′ .inv .2)) (loop-test′ .taken) (statements′ .ensures) (sym (over′ .ensures) ∙ c .before .before .if2 .left)),
-    )
+    let loop-test′ = c .before .before .before .before .before .before .before .before .before .before .before .before .before .before .before .before .before .before .before .before .before .before .before .before .before .before .loop-test in
+    let pre′ = c .before .before .before .before .before .before .before .before .before .before .before .before .before .before .before .before .before .before .before .before .before .before .before .before .before .before .before .before .before .before .before .before .before .before .before .before .before .before .before .before .pre in
+    let loop′ = c .before .before .before .before .before .before .before .before .before .before .before .before .before .before .before .before .before .before .before .before .before .before .before .before .before .before .before .loop in
+    let statements′ = c .before .before .before .before .before .before .before .before .before .before .before .before .before .before .before .before .before .statements in
+    let over′ = c .before .before .before .before .before .before .over in
+    let if1′ = c .before .before .before .before .before .if1 in
+    (omega (arith, loop-test′ .taken), turned-once (pre′ .1 .2) (loop′ .inv .1) (loop-test′ .taken) (statements′ .ensures) (sym (over′ .ensures) ∙ if1′ .left))
 
 turns-same-length : (t : ℕ) → turns-lts.Need-same-length (turns-calls t) (turns-at t) turns.Post turns-Inv-loop turns-μ-loop
 turns-same-length t c =
     let loop′ = c .before .loop in
-    loop′ .inv .2 .kept .values-long ∙ turns-begun t (c .before .before) .kept .values-long
+    loop′ .inv .1 .kept .values-long
 
 turns-same-length-2 : (t : ℕ) → turns-lts.Need-same-length-2 (turns-calls t) (turns-at t) turns.Post turns-Inv-loop turns-μ-loop
 turns-same-length-2 t c =
     let loop′ = c .before .loop in
-    loop′ .inv .2 .kept .feeds-long ∙ turns-begun t (c .before .before) .kept .feeds-long
+    loop′ .inv .1 .kept .feeds-long
 
 turns-same-length-3 : (t : ℕ) → turns-lts.Need-same-length-3 (turns-calls t) (turns-at t) turns.Post turns-Inv-loop turns-μ-loop
 turns-same-length-3 t c =
     let loop′ = c .before .loop in
-    loop′ .inv .2 .kept .args-long ∙ turns-begun t (c .before .before) .kept .args-long
+    loop′ .inv .1 .kept .args-long
 
 turns-same-length-4 : (t : ℕ) → turns-lts.Need-same-length-4 (turns-calls t) (turns-at t) turns.Post turns-Inv-loop turns-μ-loop
 turns-same-length-4 t c =
     let loop′ = c .before .loop in
-    loop′ .inv .2 .long
+    loop′ .inv .1 .long
 
 turns-returns : (t : ℕ) → turns-lts.Need-returns (turns-calls t) (turns-at t) turns.Post turns-Inv-loop turns-μ-loop
 turns-returns t c =
-    let pre′ = c .before .before .before .before .before .before .before .before .before .before .before .before .before .before .before .before .before .pre in
-    let past′ = c .before .before .before .past in
+    let pre′ = c .before .before .before .before .before .before .before .before .before .before .before .before .before .before .pre in
     let loop′ = c .before .loop in
-    turned-all (pre′ .1 .2) (turns-begun t (c .before .before)) (loop′ .inv .0) (rw (past′ .ensures) at (loop′ .inv .2)) (c .loop-test .left) (loop′ .inv .1)
+    let loop-test′ = c .loop-test in
+    turned-all (pre′ .1 .2) (loop′ .inv .1) (loop-test′ .left) (loop′ .inv .0)
 
 turns-same-length-5 : (t : ℕ) → turns-lts.Need-same-length-5 (turns-calls t) (turns-at t) turns.Post turns-Inv-loop turns-μ-loop
 turns-same-length-5 t c =
-    let loop′ = c .before .before .before .before .before .before .before .before .before .before .before .before .before .before .before .before .before .before .loop in
+    let pre′ = c .before .before .before .before .before .before .before .before .before .before .before .before .before .before .before .before .before .before .before .before .before .before .before .before .before .before .before .before .before .before .before .before .before .before .before .pre in
+    let loop′ = c .before .before .before .before .before .before .before .before .before .before .before .before .before .before .before .before .before .before .before .before .before .before .loop in
+    let loop-test′ = c .before .before .before .before .before .before .before .before .before .before .before .before .before .before .before .before .before .before .before .before .before .loop-test in
     let statements′ = c .before .before .before .before .before .before .before .before .before .before .before .before .statements in
-    statements′ .ensures .kept .values-long ∙ loop′ .inv .2 .kept .values-long ∙ turns-begun t (c .before .before .before .before .before .before .before .before .before .before .before .before .before .before .before .before .before .before .before) .kept .values-long
+    turn-kept (pre′ .1 .2) (loop′ .inv .1) (loop-test′ .taken) (statements′ .ensures) .values-long
 
 turns-same-length-6 : (t : ℕ) → turns-lts.Need-same-length-6 (turns-calls t) (turns-at t) turns.Post turns-Inv-loop turns-μ-loop
 turns-same-length-6 t c =
-    let loop′ = c .before .before .before .before .before .before .before .before .before .before .before .before .before .before .before .before .before .before .loop in
+    let pre′ = c .before .before .before .before .before .before .before .before .before .before .before .before .before .before .before .before .before .before .before .before .before .before .before .before .before .before .before .before .before .before .before .before .before .before .before .pre in
+    let loop′ = c .before .before .before .before .before .before .before .before .before .before .before .before .before .before .before .before .before .before .before .before .before .before .loop in
+    let loop-test′ = c .before .before .before .before .before .before .before .before .before .before .before .before .before .before .before .before .before .before .before .before .before .loop-test in
     let statements′ = c .before .before .before .before .before .before .before .before .before .before .before .before .statements in
-    statements′ .ensures .kept .feeds-long ∙ loop′ .inv .2 .kept .feeds-long ∙ turns-begun t (c .before .before .before .before .before .before .before .before .before .before .before .before .before .before .before .before .before .before .before) .kept .feeds-long
+    turn-kept (pre′ .1 .2) (loop′ .inv .1) (loop-test′ .taken) (statements′ .ensures) .feeds-long
 
 turns-same-length-7 : (t : ℕ) → turns-lts.Need-same-length-7 (turns-calls t) (turns-at t) turns.Post turns-Inv-loop turns-μ-loop
 turns-same-length-7 t c =
-    let loop′ = c .before .before .before .before .before .before .before .before .before .before .before .before .before .before .before .before .before .before .loop in
+    let pre′ = c .before .before .before .before .before .before .before .before .before .before .before .before .before .before .before .before .before .before .before .before .before .before .before .before .before .before .before .before .before .before .before .before .before .before .before .pre in
+    let loop′ = c .before .before .before .before .before .before .before .before .before .before .before .before .before .before .before .before .before .before .before .before .before .before .loop in
+    let loop-test′ = c .before .before .before .before .before .before .before .before .before .before .before .before .before .before .before .before .before .before .before .before .before .loop-test in
     let statements′ = c .before .before .before .before .before .before .before .before .before .before .before .before .statements in
-    statements′ .ensures .kept .args-long ∙ loop′ .inv .2 .kept .args-long ∙ turns-begun t (c .before .before .before .before .before .before .before .before .before .before .before .before .before .before .before .before .before .before .before) .kept .args-long
+    turn-kept (pre′ .1 .2) (loop′ .inv .1) (loop-test′ .taken) (statements′ .ensures) .args-long
 
 turns-same-length-8 : (t : ℕ) → turns-lts.Need-same-length-8 (turns-calls t) (turns-at t) turns.Post turns-Inv-loop turns-μ-loop
 turns-same-length-8 t c =
-    let pre′ = c .before .before .before .before .before .before .before .before .before .before .before .before .before .before .before .before .before .before .before .before .before .before .before .before .before .before .before .before .before .before .before .before .before .before .pre in
-    let past′ = c .before .before .before .before .before .before .before .before .before .before .before .before .before .before .before .before .before .before .before .before .past in
-    let loop′ = c .before .before .before .before .before .before .before .before .before .before .before .before .before .before .before .before .before .before .loop in
-    let loop-test′ = c .before .before .before .before .before .before .before .before .before .before .before .before .before .before .before .before .before .loop-test in
+    let pre′ = c .before .before .before .before .before .before .before .before .before .before .before .before .before .before .before .before .before .before .before .before .before .before .before .before .before .before .before .before .before .before .before .before .before .before .before .pre in
+    let loop′ = c .before .before .before .before .before .before .before .before .before .before .before .before .before .before .before .before .before .before .before .before .before .before .loop in
+    let loop-test′ = c .before .before .before .before .before .before .before .before .before .before .before .before .before .before .before .before .before .before .before .before .before .loop-test in
     let statements′ = c .before .before .before .before .before .before .before .before .before .before .before .before .statements in
-    turn-long (pre′ .1 .2) (turns-begun t (c .before .before .before .before .before .before .before .before .before .before .before .before .before .before .before .before .before .before .before)) (loop′ .inv .0) (rw (past′ .ensures) at (loop′ .inv .2)) (loop-test′ .taken) (statements′ .ensures)
+    turn-long (pre′ .1 .2) (loop′ .inv .1) (loop-test′ .taken) (statements′ .ensures)
 
 turns-returns-2 : (t : ℕ) → turns-lts.Need-returns-2 (turns-calls t) (turns-at t) turns.Post turns-Inv-loop turns-μ-loop
 turns-returns-2 t c =
-    let pre′ = c .before .before .before .before .before .before .before .before .before .before .before .before .before .before .before .before .before .before .before .before .before .before .before .before .before .before .before .before .before .before .before .before .before .before .pre in
-    let past′ = c .before .before .before .before .before .before .before .before .before .before .before .before .before .before .before .before .before .before .before .before .past in
-    let loop′ = c .before .before .before .before .before .before .before .before .before .before .before .before .before .before .before .before .before .before .loop in
-    let loop-test′ = c .before .before .before .before .before .before .before .before .before .before .before .before .before .before .before .before .before .loop-test in
+    let pre′ = c .before .before .before .before .before .before .before .before .before .before .before .before .before .before .before .before .before .before .before .before .before .before .before .before .before .before .before .before .before .before .before .before .before .before .before .pre in
+    let loop′ = c .before .before .before .before .before .before .before .before .before .before .before .before .before .before .before .before .before .before .before .before .before .before .loop in
+    let loop-test′ = c .before .before .before .before .before .before .before .before .before .before .before .before .before .before .before .before .before .before .before .before .before .loop-test in
     let statements′ = c .before .before .before .before .before .before .before .before .before .before .before .before .statements in
     let over′ = c .before .over in
-    turned-over (pre′ .1 .2) (turns-begun t (c .before .before .before .before .before .before .before .before .before .before .before .before .before .before .before .before .before .before .before)) (loop′ .inv .0) (rw (past′ .ensures) at (loop′ .inv .2)) (loop-test′ .taken) (statements′ .ensures) (sym (over′ .ensures) ∙ c .if2 .taken)
+    let if1′ = c .if1 in
+    turned-over (pre′ .1 .2) (loop′ .inv .1) (loop-test′ .taken) (statements′ .ensures) (sym (over′ .ensures) ∙ if1′ .taken)
 
 turns-same-length-9 : (t : ℕ) → turns-lts.Need-same-length-9 (turns-calls t) (turns-at t) turns.Post turns-Inv-loop turns-μ-loop
 turns-same-length-9 t c =
-    let loop′ = c .before .before .before .before .before .before .before .before .before .before .before .before .before .before .before .before .before .before .before .before .before .before .before .before .loop in
-    let statements′ = c .before .before .before .before .before .before .before .before .before .before .before .before .before .before .before .before .before .before .statements in
-    statements′ .ensures .kept .values-long ∙ loop′ .inv .2 .kept .values-long ∙ turns-begun t (c .before .before .before .before .before .before .before .before .before .before .before .before .before .before .before .before .before .before .before .before .before .before .before .before .before) .kept .values-long
+    let pre′ = c .before .before .before .before .before .before .before .before .before .before .before .before .before .before .before .before .before .before .before .before .before .before .before .before .before .before .before .before .before .before .before .before .before .before .before .before .before .before .before .before .before .before .before .before .pre in
+    let loop′ = c .before .before .before .before .before .before .before .before .before .before .before .before .before .before .before .before .before .before .before .before .before .before .before .before .before .before .before .before .before .before .before .loop in
+    let loop-test′ = c .before .before .before .before .before .before .before .before .before .before .before .before .before .before .before .before .before .before .before .before .before .before .before .before .before .before .before .before .before .before .loop-test in
+    let statements′ = c .before .before .before .before .before .before .before .before .before .before .before .before .before .before .before .before .before .before .before .before .before .statements in
+    turn-kept (pre′ .1 .2) (loop′ .inv .1) (loop-test′ .taken) (statements′ .ensures) .values-long
 
 turns-same-length-10 : (t : ℕ) → turns-lts.Need-same-length-10 (turns-calls t) (turns-at t) turns.Post turns-Inv-loop turns-μ-loop
 turns-same-length-10 t c =
-    let loop′ = c .before .before .before .before .before .before .before .before .before .before .before .before .before .before .before .before .before .before .before .before .before .before .before .before .loop in
-    let statements′ = c .before .before .before .before .before .before .before .before .before .before .before .before .before .before .before .before .before .before .statements in
-    statements′ .ensures .kept .feeds-long ∙ loop′ .inv .2 .kept .feeds-long ∙ turns-begun t (c .before .before .before .before .before .before .before .before .before .before .before .before .before .before .before .before .before .before .before .before .before .before .before .before .before) .kept .feeds-long
+    let pre′ = c .before .before .before .before .before .before .before .before .before .before .before .before .before .before .before .before .before .before .before .before .before .before .before .before .before .before .before .before .before .before .before .before .before .before .before .before .before .before .before .before .before .before .before .before .pre in
+    let loop′ = c .before .before .before .before .before .before .before .before .before .before .before .before .before .before .before .before .before .before .before .before .before .before .before .before .before .before .before .before .before .before .before .loop in
+    let loop-test′ = c .before .before .before .before .before .before .before .before .before .before .before .before .before .before .before .before .before .before .before .before .before .before .before .before .before .before .before .before .before .before .loop-test in
+    let statements′ = c .before .before .before .before .before .before .before .before .before .before .before .before .before .before .before .before .before .before .before .before .before .statements in
+    turn-kept (pre′ .1 .2) (loop′ .inv .1) (loop-test′ .taken) (statements′ .ensures) .feeds-long
 
 turns-same-length-11 : (t : ℕ) → turns-lts.Need-same-length-11 (turns-calls t) (turns-at t) turns.Post turns-Inv-loop turns-μ-loop
 turns-same-length-11 t c =
-    let loop′ = c .before .before .before .before .before .before .before .before .before .before .before .before .before .before .before .before .before .before .before .before .before .before .before .before .loop in
-    let statements′ = c .before .before .before .before .before .before .before .before .before .before .before .before .before .before .before .before .before .before .statements in
-    statements′ .ensures .kept .args-long ∙ loop′ .inv .2 .kept .args-long ∙ turns-begun t (c .before .before .before .before .before .before .before .before .before .before .before .before .before .before .before .before .before .before .before .before .before .before .before .before .before) .kept .args-long
+    let pre′ = c .before .before .before .before .before .before .before .before .before .before .before .before .before .before .before .before .before .before .before .before .before .before .before .before .before .before .before .before .before .before .before .before .before .before .before .before .before .before .before .before .before .before .before .before .pre in
+    let loop′ = c .before .before .before .before .before .before .before .before .before .before .before .before .before .before .before .before .before .before .before .before .before .before .before .before .before .before .before .before .before .before .before .loop in
+    let loop-test′ = c .before .before .before .before .before .before .before .before .before .before .before .before .before .before .before .before .before .before .before .before .before .before .before .before .before .before .before .before .before .before .loop-test in
+    let statements′ = c .before .before .before .before .before .before .before .before .before .before .before .before .before .before .before .before .before .before .before .before .before .statements in
+    turn-kept (pre′ .1 .2) (loop′ .inv .1) (loop-test′ .taken) (statements′ .ensures) .args-long
 
 turns-same-length-12 : (t : ℕ) → turns-lts.Need-same-length-12 (turns-calls t) (turns-at t) turns.Post turns-Inv-loop turns-μ-loop
 turns-same-length-12 t c =
-    let pre′ = c .before .before .before .before .before .before .before .before .before .before .before .before .before .before .before .before .before .before .before .before .before .before .before .before .before .before .before .before .before .before .before .before .before .before .before .before .before .before .before .before .pre in
-    let past′ = c .before .before .before .before .before .before .before .before .before .before .before .before .before .before .before .before .before .before .before .before .before .before .before .before .before .before .past in
-    let loop′ = c .before .before .before .before .before .before .before .before .before .before .before .before .before .before .before .before .before .before .before .before .before .before .before .before .loop in
-    let loop-test′ = c .before .before .before .before .before .before .before .before .before .before .before .before .before .before .before .before .before .before .before .before .before .before .before .loop-test in
-    let statements′ = c .before .before .before .before .before .before .before .before .before .before .before .before .before .before .before .before .before .before .statements in
-    let again′ = c .before .before .again in
-    again′ .ensures .long ∙ turn-long (pre′ .1 .2) (turns-begun t (c .before .before .before .before .before .before .before .before .before .before .before .before .before .before .before .before .before .before .before .before .before .before .before .before .before)) (loop′ .inv .0) (rw (past′ .ensures) at (loop′ .inv .2)) (loop-test′ .taken) (statements′ .ensures)
+    let repeated′ = c .before .before .repeated in
+    let pre′ = c .before .before .before .before .before .before .before .before .before .before .before .before .before .before .before .before .before .before .before .before .before .before .before .before .before .before .before .before .before .before .before .before .before .before .before .before .before .before .before .before .before .before .before .before .pre in
+    let loop′ = c .before .before .before .before .before .before .before .before .before .before .before .before .before .before .before .before .before .before .before .before .before .before .before .before .before .before .before .before .before .before .before .loop in
+    let loop-test′ = c .before .before .before .before .before .before .before .before .before .before .before .before .before .before .before .before .before .before .before .before .before .before .before .before .before .before .before .before .before .before .loop-test in
+    let statements′ = c .before .before .before .before .before .before .before .before .before .before .before .before .before .before .before .before .before .before .before .before .before .statements in
+    repeated′ .ensures .long ∙ turn-long (pre′ .1 .2) (loop′ .inv .1) (loop-test′ .taken) (statements′ .ensures)
 
 turns-returns-3 : (t : ℕ) → turns-lts.Need-returns-3 (turns-calls t) (turns-at t) turns.Post turns-Inv-loop turns-μ-loop
 turns-returns-3 t c =
-    let pre′ = c .before .before .before .before .before .before .before .before .before .before .before .before .before .before .before .before .before .before .before .before .before .before .before .before .before .before .before .before .before .before .before .before .before .before .before .before .before .before .before .before .pre in
-    let past′ = c .before .before .before .before .before .before .before .before .before .before .before .before .before .before .before .before .before .before .before .before .before .before .before .before .before .before .past in
-    let loop′ = c .before .before .before .before .before .before .before .before .before .before .before .before .before .before .before .before .before .before .before .before .before .before .before .before .loop in
-    let loop-test′ = c .before .before .before .before .before .before .before .before .before .before .before .before .before .before .before .before .before .before .before .before .before .before .before .loop-test in
-    let statements′ = c .before .before .before .before .before .before .before .before .before .before .before .before .before .before .before .before .before .before .statements in
-    let over′ = c .before .before .before .before .before .before .before .over in
-    let again′ = c .before .before .again in
-    let test = both-told _ (loop′ .j + 1) _ _ (c .before .before .before .before .if3 .taken) in
-    turned-copied (pre′ .1 .2) (turns-begun t (c .before .before .before .before .before .before .before .before .before .before .before .before .before .before .before .before .before .before .before .before .before .before .before .before .before)) (loop′ .inv .0) (rw (past′ .ensures) at (loop′ .inv .2)) (loop-test′ .taken) (statements′ .ensures) (sym (over′ .ensures) ∙ c .before .before .before .before .before .before .if2 .left) (test .1) (omega (arith, test .0)) (again′ .ensures)
+    let pre′ = c .before .before .before .before .before .before .before .before .before .before .before .before .before .before .before .before .before .before .before .before .before .before .before .before .before .before .before .before .before .before .before .before .before .before .before .before .before .before .before .before .before .before .before .before .pre in
+    let loop′ = c .before .before .before .before .before .before .before .before .before .before .before .before .before .before .before .before .before .before .before .before .before .before .before .before .before .before .before .before .before .before .before .loop in
+    let statements′ = c .before .before .before .before .before .before .before .before .before .before .before .before .before .before .before .before .before .before .before .before .before .statements in
+    let if2′ = c .before .before .before .before .if2 in
+    let loop-test′ = c .before .before .before .before .before .before .before .before .before .before .before .before .before .before .before .before .before .before .before .before .before .before .before .before .before .before .before .before .before .before .loop-test in
+    let over′ = c .before .before .before .before .before .before .before .before .before .before .over in
+    let if1′ = c .before .before .before .before .before .before .before .before .before .if1 in
+    let keep′ = c .before .before .before .before .before .before .before .before .before .before .before .before .before .before .before .before .before .before .before .before .before .before .before .before .before .before .before .keep in
+    let same-pins′ = c .before .before .before .before .before .before .same-pins in
+    let repeated′ = c .before .before .repeated in
+    let roomy = sized-kept (pre′ .1 .2 .sized) (loop′ .inv .1 .kept) .roomy in
+    let told = all-told (loop′ .w .pass) (statements′ .result .table) (loop′ .chosen) _ (if2′ .taken) in
+    turned-copied (pre′ .1 .2) (loop′ .inv .1) (loop-test′ .taken) (statements′ .ensures) (sym (over′ .ensures) ∙ if1′ .left) (told .0) (omega (arith, roomy .few, keep′ .ensures .0)) (same-pins′ .ensures (told .2)) (keep′ .ensures .1) (told .1) (repeated′ .ensures)
 
-pub +body-of+enter+into+repeat+statement+statements+turns-spec : {M : Type 1} → statement M
-+body-of+enter+into+repeat+statement+statements+turns-spec =
+pub +body-of+enter+into+reach+repeat+statement+statements+turns-spec : {M : Type 1} → statement M
++body-of+enter+into+reach+repeat+statement+statements+turns-spec =
     close
     μ-body-of
     μ-enter
     μ-into
+    μ-reach
     μ-repeat
     μ-statement
     μ-statements
@@ -1333,28 +1437,51 @@ pub +body-of+enter+into+repeat+statement+statements+turns-spec : {M : Type 1} �
     (into-same-length-7 t)
     (into-same-length-8 t)
     (into-returns-2 t))
+    (λ t. reach-lts.spec (reach-calls t)
+    (reach-at t)
+    reach.Post
+    (reach-sub-measure t)
+    (reach-measure-requires t)
+    (reach-add-spend t)
+    (reach-spend-requires t)
+    (reach-mul-all t)
+    (reach-slice-aggregate-turns t)
+    (reach-slice-aggregate-turns-2 t)
+    (reach-once-requires t)
+    (reach-turns-requires t)
+    (reach-past-requires t)
+    (reach-same-length t)
+    (reach-same-length-2 t)
+    (reach-same-length-3 t)
+    (reach-returns t)
+    (reach-div-j t)
+    (reach-mul-past t)
+    (reach-past-requires-2 t)
+    (reach-slice-aggregate-turns-3 t)
+    (reach-slice-aggregate-turns-4 t)
+    (reach-once-requires-2 t)
+    (reach-turns-requires-2 t)
+    (reach-sub-turns t)
+    (reach-turns-requires-3 t)
+    (reach-same-length-4 t)
+    (reach-same-length-5 t)
+    (reach-same-length-6 t)
+    (reach-same-length-7 t)
+    (reach-returns-2 t))
     (λ t. repeat-lts.spec (repeat-calls t)
     (repeat-at t)
     repeat.Post
-    (repeat-sub-measure t)
-    (repeat-measure-requires t)
-    (repeat-add-spend t)
-    (repeat-spend-requires t)
-    (repeat-mul-all t)
-    (repeat-turns-requires t)
+    (repeat-reach-requires t)
     (repeat-same-length t)
     (repeat-same-length-2 t)
     (repeat-same-length-3 t)
     (repeat-same-length-4 t)
     (repeat-returns t)
-    (repeat-slice-aggregate-turns t)
-    (repeat-slice-aggregate-turns-2 t)
-    (repeat-once-requires t)
-    (repeat-turns-requires-2 t)
-    (repeat-past-requires t)
+    (repeat-turns-requires t)
     (repeat-same-length-5 t)
     (repeat-same-length-6 t)
     (repeat-same-length-7 t)
+    (repeat-same-length-8 t)
     (repeat-returns-2 t))
     (λ t. statement-lts.spec (statement-calls t)
     (statement-at t)
@@ -1434,21 +1561,17 @@ pub +body-of+enter+into+repeat+statement+statements+turns-spec : {M : Type 1} �
     turns.Post
     turns-Inv-loop
     turns-μ-loop
-    (turns-sub-past t)
-    (turns-div-j t)
-    (turns-mul-past t)
-    (turns-past-requires t)
-    (turns-slice-aggregate-turns t)
-    (turns-slice-aggregate-turns-2 t)
-    (turns-once-requires t)
-    (turns-turns-requires t)
+    (turns-sub-t30 t)
     (turns-loop-holds t)
+    (turns-slice-aggregate-keep t)
+    (turns-keep-requires t)
     (turns-statements-requires t)
     (turns-over-requires t)
-    (turns-add-j t)
-    (turns-sub-if3 t)
-    (turns-sub-again t)
-    (turns-again-requires t)
+    (turns-add-i t)
+    (turns-slice-aggregate-same-pins t)
+    (turns-same-pins-requires t)
+    (turns-sub-repeated t)
+    (turns-repeated-requires t)
     (turns-loop-less t)
     (turns-loop-again t)
     (turns-same-length t)
