@@ -1,0 +1,5 @@
+pub mod Filling
+pub mod Behind
+mod Stepping
+mod Going
+pub mod Whole
