@@ -37,7 +37,7 @@ unfolding orElse
 or-or none y z = refl
 or-or (some x) y z = refl
 
-find-append : (xs ys : List (Tok × ℕ)) (w : List ℕ) → find (xs ++ ys) w ≡ orElse (find xs w) (find ys w)
+pub find-append : (xs ys : List (Tok × ℕ)) (w : List ℕ) → find (xs ++ ys) w ≡ orElse (find xs w) (find ys w)
 unfolding find orElse
 find-append [] ys w = refl
 find-append (x ∷ xs) ys w = by (same (x .0 .word) w) (find-append xs ys w)

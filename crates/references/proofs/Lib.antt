@@ -3,3 +3,5 @@ pub mod Behind
 mod Stepping
 mod Going
 pub mod Whole
+pub mod Parted
+pub mod Labelled
