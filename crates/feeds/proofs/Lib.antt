@@ -1,6 +1,6 @@
 pub mod Pieces
 mod Spans
-mod Ahead
+pub mod Ahead
 mod Passing
 pub mod Worded
 pub mod Front

@@ -1,6 +1,6 @@
 pub mod Laws
 pub mod Chains
-mod Scanning
+pub mod Scanning
 mod Samples
 pub mod Joining
 pub mod Numbers
