@@ -1,25 +1,26 @@
 -- The loop over the signals of a V or a C: what each one shows, and what is left of its argument, is what the definition's assignments leave.
-use Prim.Native.Nat.{ℕ, _+_, _≤_, _<_}
+use Prim.Native.Nat.{ℕ, zero, suc, _+_, _-_, _≤_, _<_, min}
 use native.Mathlib.Omega.{arith}
 use mathlib.Core.Path.{_≡_, refl, sym, ap, _∙_, subst}
 use mathlib.Core.Bool.{Bool, true, false}
 use mathlib.Core.List.{List}
 use lib.Dec.{ltb, eqb}
-use lib.ListN.{length, getD, take, set, length-take}
-use lib.Seq.{getD-take, ext-getD}
-use borrow.Author.Tests.{ltb-true, ltb-false, eq-eqb, ne-eqb}
+use lib.ListN.{length, getD, take, drop, set, length-take}
+use lib.Seq.{getD-take, getD-drop, ext-getD}
+use borrow.Author.Tests.{ltb-true, ltb-false, eq-eqb, ne-eqb, eqb-true}
 use Rattle.meaning.specs.Bounds.{signalsMost}
 use Rattle.meaning.specs.Lists.{has}
 use Rattle.meaning.specs.Body.{Assigns, mark, argOf, supplied}
 use Rattle.meaning.specs.Data.{assigned}
 use Rattle.meaning.specs.Run.{State, puts}
+use Rattle.words.specs.Packed.{ZerosFrom}
 use Rattle.assigns.specs.Given.{charOf}
 use Rattle.feeds.specs.declared.Feed.{Feed}
 use Rattle.feeds.specs.declared.Fed.{Fed}
 use Rattle.feeds.specs.Feeds.{Feeds, Takes}
 use Rattle.measures.specs.Uses.{Given}
 use Rattle.arguments.proofs.Lists.{inside-each}
-use Rattle.pins.specs.Shown.{feedAt, Fills, Shows, Roomy, Playable, Others}
+use Rattle.pins.specs.Shown.{feedAt, Fills, Shows, Roomy, Playable, Others, eight, Idle}
 use Rattle.pins.proofs.Turns.{Done, done-none, done-next, done-same, Refilled, refilled-none, refilled-next, refilled-same}
 use Rattle.pins.proofs.Puts.{shown, left, puts-table, puts-long, puts-supplied, puts-pin, puts-arg, arg-unmoved, char-marked}
 
@@ -69,6 +70,26 @@ module _ {text given values feeds : List ℕ} {level k : ℕ} {values′ feeds�
     -- none
     pub put-kept : (getD given k 0 ≡ mark → ⊥) → getD given k 0 ≡ 0 → Put text given values feeds level (k + 1) values′ feeds′
     put-kept m z = record { shows = done-same (x .shows) (λ cs f. rw z); leaves = refilled-same (x .leaves) below (unfed m) }
+
+-- ---- eight that are given nothing
+
+pub idle-told : {given : List ℕ} {s n : ℕ} → ZerosFrom (take (s + eight - s) (drop s given)) n → eqb n 0 ≡ true → Idle given s eight
+idle-told {given} {s} {n} x e = record {
+  none = λ k l. sym (getD-take (s + eight - s) (drop s given) k 0 (omega arith) ∙ getD-drop s given k 0) ∙ x .none k (omega (arith, eqb-true n 0 e));
+}
+
+module _ {text given values feeds : List ℕ} {level k : ℕ} {values′ feeds′ : List ℕ} (x : Put text given values feeds level k values′ feeds′) (i : Idle given k eight) where
+  passed : (d : ℕ) → d ≤ eight → k + d ≤ signalsMost → Put text given values feeds level (k + d) values′ feeds′
+  passed zero h l = let e : k ≡ k + 0 = omega arith in subst (λ (n : ℕ). Put text given values feeds level n values′ feeds′) e x
+  passed (suc d) h l =
+      let z = i .none d (omega arith) in
+      let e : k + d + 1 ≡ k + suc d = omega arith in
+      subst (λ (n : ℕ). Put text given values feeds level n values′ feeds′) e (put-kept (passed d (omega arith) (omega arith)) (omega arith) (λ m. absurd (omega (arith, m, z))) z)
+
+  pub put-idle : {signals r : ℕ} → k < signals → signals ≤ signalsMost → r ≡ min (k + eight) signals → Put text given values feeds level r values′ feeds′
+  put-idle {signals} {r} h l e =
+      let q : k + (r - k) ≡ r = omega arith in
+      subst (λ (n : ℕ). Put text given values feeds level n values′ feeds′) q (passed (r - k) (omega arith) (omega arith))
 
 -- ---- all of them
 

@@ -78,6 +78,14 @@ pub record Others (level : ℕ) (values values′ feeds feeds′ : List ℕ) : T
   pub values-long : length values′ ≡ length values
   pub feeds-long : length feeds′ ≡ length feeds
 
+-- so many signals are looked at together
+abbrev pub eight : ℕ
+eight = 8
+
+-- n signals from s on are given nothing
+pub record Idle (given : List ℕ) (s n : ℕ) : Type 0 where
+  pub none : (k : ℕ) → k < n → getD given (s + k) 0 ≡ 0
+
 -- a V at p, played once
 abbrev pub vector : ℕ → Assigns → State → Played
 vector p a s = (puts a s, cycleAt p (puts a s) ∷ [])

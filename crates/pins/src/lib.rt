@@ -2,7 +2,7 @@
 ghost use mathlib.Core.Path.{_≡_};
 ghost use mathlib.Core.Bool.{true, not, _||_};
 ghost use mathlib.Core.List.{List};
-ghost use Prim.Native.Nat.{ℕ, _+_, _*_, _≤_, _<_};
+ghost use Prim.Native.Nat.{ℕ, _+_, _*_, _≤_, _<_, min};
 ghost use lib.ListN.{length, getD};
 ghost use lib.Dec.{eqb};
 ghost use Rattle.meaning.specs.Bounds.{signalsMost, tablesMost};
@@ -14,7 +14,7 @@ ghost use Rattle.timing.specs.Marks.{tableSize};
 ghost use Rattle.timing.specs.Held.{Held};
 ghost use Rattle.measures.specs.Uses.{Given};
 ghost use Rattle.arguments.specs.Supplied.{Supplied};
-ghost use Rattle.pins.specs.Shown.{Shows, Roomy, Playable, Others, Feeding, Fills, Told, Skips, HasMark, Having, Ahead, Advances, Leaves, Returns, vector, feedAt, valuesLength, feedsLength, levels};
+ghost use Rattle.pins.specs.Shown.{Shows, Roomy, Playable, Others, Idle, eight, Feeding, Fills, Told, Skips, HasMark, Having, Ahead, Advances, Leaves, Returns, vector, feedAt, valuesLength, feedsLength, levels};
 use feeds::Feed;
 
 const MARK: u8 = 35;
@@ -22,6 +22,8 @@ const MARK: u8 = 35;
 const TABLES: usize = 8;
 
 const CHARS: usize = 128;
+
+const EIGHT: usize = 8;
 
 // Rows of values: the pins in force, and one for each level.
 pub const LEVELS: usize = 9;
@@ -76,6 +78,24 @@ pub fn supply(given: &[u8], args: &[usize], feeds: &mut [usize], level: usize)
 
 // ---- assignments
 
+fn least(a: usize, b: usize) -> usize
+    ensures { λ r. ⌜ r ≡ min a b ⌝ }
+{
+    if a < b { a } else { b }
+}
+
+// Are the eight signals from s on given nothing? Asked at every eighth.
+fn idle(given: &[u8], s: usize) -> bool
+    requires { ⌜ (length (now given) ≡ signalsMost) × (s < signalsMost) ⌝ }
+    ensures { λ r. ⌜ (r ≡ true → Idle (now (given .entry)) s eight) ⌝ }
+{
+    if s % EIGHT != 0 {
+        return false;
+    }
+    let end = s + EIGHT;
+    words::zeros_from(&given[s..end]) == 0
+}
+
 // Each signal is given its character, or the next of its argument.
 pub fn put(
     text: &[u8],
@@ -90,15 +110,19 @@ pub fn put(
 {
     let mut s = 0;
     while s < signals {
-        let b = given[s];
-        if b == MARK {
-            let x = feeds::next(text, feed_at(feeds, level, s));
-            values[s] = x.char;
-            put_feed(feeds, level, s, x.feed);
-        } else if b != 0 {
-            values[s] = b;
+        if idle(given, s) {
+            s = least(s + EIGHT, signals);
+        } else {
+            let b = given[s];
+            if b == MARK {
+                let x = feeds::next(text, feed_at(feeds, level, s));
+                values[s] = x.char;
+                put_feed(feeds, level, s, x.feed);
+            } else if b != 0 {
+                values[s] = b;
+            }
+            s += 1;
         }
-        s += 1;
     }
 }
 
