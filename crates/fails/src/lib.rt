@@ -1,0 +1,1 @@
+// The service for fail reports, as definitions (specs/, proofs/); no code yet.
