@@ -11,7 +11,7 @@ use Rattle.tokens.specs.Written.{same}
 use Rattle.tokens.specs.Tokens.{Tok, Toks}
 use Rattle.meaning.specs.Refusals.{usedName}
 use Rattle.meaning.specs.Reader.{Res, ok, refuse}
-use Rattle.labels.specs.Labels.{taken, usedBy, repeated, earlier}
+use Rattle.meaning.specs.Labels.{taken, usedBy, repeated, earlier}
 
 pub never : {A : Type 0} → false ≡ true → A
 never e = let z : _≡_ {A = ℕ} 0 1 = cc in absurd (omega arith)

@@ -1,6 +1,5 @@
 pub mod Laws
 pub mod Chains
 mod Scanning
-mod Samples
 pub mod Joining
 pub mod Numbers
