@@ -133,7 +133,7 @@ pub const EDGES: bool = cfg!(feature = "edges");
 /// Whether it reads hex data.
 pub const HEX: bool = cfg!(feature = "hex");
 
-/// Whether it has X names and answers fail reports.
+/// Whether it answers fail reports.
 pub const REPORTS: bool = cfg!(feature = "reports");
 
 pub const FEATURES: [(&str, bool); 9] = [

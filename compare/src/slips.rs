@@ -19,7 +19,7 @@ use crate::texts::short;
 use second::generate::random::Random;
 use second::generate::{crossing, flat, hexed, hurt, marked, nested, text};
 use second::refusal::Answer;
-use second::requests::{EDGES, HEX, REPORTS};
+use second::requests::{EDGES, HEX};
 use second::timing::Asked;
 use second::tokens::check_bytes;
 use second::{token, Located, Refusal};
@@ -267,8 +267,7 @@ slips! {
     HexCharsTwice,
 }
 
-/// X names are read where the second reader's feature says so: without them nothing shows these.
-/// As those of events across the edge need theirs.
+/// Events across the edge are read where the second reader's feature says so: without them nothing shows these.
 const WITH_EDGES: [Slip; 11] = [
     Slip::EdgesUnchecked,
     Slip::EdgesTwoTurns,
@@ -292,7 +291,6 @@ const WITH_HEX: [Slip; 7] = [
     Slip::HexCharsEight,
     Slip::HexCharsTwice,
 ];
-const WITH_MARKS: [Slip; 3] = [Slip::ReportMarkAtBegin, Slip::ReportMarkOneLess, Slip::ReportMarkInLastTurn];
 
 struct Slipping<'t> {
     second: Second<'t>,
@@ -536,7 +534,7 @@ fn found(slip: Slip) -> bool {
 #[test]
 fn each_slip_is_found() {
     assert!(!found(Slip::None));
-    let unread = [(REPORTS, &WITH_MARKS[..]), (EDGES, &WITH_EDGES), (HEX, &WITH_HEX)];
+    let unread = [(EDGES, &WITH_EDGES[..]), (HEX, &WITH_HEX)];
     let shows = |slip: &&Slip| unread.iter().all(|(read, slips)| *read || !slips.contains(slip));
     let missed: Vec<&Slip> = ALL.iter().filter(shows).filter(|&&slip| !found(slip)).collect();
     assert!(missed.is_empty(), "{missed:?}");

@@ -1,7 +1,6 @@
 //! What a name is, and one name space.
 
 use crate::bounds::{MAX_GROUPS, MAX_NAME, MAX_SIGNALS};
-use crate::requests::REPORTS;
 use crate::tokens::Token;
 
 /// Twice the names of the largest name space that has a bound, and more: a power of two.
@@ -17,10 +16,10 @@ pub fn is_name(word: &[u8]) -> bool {
 
 #[rustfmt::skip]
 fn is_reserved(word: &[u8]) -> bool {
-    REPORTS && word == b"X" || matches!(word,
+    matches!(word,
         b"STIL" | b"Signals" | b"SignalGroups" | b"Timing" | b"WaveformTable" | b"Period" | b"Waveforms"
         | b"Procedures" | b"MacroDefs" | b"PatternBurst" | b"PatList" | b"PatternExec" | b"Pattern"
-        | b"In" | b"Out" | b"InOut" | b"V" | b"W" | b"C" | b"Call" | b"Macro" | b"Loop" | b"Shift")
+        | b"In" | b"Out" | b"InOut" | b"V" | b"W" | b"C" | b"Call" | b"Macro" | b"Loop" | b"Shift" | b"X")
 }
 
 /// Names numbered in the order they were declared, found by a small hash table.

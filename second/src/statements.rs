@@ -9,7 +9,6 @@ use crate::numbers::decimal;
 use crate::pinset::PinSet;
 use crate::reader::Reader;
 use crate::refusal::*;
-use crate::requests::REPORTS;
 use crate::signals::{List, Pins};
 use crate::timing::Timing;
 use crate::tokens::Token;
@@ -174,7 +173,7 @@ impl BodyReader<'_, '_> {
             b"W" => self.table(),
             b"Loop" => self.repeat(level),
             b"Macro" | b"Call" => self.body_use(level),
-            b"X" if REPORTS => self.mark(),
+            b"X" => self.mark(),
             b"Shift" if self.takes_arguments && level == 0 && !self.has_shift => self.shift(),
             _ => Err(self.reader.refuse(TOKEN_NOT_ALLOWED)),
         }

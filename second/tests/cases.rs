@@ -375,8 +375,6 @@ fn blocks_in_order() {
 const STATEMENTS: &[Case] = &[
     ("pattern", "", Ok5([3, 2, 1, 0, 1])),
     ("pattern", "«; ", No(4)),
-    #[cfg(not(feature = "reports"))]
-    ("pattern", "«X x;", No(4)),
     ("pattern", "«lab: V { }", No(4)),
     ("pattern", "«Stop;", No(4)),
     ("pattern", "«Goto x;", No(4)),

@@ -1,5 +1,4 @@
 //! Fail reports and X names (request 9): what each is refused for, where offsets count from, and generated ones against a plain player.
-#![cfg(feature = "reports")]
 
 mod common;
 use common::{build, judge_all, unmark, Due, No, Ok5, SAMPLE};

@@ -7,7 +7,7 @@ use lib.Dec.{leb}
 use borrow.Author.Tests.{leb-false}
 use Rattle.meaning.specs.Signals.{Names}
 use Rattle.meaning.specs.Body.{Kind}
-use Rattle.meaning.specs.Statements.{Decls, Env, Head, ends, vecs, sets, loops, shifts, uses, used, chosen, looping, shiftHead, head}
+use Rattle.meaning.specs.Statements.{Decls, Env, Head, ends, vecs, sets, loops, shifts, uses, used, chosen, looping, shiftHead, labelHead, head}
 use Rattle.meaning.proofs.Gives.{Gives, gives-bind, gives-after, gives-give, gives-if, gives-choose}
 use Rattle.meaning.proofs.Choices.{_also_}
 
@@ -32,7 +32,7 @@ module _ (own : Bool) (d : ℕ) where
       gives-after (Allowed own d) _ _ λ v. gives-give (Allowed own d) _ tt
 
   pub allowed-head : (e : Env) (seen : Bool) → Gives (Allowed own d) (head e own d seen)
-  unfolding head chosen looping shiftHead
+  unfolding head chosen looping shiftHead labelHead
   allowed-head e seen = gives-choose A _ (
       (λ p. gives-after A _ _ λ a. gives-give A _ tt)
       also (λ p. gives-after A _ _ λ a. gives-give A _ tt)
@@ -40,6 +40,7 @@ module _ (own : Bool) (d : ℕ) where
       also (λ p. gives-bind (λ u. leb d 0 ≡ false) A _ _ (gives-if _ _ _) λ u h. gives-after A _ _ λ n. gives-after A _ _ λ q. gives-give A _ (leb-false d 0 h))
       also (λ p. allowed-used _ (e .names) (e .macros))
       also (λ p. allowed-used _ (e .names) (e .procs))
+      also (λ p. gives-after A _ _ λ u. gives-after A _ _ λ t. gives-after A _ _ λ q. gives-give A _ tt)
       also (λ p. gives-bind (λ u. not (own && not seen) ≡ false) A _ _ (gives-if _ _ _) λ u h. gives-after A _ _ λ v. gives-after A _ _ λ q. gives-give A _ (own-shift own seen h))
       also (λ p. gives-give A _ tt)
       also tt)

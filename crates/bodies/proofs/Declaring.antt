@@ -49,8 +49,8 @@ abbrev declsOf : Env → Bool → Decls
 declsOf e macros = cond macros (e .macros) (e .procs)
 
 abbrev withDecls : Env → Bool → Decls → Env
-withDecls e true ds = record { names = e .names; tables = e .tables; macros = ds; procs = e .procs }
-withDecls e false ds = record { names = e .names; tables = e .tables; macros = e .macros; procs = ds }
+withDecls e true ds = record { names = e .names; tables = e .tables; macros = ds; procs = e .procs; pattern = e .pattern }
+withDecls e false ds = record { names = e .names; tables = e .tables; macros = e .macros; procs = ds; pattern = e .pattern }
 
 length-more : {A : Type 0} (l : List A) (x : A) {n : ℕ} → length l ≡ n → length (l ++ x ∷ []) ≡ n + 1
 length-more l x q = length-append l (x ∷ []) ∙ ap (λ (k : ℕ). k + 1) q
@@ -75,6 +75,7 @@ module _ {text places lists tplaces book rows : List ℕ} {known : Known} {e : E
         macros-counted = length-more (e .macros) x (s .macros-counted);
         procs-counted = s .procs-counted;
         few-bodies = omega arith;
+        pattern-is = s .pattern-is;
         macros-are = listed-more 0 (known .macros) (e .macros) (s .macros-counted) (s .macros-are) u;
         procs-are = s .procs-are;
       }
@@ -89,6 +90,7 @@ module _ {text places lists tplaces book rows : List ℕ} {known : Known} {e : E
         macros-counted = s .macros-counted;
         procs-counted = length-more (e .procs) x (s .procs-counted);
         few-bodies = omega arith;
+        pattern-is = s .pattern-is;
         macros-are = s .macros-are;
         procs-are = listed-more firstProcedure (known .procs) (e .procs) (s .procs-counted) (s .procs-are) u;
       }

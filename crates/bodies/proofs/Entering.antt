@@ -7,7 +7,7 @@ use Rattle.tokens.specs.Tokens.{Tok}
 use Rattle.meaning.specs.Names.{oldName}
 use Rattle.meaning.specs.Signals.{Names}
 use Rattle.meaning.specs.Body.{Kind, macro, procedure}
-use Rattle.meaning.specs.Statements.{Decl, Decls, Env, Head, ends, vecs, sets, loops, shifts, uses, used, chosen, looping, shiftHead, head}
+use Rattle.meaning.specs.Statements.{Decl, Decls, Env, Head, ends, vecs, sets, loops, shifts, uses, used, chosen, looping, shiftHead, labelHead, head}
 use Rattle.meaning.proofs.Gives.{Gives, gives-bind, gives-after, gives-give, gives-choose}
 use Rattle.meaning.proofs.Choices.{_also_}
 use Rattle.signals.proofs.Tidy.{gives-known}
@@ -50,7 +50,7 @@ module _ (tables : ℕ) (marks : List ℕ) where
       gives-after UsesNoted _ _ λ a. gives-after UsesNoted _ _ λ v. gives-give UsesNoted _ n
 
   pub noted-head : (e : Env) (own : Bool) (d : ℕ) (seen : Bool) → Knows tables marks e → Gives UsesNoted (head e own d seen)
-  unfolding head chosen looping shiftHead
+  unfolding head chosen looping shiftHead labelHead
   noted-head e own d seen h = gives-choose UsesNoted _ (
       (λ p. gives-after UsesNoted _ _ λ a. gives-give UsesNoted _ tt)
       also (λ p. gives-after UsesNoted _ _ λ a. gives-give UsesNoted _ tt)
@@ -58,6 +58,7 @@ module _ (tables : ℕ) (marks : List ℕ) where
       also (λ p. gives-after UsesNoted _ _ λ u. gives-after UsesNoted _ _ λ n. gives-after UsesNoted _ _ λ q. gives-give UsesNoted _ tt)
       also (λ p. noted-used _ d (e .names) (e .macros) (h .macros))
       also (λ p. noted-used _ d (e .names) (e .procs) (h .procs))
+      also (λ p. gives-after UsesNoted _ _ λ u. gives-after UsesNoted _ _ λ t. gives-after UsesNoted _ _ λ q. gives-give UsesNoted _ tt)
       also (λ p. gives-after UsesNoted _ _ λ u. gives-after UsesNoted _ _ λ v. gives-after UsesNoted _ _ λ q. gives-give UsesNoted _ tt)
       also (λ p. gives-give UsesNoted _ tt)
       also tt)

@@ -20,8 +20,8 @@ wordOf false = "Procedures"
 
 -- how many are declared with one more of them
 abbrev pub oneMore : Known → Bool → Known
-oneMore known true = record { names = known .names; tables = known .tables; macros = known .macros + 1; procs = known .procs }
-oneMore known false = record { names = known .names; tables = known .tables; macros = known .macros; procs = known .procs + 1 }
+oneMore known true = record { names = known .names; tables = known .tables; macros = known .macros + 1; procs = known .procs; pattern = known .pattern }
+oneMore known false = record { names = known .names; tables = known .tables; macros = known .macros; procs = known .procs + 1; pattern = known .pattern }
 
 -- one body of it; its word and `{`, and then k; all of it
 unfoldable pub oneOf : Bool → Env → Reader Env

@@ -353,6 +353,7 @@ fn one_more(known: Known, macros: bool) -> Known
             tables: known.tables,
             macros: known.macros + 1,
             procs: known.procs,
+            pattern: known.pattern,
         };
     }
     Known {
@@ -360,6 +361,7 @@ fn one_more(known: Known, macros: bool) -> Known
         tables: known.tables,
         macros: known.macros,
         procs: known.procs + 1,
+        pattern: known.pattern,
     }
 }
 

@@ -11,7 +11,7 @@ use Rattle.meaning.specs.Reader.{Res, ok, _>>=_, option, ahead}
 use Rattle.meaning.specs.Signals.{Names, signals}
 use Rattle.meaning.specs.Timing.{Table, timing}
 use Rattle.meaning.specs.Groups.{groups}
-use Rattle.meaning.specs.Statements.{Env}
+use Rattle.meaning.specs.Statements.{Env, forPatterns}
 use Rattle.meaning.specs.Document.{macroDefs, procedures, bodies, patterns, Read, document, documentUpTo}
 use Rattle.meaning.proofs.Gives.{bind-go}
 use Rattle.held.proofs.Parts.{firstEnv}
@@ -25,6 +25,7 @@ use Rattle.folded.proofs.SignalsBack.{Directed, singles, NewSignal, rea
 use Rattle.folded.proofs.TimingBack.{tablesIn, NewSheet, reads-timing}
 use Rattle.folded.proofs.BurstBack.{NewListed, reads-burst, reads-exec}
 use Rattle.folded.proofs.PatternsBack.{Named, bodied, bodiesOf, NewPattern, reads-patterns}
+use Rattle.folded.proofs.LabelsBack.{reads-once, fresh-all}
 
 -- a flat text that a reader takes
 pub record GoodFlat (f : Flat) : Type 0 where
@@ -97,6 +98,7 @@ reads-document f g =
     reads-bind (reads-no-bodies (firstEnv ss tabs) (words (behindTiming f)) (none .0) (none .1)) λ e e-is.
     reads-bind (reads-burst (namesFrom 0 (length (f .patterns))) (execPut (behindExec f)) (g .listed)) λ b j.
     reads-bind (reads-exec (b .0) (behindExec f) (j .0)) λ q v.
-    reads-bind (reads-some-patterns (namesOf (f .signals)) (sheetNames (f .tables)) (singles 0 (f .signals)) (tablesIn (f .tables)) e (rw e-is s) (rw e-is t) (b .0) (j .0)
-    (namedFrom 0 (orOne (f .patterns))) (g .patterns)) λ ps i.
+    reads-bind (reads-once (b .0 .word) (fresh-all (namesOf (f .signals)) (sheetNames (f .tables)) (singles 0 (f .signals)) (tablesIn (f .tables)) (b .0 .word) (j .0) (namedFrom 0 (orOne (f .patterns))) (g .patterns))
+    (reads-some-patterns (namesOf (f .signals)) (sheetNames (f .tables)) (singles 0 (f .signals)) (tablesIn (f .tables)) (forPatterns e) (rw e-is s) (rw e-is t) (b .0) (j .0)
+    (namedFrom 0 (orOne (f .patterns))) (g .patterns))) λ ps i.
     reads-give [] _ (record { signals = s; tables = t; listed = j .1; patterns = i }))

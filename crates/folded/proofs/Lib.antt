@@ -7,6 +7,7 @@ pub mod TimingBack
 pub mod BurstBack
 pub mod StatementsBack
 pub mod PatternsBack
+mod LabelsBack
 pub mod DocumentBack
 pub mod Sources
 pub mod SourceTiming

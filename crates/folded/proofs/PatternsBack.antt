@@ -64,7 +64,7 @@ unfoldable pub bodiesOf : List Named → List (List ℕ × Body)
 bodiesOf [] = []
 bodiesOf (x ∷ xs) = (x .0, bodyOf (x .1)) ∷ bodiesOf xs
 
-bodiesOf-more : (xs : List Named) (x : Named) → bodiesOf (xs ++ x ∷ []) ≡ bodiesOf xs ++ (x .0, bodyOf (x .1)) ∷ []
+pub bodiesOf-more : (xs : List Named) (x : Named) → bodiesOf (xs ++ x ∷ []) ≡ bodiesOf xs ++ (x .0, bodyOf (x .1)) ∷ []
 unfolding bodiesOf
 bodiesOf-more [] x = refl
 bodiesOf-more (y ∷ xs) x = rw (bodiesOf-more xs x)

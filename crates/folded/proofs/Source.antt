@@ -9,6 +9,7 @@ use Rattle.meaning.specs.Reader.{ok, give}
 use Rattle.meaning.specs.Signals.{signals}
 use Rattle.meaning.specs.Groups.{groups}
 use Rattle.meaning.specs.Body.{listed, entered, Body, inner}
+use Rattle.meaning.specs.Statements.{Env}
 use Rattle.meaning.specs.Document.{Read}
 use Rattle.meaning.specs.Run.{Cycle, entering, follow, playing, play, shiftOf, start, cyclesOf}
 use Rattle.meaning.specs.Meaning.{given, firstFailing, firsts, Meaning, meaning}
@@ -29,7 +30,7 @@ use Rattle.folded.proofs.Reading.{SomeFit}
 use Rattle.folded.proofs.SignalsBack.{NewSignal}
 use Rattle.folded.proofs.Sources.{SignalFits, signals-fit, signals-good}
 use Rattle.folded.proofs.SourceTiming.{TableFits, timing-fit}
-use Rattle.folded.proofs.SourceRows.{Chosen, bodies-chosen, patterns-chosen, low-cycles}
+use Rattle.folded.proofs.SourceRows.{Chosen, Choosing, bodies-chosen, patterns-chosen, low-cycles}
 use Rattle.folded.specs.Shapes.{concat}
 use Rattle.folded.proofs.Stretches.{All}
 use Rattle.folded.proofs.PlayBack.{cyclesFor}
@@ -97,8 +98,9 @@ module _ (text : List ℕ) (d : Read) (us : Toks) (p : Parts (toks text 0) d us)
 
   patterns-of : Every (Chosen (length (d .tables))) (d .patterns)
   patterns-of =
-      let e = bodies-chosen (length (d .tables)) (p .names) (d .tables) refl (p .bodies-at) .all (p .env) (p .burst-at) (p .bodies-read) in
-      patterns-chosen (length (d .tables)) (p .env) (p .burst-at) e (p .burst-name) (p .patterns-at) .all (d .patterns) us (p .patterns-read)
+      let e = bodies-chosen (length (d .tables)) (p .names) (d .tables) refl (p .bodies-at) .all (p .bodied) (p .burst-at) (p .bodies-read) in
+      let f = subst (λ (E : Env). Choosing (length (d .tables)) E (p .burst-at)) (sym (p .env-is)) (record { tables = e .tables; macros = e .macros; procs = e .procs }) in
+      patterns-chosen (length (d .tables)) (p .env) (p .burst-at) f (p .burst-name) (p .patterns-at) .all (d .patterns) us (p .patterns-read)
 
 -- THE LAW
 pub source : (text : List ℕ) (m : Meaning) → meaning text ≡ given m → Source text m

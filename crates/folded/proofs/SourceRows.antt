@@ -14,7 +14,7 @@ use Rattle.meaning.specs.Names.{find, oldName}
 use Rattle.meaning.specs.Signals.{Names}
 use Rattle.meaning.specs.Timing.{Tables}
 use Rattle.meaning.specs.Body.{Assigns, Args, mark, Setting, assigning, choosing, Kind, macro, procedure, listed, Way, looped, shifted, entered, Body, done, vec, set′, inner}
-use Rattle.meaning.specs.Statements.{Decl, Decls, Env, numbered, Head, ends, vecs, sets, loops, shifts, uses, used, chosen, looping, shiftHead, head, statements}
+use Rattle.meaning.specs.Statements.{Decl, Decls, Env, numbered, Head, ends, vecs, sets, loops, shifts, uses, used, chosen, looping, shiftHead, labelHead, head, statements}
 use Rattle.meaning.specs.Document.{oneMacro, oneProcedure, bodies, pattern, patterns}
 use Rattle.meaning.specs.Run.{State, Cycle, Played, shiftOf, put, puts, changed, cycleAt, follow, again, entering, playing, play, start, cyclesOf}
 use Rattle.meaning.proofs.Gives.{known-ok, Gives, gives-bind, gives-after, gives-give, gives-choose}
@@ -76,7 +76,7 @@ module _ (n : ℕ) where
 
   module _ (e : Env) (tabs : length (e .tables) ≡ n) (ms : Every (Chosen n) (e .macros)) (ps : Every (Chosen n) (e .procs)) where
     chosen-head : (own : Bool) (d : ℕ) (seen : Bool) → Gives (Heads n) (head e own d seen)
-    unfolding head looping shiftHead
+    unfolding head looping shiftHead labelHead
     chosen-head own d seen = gives-choose H _ (
         (λ p. gives-after H _ _ λ a. gives-give H _ tt)
         also (λ p. gives-after H _ _ λ a. gives-give H _ tt)
@@ -84,6 +84,7 @@ module _ (n : ℕ) where
         also (λ p. gives-after H _ _ λ u. gives-after H _ _ λ k. gives-after H _ _ λ q. gives-give H _ tt)
         also (λ p. chosen-used macro d (e .names) (e .macros) ms)
         also (λ p. chosen-used procedure d (e .names) (e .procs) ps)
+        also (λ p. gives-after H _ _ λ u. gives-after H _ _ λ t. gives-after H _ _ λ q. gives-give H _ tt)
         also (λ p. gives-after H _ _ λ u. gives-after H _ _ λ v. gives-after H _ _ λ q. gives-give H _ tt)
         also (λ p. gives-give H _ tt)
         also tt)

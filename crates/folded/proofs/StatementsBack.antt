@@ -158,8 +158,8 @@ module _ (signals tables : List (List ℕ)) (names : List (List ℕ × List ℕ)
       unfolding head choose bytes same
       reads-end ws =
           reads-bind (reads-any (bytes "}") _) λ t q.
-          reads-next _ _ t (rw q) (reads-next _ _ t (rw q) (reads-next _ _ t (rw q) (reads-next _ _ t (rw q) (reads-next _ _ t (rw q) (reads-next _ _ t (rw q) (reads-next _ _ t (rw q)
-          (reads-this _ _ t (rw q) (reads-give _ _ refl))))))))
+          reads-next _ _ t (rw q) (reads-next _ _ t (rw q) (reads-next _ _ t (rw q) (reads-next _ _ t (rw q) (reads-next _ _ t (rw q) (reads-next _ _ t (rw q) (reads-next _ _ t (rw q) (reads-next _ _ t (rw q)
+          (reads-this _ _ t (rw q) (reads-give _ _ refl)))))))))
 
     reads-loop : (d : ℕ) (seen : Bool) (n : ℕ) (ws : List (List ℕ)) → 1 ≤ n → n ≤ loopMost
         → Reads (head e false (suc d) seen) (bytes "Loop" ∷ decimal n ∷ bytes "{" ∷ ws) ws (λ h. h ≡ loops n)

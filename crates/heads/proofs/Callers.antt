@@ -29,6 +29,7 @@ module _ {text places lists tplaces book rows : List ℕ} {known : Known} {e : E
         macros-counted = h .macros-counted;
         procs-counted = h .procs-counted;
         few-bodies = h .few-bodies;
+        pattern-is = h .pattern-is;
         macros-are = listed-map _ _ 0 (e .macros) (λ j x p q u. macros j x (omega (arith, h .macros-counted)) u) (h .macros-are);
         procs-are = listed-map _ _ firstProcedure (e .procs) (λ j x p q u. procs j x p (omega (arith, h .procs-counted)) u) (h .procs-are);
       }

@@ -3,13 +3,13 @@ use Prim.Native.Nat.{ℕ}
 use native.Mathlib.Omega.{arith}
 use mathlib.Core.Path.{_≡_, refl, sym, _∙_}
 use mathlib.Core.Bool.{Bool, true, false, cond, not, _&&_, _||_}
-use mathlib.Core.List.{List}
+use mathlib.Core.List.{List, _∷_}
 use Rattle.tokens.specs.Tokens.{Tok}
 use Rattle.tokens.specs.Written.{bytes, same}
 use Rattle.meaning.specs.Reader.{_>>=_, give, any, oneOf}
 use Rattle.meaning.specs.Body.{Assigns, assigning, Kind, macro, procedure}
 use Rattle.meaning.specs.Data.{assigns}
-use Rattle.meaning.specs.Statements.{Decls, Env, Head, vecs, sets, used, chosen, looping, head}
+use Rattle.meaning.specs.Statements.{Decls, Env, Head, vecs, sets, used, chosen, looping, labelHead, head}
 use Rattle.words.specs.Cursor.{ahead, Goes}
 use Rattle.words.specs.declared.Cursor.{Cursor}
 use Rattle.words.proofs.Flow.{given as no-more}
@@ -30,7 +30,7 @@ use Rattle.heads.proofs.ByNumber.{of-part}
 
 module _ {text places lists tplaces book rows : List ℕ} {known : Known} {e : Env} (h : Describes text places lists tplaces book rows known e) (d : ℕ)
     {c r : Cursor} {P : Head → Type 0} where
-  -- ---- Macro and Call, and then Shift and `}`
+  -- ---- Macro, Call and X, and then Shift and `}`
 
   module _ (may : Bool) (t : Tok) where
     pub body-read : {x y : Bool} {part : Part} → x ≡ same (t .word) (bytes "Macro") → y ≡ same (t .word) (bytes "Call") → (x || y) ≡ true
@@ -46,10 +46,18 @@ module _ {text places lists tplaces book rows : List ℕ} {known : Known} {e : E
         by false false p q or m = let z : _≡_ {A = ℕ} 0 1 = cc in absurd (omega arith)
 
     pub no-body-read : {x y : Bool} → x ≡ same (t .word) (bytes "Macro") → y ≡ same (t .word) (bytes "Call") → (x || y) ≡ false
-        → Makes text c (oneOf (lastHeads may d) t) r P → Makes text c (oneOf (others e may d) t) r P
+        → Makes text c (oneOf (("X", labelHead (e .pattern)) ∷ lastHeads may d) t) r P → Makes text c (oneOf (others e may d) t) r P
     no-body-read {x} {y} p q or m =
         let n = or-false x y or in
         other-word "Macro" _ _ t (sym p ∙ n .0) (other-word "Call" _ _ t (sym q ∙ n .1) m)
+
+    pub named-read : {x : Bool} → x ≡ same (t .word) (bytes "X") → x ≡ true → Makes text c (labelHead (known .pattern) (t .at)) r P
+        → Makes text c (oneOf (("X", labelHead (e .pattern)) ∷ lastHeads may d) t) r P
+    named-read p o m = this-word "X" _ _ t (sym p ∙ o) (rw (h .pattern-is) m)
+
+    pub unnamed-read : {x : Bool} → x ≡ same (t .word) (bytes "X") → x ≡ false → Makes text c (oneOf (lastHeads may d) t) r P
+        → Makes text c (oneOf (("X", labelHead (e .pattern)) ∷ lastHeads may d) t) r P
+    unnamed-read p o m = other-word "X" _ _ t (sym p ∙ o) m
 
 -- ---- V, C, W, Loop, and then those
 

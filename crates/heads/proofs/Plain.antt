@@ -1,4 +1,4 @@
--- Heads that no body is looked up for: `W NAME;`, `Loop N {` and `Shift {`.
+-- Heads that no body is looked up for: `W NAME;`, `Loop N {`, `X NAME;` and `Shift {`.
 use Prim.Native.Nat.{ℕ, zero, suc, _≤_, _<_}
 use native.Mathlib.Omega.{arith}
 use mathlib.Core.Path.{_≡_, refl, sym, _∙_, subst}
@@ -13,10 +13,12 @@ use Rattle.meaning.specs.Bounds.{loopMost}
 use Rattle.meaning.specs.Refusals.{tooDeep}
 use Rattle.meaning.specs.Meaning.{firsts}
 use Rattle.meaning.specs.Reader.{Res, ok, refuse, due}
-use Rattle.meaning.specs.Names.{oldName, within, numberIn}
-use Rattle.meaning.specs.Body.{choosing}
+use Rattle.meaning.specs.Names.{name, oldName, within, numberIn}
+use Rattle.meaning.specs.Lists.{has, repeats}
+use Rattle.meaning.specs.Data.{assigned}
+use Rattle.meaning.specs.Body.{Assigns, assigning, choosing}
 use Rattle.meaning.specs.Timing.{Tables}
-use Rattle.meaning.specs.Statements.{sets, loops, shifts, numbered, chosen, looping, shiftHead}
+use Rattle.meaning.specs.Statements.{sets, loops, shifts, numbered, chosen, looping, shiftHead, labelHead}
 use Rattle.meaning.proofs.Gives.{Gives, gives-after}
 use Rattle.words.specs.Cursor.{ahead, Goes, Checked}
 use Rattle.words.specs.Table.{namesFrom, names}
@@ -26,6 +28,8 @@ use Rattle.signals.proofs.Tidy.{gave}
 use Rattle.signals.proofs.Tables.{old-below}
 use Rattle.timing.specs.Makes.{Makes}
 use Rattle.timing.proofs.Making.{made, makes-then}
+use Rattle.assigns.specs.Given.{chars, Gave}
+use Rattle.measures.specs.Uses.{Given}
 
 -- ---- W
 
@@ -86,3 +90,21 @@ module _ {text : List ℕ} {c a r : Cursor} (d : ℕ) {p q : ℕ} where
   unfolding shiftHead
   shift-read may here deep brace =
       makes-then _ (checked here refl refl) (makes-then _ (checked deep (none-left d) refl) (makes-then _ brace (made no-more (λ live. refl))))
+
+-- ---- X
+
+-- nothing is assigned
+given-none : {given : List ℕ} → Gave [] given → Given [] given
+unfolding assigned repeats has chars
+given-none g = record {
+  gave = g;
+  once = refl;
+  below = λ s h. (let z : _≡_ {A = ℕ} 0 1 = cc in absurd (omega arith));
+  written = λ c h. (let z : _≡_ {A = ℕ} 0 1 = cc in absurd (omega arith));
+}
+
+pub label-read : {text : List ℕ} {c a b r : Cursor} {p q : ℕ} {t : Tok} {given : List ℕ} (may : Bool) → Checked c (not may) notHere p a → Goes text a name b t → Goes text b (due ";") r q
+    → Gave [] given → Makes text c (labelHead may p) r (λ h. (x : Assigns) × (h ≡ sets (assigning x)) × Given x given)
+unfolding labelHead
+label-read may here named end g =
+    makes-then _ (checked here refl refl) (makes-then _ named (makes-then _ end (made no-more (λ live. ([], refl, given-none g)))))

@@ -10,7 +10,7 @@ use Rattle.tokens.specs.Tokens.{Tok}
 use Rattle.meaning.specs.Bounds.{loopMost}
 use Rattle.meaning.specs.Body.{Assigns, Args, assigning, choosing, Kind, macro, procedure}
 use Rattle.meaning.specs.Reader.{Reader, give}
-use Rattle.meaning.specs.Statements.{Decl, Decls, Env, Head, ends, vecs, sets, loops, shifts, uses, used, shiftHead}
+use Rattle.meaning.specs.Statements.{Decl, Decls, Env, Head, ends, vecs, sets, loops, shifts, uses, used, shiftHead, labelHead}
 use Rattle.measures.specs.Uses.{Given}
 use Rattle.measures.specs.Book.{firstProcedure, bodies, Listed, Used}
 use Rattle.arguments.specs.Supplied.{Supplied}
@@ -59,7 +59,7 @@ abbrev pub partOf : Known → Bool → Part
 partOf known true = record { first = 0; count = known .macros }
 partOf known false = record { first = firstProcedure; count = known .procs }
 
--- the heads behind those of V, C, W, Loop, Macro and Call
+-- the heads behind those of V, C, W, Loop, Macro, Call and X
 abbrev pub lastHeads : Bool → ℕ → List (String × (ℕ → Reader Head))
 lastHeads may d = ("Shift", shiftHead may d) ∷ ("}", λ p. give ends) ∷ []
 
@@ -68,4 +68,5 @@ abbrev pub others : Env → Bool → ℕ → List (String × (ℕ → Reader Hea
 others e may d =
     ("Macro", λ p. used macro d (e .names) (e .macros))
     ∷ ("Call", λ p. used procedure d (e .names) (e .procs))
+    ∷ ("X", labelHead (e .pattern))
     ∷ lastHeads may d

@@ -23,6 +23,7 @@ pub record Describes (text places lists tplaces book rows : List ℕ) (known : K
   pub macros-counted : length (e .macros) ≡ known .macros
   pub procs-counted : length (e .procs) ≡ known .procs
   pub few-bodies : known .macros + known .procs ≤ bodiesMost
+  pub pattern-is : e .pattern ≡ known .pattern
   pub macros-are : Listed (Used text book rows) 0 (e .macros)
   pub procs-are : Listed (Used text book rows) firstProcedure (e .procs)
 

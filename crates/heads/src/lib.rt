@@ -8,7 +8,7 @@ ghost use Rattle.meaning.specs.Meaning.{firsts};
 ghost use Rattle.meaning.specs.Reader.{oneOf};
 ghost use Rattle.meaning.specs.Timing.{Tables};
 ghost use Rattle.meaning.specs.Body.{Kind};
-ghost use Rattle.meaning.specs.Statements.{Env, Decls, head as headDue, used as usedDue, chosen as chosenDue, looping as loopingDue, shiftHead as shiftDue};
+ghost use Rattle.meaning.specs.Statements.{Env, Decls, head as headDue, used as usedDue, chosen as chosenDue, looping as loopingDue, shiftHead as shiftDue, labelHead as labelDue};
 ghost use Rattle.words.specs.Table.{names as namesIn};
 ghost use Rattle.signals.specs.Names.{namesOf};
 ghost use Rattle.timing.specs.Makes.{Makes};
@@ -30,12 +30,13 @@ const TOO_DEEP: u8 = 14;
 // The most turns of a Loop.
 const LOOP_MOST: u32 = 16_777_215;
 
-// How many names, tables, macros and procedures are declared.
+// How many names, tables, macros and procedures are declared; and do the statements stand in a pattern?
 pub struct Known {
     pub names: usize,
     pub tables: usize,
     pub macros: usize,
     pub procs: usize,
+    pub pattern: bool,
 }
 
 // Where the bodies of one kind stand in the book: the number of the first, and how many there are.
@@ -50,7 +51,7 @@ pub enum What {
     Ends,
     // `V { .. }`, at its place
     Vector(usize),
-    // `C { .. }`
+    // `C { .. }`, or `X NAME;`, which assigns nothing
     Assigns,
     // `W NAME;`, by the table's number
     Chooses(usize),
@@ -104,6 +105,19 @@ fn shifting(text: &[u8], c: Cursor, may: bool, d: usize, p: usize) -> Headed
     Headed {
         cursor,
         what: What::Shifts,
+    }
+}
+
+// `X` is read, at p: NAME;
+fn labelling(text: &[u8], c: Cursor, may: bool, p: usize) -> Headed
+    ensures { λ r. ⌜ ((tables : ℕ) (book rows given args : List ℕ) → Gave [] given → Makes (now (text .entry)) c (labelDue may p) (r .cursor) (Tells (now (text .entry)) book rows given args tables (r .what))) ⌝ }
+{
+    let a = words::refuse_if(c, !may, NOT_HERE, p);
+    let b = words::name(text, a);
+    let cursor = words::due(text, b, b";");
+    Headed {
+        cursor,
+        what: What::Assigns,
     }
 }
 
@@ -214,6 +228,9 @@ fn further<'a>(
             given,
             args,
         );
+    }
+    if words::equal(w, b"X") {
+        return labelling(text, behind, known.pattern, at);
     }
     shift_or_end(text, w, at, behind, may, d)
 }

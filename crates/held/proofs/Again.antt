@@ -1,5 +1,5 @@
 -- What is read once is read again, the same, where more is declared and nothing is restricted: a head.
-use mathlib.Core.Path.{_≡_, refl, _∙_, subst}
+use mathlib.Core.Path.{_≡_, refl, ap, _∙_, subst}
 use Prim.Native.Nat.{ℕ, zero, suc, _≤_}
 use native.Mathlib.Omega.{arith}
 use Prim.Native.String.{String}
@@ -15,7 +15,7 @@ use Rattle.meaning.specs.Names.{name, find, known, oldName}
 use Rattle.meaning.specs.Signals.{Names}
 use Rattle.meaning.specs.Body.{Assigns, Kind, macro, procedure}
 use Rattle.meaning.specs.Data.{piece, part, dataRead, assign, assigns}
-use Rattle.meaning.specs.Statements.{Decls, Env, used, looping, shiftHead, head}
+use Rattle.meaning.specs.Statements.{Decls, Env, used, looping, shiftHead, labelHead, head}
 use Rattle.meaning.proofs.Gives.{bind-ok, bind-go}
 use Rattle.meaning.proofs.Choices.{_also_}
 
@@ -132,7 +132,7 @@ grows-assigns ns m = grows-on _ _ _ λ p. grows-until (assign ns m) (assign ns t
 
 -- ---- heads
 
--- f has what e has, and maybe more macros and procedures behind
+-- f has what e has, and maybe more macros and procedures behind; and it stands in a pattern
 pub record Later (e f : Env) : Type 0 where
   pub names : e .names ≡ f .names
   pub tables : e .tables ≡ f .tables
@@ -140,6 +140,7 @@ pub record Later (e f : Env) : Type 0 where
   pub procs : Decls
   pub macros-is : e .macros ++ macros ≡ f .macros
   pub procs-is : e .procs ++ procs ≡ f .procs
+  pub in-pattern : f .pattern ≡ true
 
 leb-less : (d c n : ℕ) → d ≤ c → leb d n ≡ false → leb c n ≡ false
 leb-less d c n h e = let k = leb-false d n e in lt-leb c n (omega arith)
@@ -157,6 +158,10 @@ grows-shiftHead : (may : Bool) (d c : ℕ) → d ≤ c → (p : ℕ) → Grows (
 unfolding shiftHead
 grows-shiftHead may d c h p = grows-bind _ _ _ _ (grows-if _ _ _ p λ e. refl) λ u. grows-first _ _ _ (grows-if _ _ _ p (leb-less d c 0 h))
 
+grows-labelHead : (may : Bool) {must : Bool} → must ≡ true → (p : ℕ) → Grows (labelHead may p) (labelHead must p)
+unfolding labelHead
+grows-labelHead may h p = grows-first _ _ _ (grows-if _ _ _ p λ e. ap not h)
+
 -- THE LAW: a head reads the same in a later environment, in a macro or procedure itself, with as many levels to go, no Shift before
 pub grows-head : (e f : Env) → Later e f → (own : Bool) (d c : ℕ) → d ≤ c → (seen : Bool) → Grows (head e own d seen) (head f true c false)
 unfolding head
@@ -168,6 +173,7 @@ grows-head e f later own d c h seen =
     also (refl, grows-looping d c h)
     also (refl, λ p. grows-used macro d c h (f .names) (e .macros) (later .macros) (f .macros) (later .macros-is))
     also (refl, λ p. grows-used procedure d c h (f .names) (e .procs) (later .procs) (f .procs) (later .procs-is))
+    also (refl, grows-labelHead (e .pattern) (later .in-pattern))
     also (refl, grows-shiftHead (own && not seen) d c h)
     also (refl, λ p. self _)
     also tt))

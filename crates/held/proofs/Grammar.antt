@@ -12,7 +12,7 @@ use Rattle.meaning.specs.Groups.{term, sign, joined, more, terms, bracket, expr
 use Rattle.meaning.specs.Timing.{Wave, Tables, quoted, letterDue, alternative, letters, Events, oneEvent, event, entry, waveforms, table, timing}
 use Rattle.meaning.specs.Body.{Assigns, Args, Kind, Body}
 use Rattle.meaning.specs.Data.{charsOf, times, repeated, piece, part, dataRead, assign, assigns, argument, arguments}
-use Rattle.meaning.specs.Statements.{Decls, Env, Head, ends, vecs, sets, loops, shifts, uses, used, chosen, looping, shiftHead, head, inShift, behind, statementsF, statements, declared}
+use Rattle.meaning.specs.Statements.{Decls, Env, Head, ends, vecs, sets, loops, shifts, uses, used, chosen, looping, shiftHead, labelHead, head, inShift, behind, statementsF, statements, declared}
 use Rattle.meaning.specs.Document.{oneBody, oneMacro, oneProcedure, listEntry, burst, exec, pattern}
 use Rattle.meaning.proofs.Choices.{_also_}
 use Rattle.held.proofs.Rest.{Leaves, Moves, moving, moves-leaves, moves-bind, moves-refuse, moves-either, leaves-give, leaves-either, leaves-within, moves-due, leaves-oneOf, moves-choose, moves-ahead, leaves-while, moves-closed, moves-until}
@@ -157,7 +157,7 @@ unfolding used
 moves-used k d ns l = search (moving, moves-arguments) depth 10
 
 pub moves-head : (e : Env) (own : Bool) (d : ℕ) (seen : Bool) → Moves (head e own d seen)
-unfolding head chosen looping shiftHead
+unfolding head chosen looping shiftHead labelHead
 moves-head e own d seen = moves-choose _ (
     (λ p. search (moving, moves-assigns))
     also (λ p. search (moving, moves-assigns))
@@ -165,6 +165,7 @@ moves-head e own d seen = moves-choose _ (
     also (λ p. search moving depth 8)
     also (λ p. moves-leaves (moves-used _ d _ _))
     also (λ p. moves-leaves (moves-used _ d _ _))
+    also (λ p. search moving depth 8)
     also (λ p. search moving depth 8)
     also (λ p. leaves-give _)
     also tt)

@@ -10,7 +10,7 @@ use Rattle.meaning.specs.Reader.{Reader, ok, give}
 use Rattle.meaning.specs.Names.{oldName}
 use Rattle.meaning.specs.Signals.{Names}
 use Rattle.meaning.specs.Body.{Kind, Body}
-use Rattle.meaning.specs.Statements.{Decl, Decls, Env, Head, ends, vecs, sets, loops, shifts, uses, used, chosen, looping, shiftHead, head, inShift, behind, statementsF, statements}
+use Rattle.meaning.specs.Statements.{Decl, Decls, Env, Head, ends, vecs, sets, loops, shifts, uses, used, chosen, looping, shiftHead, labelHead, head, inShift, behind, statementsF, statements}
 use Rattle.meaning.proofs.Gives.{known-ok, bind-go, Gives, gives-bind, gives-after, gives-give, gives-choose}
 use Rattle.meaning.proofs.Choices.{_also_}
 use Rattle.held.specs.Held.{HeadAt, Holds, Stands, AllStand}
@@ -46,7 +46,7 @@ module _ (E : Env) where
       gives-give Sound _ q
 
   head-sound : (e : Env) → AllStand E (e .macros) → AllStand E (e .procs) → (own : Bool) (d : ℕ) (seen : Bool) → Gives Sound (head e own d seen)
-  unfolding head chosen looping shiftHead
+  unfolding head chosen looping shiftHead labelHead
   head-sound e ms ps own d seen = gives-choose Sound _ (
       (λ p. gives-after Sound _ _ λ a. gives-give Sound _ tt)
       also (λ p. gives-after Sound _ _ λ a. gives-give Sound _ tt)
@@ -54,6 +54,7 @@ module _ (E : Env) where
       also (λ p. gives-after Sound _ _ λ u. gives-after Sound _ _ λ n. gives-after Sound _ _ λ q. gives-give Sound _ tt)
       also (λ p. used-sound _ d (e .names) (e .macros) ms)
       also (λ p. used-sound _ d (e .names) (e .procs) ps)
+      also (λ p. gives-after Sound _ _ λ u. gives-after Sound _ _ λ t. gives-after Sound _ _ λ q. gives-give Sound _ tt)
       also (λ p. gives-after Sound _ _ λ u. gives-after Sound _ _ λ v. gives-after Sound _ _ λ q. gives-give Sound _ tt)
       also (λ p. gives-give Sound _ tt)
       also tt)

@@ -1,20 +1,22 @@
 -- A text that was read: its parts, each behind the one before.
-use mathlib.Core.Path.{_≡_, _∙_}
+use mathlib.Core.Path.{_≡_, refl, _∙_}
 use Prim.Native.Nat.{ℕ}
+use mathlib.Core.Bool.{false}
 use mathlib.Core.List.{[]}
 use Rattle.tokens.specs.Tokens.{Tok, Toks}
 use Rattle.meaning.specs.Reader.{ok, _>>_, due, option}
 use Rattle.meaning.specs.Signals.{Names, signals}
 use Rattle.meaning.specs.Groups.{groups}
 use Rattle.meaning.specs.Timing.{Tables, timing}
-use Rattle.meaning.specs.Statements.{Env}
+use Rattle.meaning.specs.Statements.{Env, forPatterns}
 use Rattle.meaning.specs.Document.{bodies, burst, exec, patterns, Read, document, documentUpTo}
 use Rattle.meaning.proofs.Gives.{bind-go}
+use Rattle.meaning.proofs.Once.{once-ok}
 use Rattle.held.proofs.Leads.{Leads, leads-bind, leads-give}
 
 -- before any macro or procedure
 abbrev pub firstEnv : Names → Tables → Env
-firstEnv ns tabs = record { names = ns; tables = tabs; macros = []; procs = [] }
+firstEnv ns tabs = record { names = ns; tables = tabs; macros = []; procs = []; pattern = false }
 
 pub record Parts (ts : Toks) (d : Read) (us : Toks) : Type 0 where
   -- where each begins
@@ -25,17 +27,19 @@ pub record Parts (ts : Toks) (d : Read) (us : Toks) : Type 0 where
   pub burst-at : Toks
   pub exec-at : Toks
   pub patterns-at : Toks
-  -- the names of signals and groups, what is declared in the end, the burst's name
+  -- the names of signals and groups, what is declared in the end, the same before a pattern's statements, the burst's name
   pub names : Names
+  pub bodied : Env
   pub env : Env
   pub burst-name : Tok
+  pub env-is : env ≡ forPatterns bodied
   pub opening-end : ℕ
   pub exec-end : ℕ
   pub opening-read : (do due "STIL"; due "1.0"; due ";") ts ≡ ok opening-end signals-at
   pub signals-read : signals signals-at ≡ ok (d .signals) groups-at
   pub groups-read : option "SignalGroups" groups (d .signals) groups-at ≡ ok names timing-at
   pub timing-read : timing names timing-at ≡ ok (d .tables) bodies-at
-  pub bodies-read : bodies (firstEnv names (d .tables)) bodies-at ≡ ok env burst-at
+  pub bodies-read : bodies (firstEnv names (d .tables)) bodies-at ≡ ok bodied burst-at
   pub burst-read : burst burst-at ≡ ok (burst-name, d .listed) exec-at
   pub exec-read : exec burst-name exec-at ≡ ok exec-end patterns-at
   pub patterns-read : patterns env burst-name patterns-at ≡ ok (d .patterns) us
@@ -55,7 +59,9 @@ parts ts =
       exec-at = l-end;
       patterns-at = q-end;
       names = ns;
-      env = e;
+      bodied = e;
+      env = forPatterns e;
+      env-is = refl;
       burst-name = l .0;
       opening-end = c;
       exec-end = q;
@@ -66,5 +72,5 @@ parts ts =
       bodies-read = e-is;
       burst-read = l-is;
       exec-read = q-is;
-      patterns-read = p-is;
+      patterns-read = once-ok _ _ q-end p-is;
     })

@@ -1,5 +1,5 @@
 -- Every body that a text declares begins in the text behind its name and its `{`: whatever is read leaves a stream of the text.
-use mathlib.Core.Path.{_≡_, refl, sym, _∙_}
+use mathlib.Core.Path.{_≡_, refl, sym, _∙_, subst}
 use Prim.Native.Nat.{ℕ}
 use mathlib.Core.Bool.{Bool}
 use mathlib.Core.List.{List, []}
@@ -116,4 +116,5 @@ module _ (text : List ℕ) where
       let g = bodies-placed (p .names) (d .tables) _ f .all _ _ (p .bodies-read) in
       let h = rest-stream (moves-leaves moves-burst .rest _ _ _ (p .burst-read)) (g .stream) in
       let i = rest-stream (moves-leaves (moves-exec _) .rest _ _ _ (p .exec-read)) h in
-      record { macros = g .macros; procs = g .procs; patterns = patterns-placed (p .env) (p .burst-name) _ i .all _ _ (p .patterns-read) .placed }
+      let l = patterns-placed (p .env) (p .burst-name) _ i .all _ _ (p .patterns-read) .placed in
+      subst (λ (E : Env). Places E d) (sym (p .env-is)) (record { macros = g .macros; procs = g .procs; patterns = l })

@@ -1,5 +1,5 @@
 -- Every body that a text declares is held where it is declared, in the environment in which its declarations end.
-use mathlib.Core.Path.{_≡_, refl, sym, _∙_}
+use mathlib.Core.Path.{_≡_, refl, sym, _∙_, subst}
 use Prim.Native.Nat.{ℕ}
 use native.Mathlib.Omega.{arith}
 use mathlib.Core.Bool.{Bool, true, false}
@@ -13,7 +13,7 @@ use Rattle.meaning.specs.Names.{find}
 use Rattle.meaning.specs.Signals.{Names}
 use Rattle.meaning.specs.Timing.{Tables}
 use Rattle.meaning.specs.Body.{Body, done, inner, entered, listed}
-use Rattle.meaning.specs.Statements.{Decl, Decls, Env}
+use Rattle.meaning.specs.Statements.{Decl, Decls, Env, forPatterns}
 use Rattle.meaning.specs.Document.{oneMacro, oneProcedure, bodies, pattern, patterns, Read}
 use Rattle.meaning.specs.Meaning.{Answer, given, refused, answering, runOf}
 use Rattle.held.specs.Held.{All, AllStand, Listed}
@@ -25,8 +25,9 @@ use Rattle.held.proofs.Declared.{More, one-body, one-pattern}
 use Rattle.held.proofs.Bodies.{leads-bodies, bodies-stay}
 use Rattle.held.proofs.Parts.{firstEnv, Parts}
 
-pub later-self : (e : Env) → Later e e
-later-self e = record { names = refl; tables = refl; macros = []; procs = []; macros-is = append-nil (e .macros); procs-is = append-nil (e .procs) }
+pub later-patterns : (e : Env) → Later e (forPatterns e)
+later-patterns e =
+    record { names = refl; tables = refl; macros = []; procs = []; macros-is = append-nil (e .macros); procs-is = append-nil (e .procs); in-pattern = refl }
 
 -- one more, and then others, are others behind it
 earlier : (known : Decls) (x : Tok × Decl) (l more all : Decls) → l ≡ known ++ x ∷ [] → l ++ more ≡ all → known ++ (x ∷ more) ≡ all
@@ -57,6 +58,7 @@ module _ (E : Env) where
           procs = later .procs;
           macros-is = earlier (e .macros) (m .name, m .body) l (later .macros) (E .macros) (m .is) (later .macros-is);
           procs-is = later .procs-is;
+          in-pattern = later .in-pattern;
         } in
         let k = h .all p in
         (more-stands e p (k .0) (k .1) true _ (e .macros) ts l us m (k .0), k .1));
@@ -74,25 +76,11 @@ module _ (E : Env) where
           procs = (m .name, m .body) ∷ later .procs;
           macros-is = later .macros-is;
           procs-is = earlier (e .procs) (m .name, m .body) l (later .procs) (E .procs) (m .is) (later .procs-is);
+          in-pattern = later .in-pattern;
         } in
         let k = h .all p in
         (k .0, more-stands e p (k .0) (k .1) true _ (e .procs) ts l us m (k .1)));
   })
-
-  -- ---- patterns
-
-  module _ (ms : AllStand E (E .macros)) (ps : AllStand E (E .procs)) where
-    pattern-stands : (b : Tok) (l : Decls) (ts : Toks) → AllStand E l → Leads (pattern E b l) ts (λ l us. AllStand E l)
-    pattern-stands b l ts h = record {
-      all = λ m us q. (
-          let i = one-pattern E b l ts .all m us q in
-          more-stands E (later-self E) ms ps false _ l _ m us (i .3) h);
-    }
-
-    pub patterns-stand : (b : Tok) (ts : Toks) → Leads (patterns E b) ts (λ l us. AllStand E l)
-    unfolding patterns All
-    patterns-stand b ts =
-        leads-bind _ _ λ l us q. leads-while (λ l us. AllStand E l) (pattern E b) (pattern-stands b) _ l us (pattern-stands b [] ts tt .all l us q)
 
   -- ---- the run
 
@@ -115,12 +103,28 @@ module _ (E : Env) where
       by none f e ih = let z : _≡_ {A = ℕ} 0 1 = cc in absurd (omega arith)
       by (some x) f e ih = on x f (runOf ps l) e ih
 
--- where the declarations were read, every macro and procedure stands
-pub bodies-stand : (ns : Names) (tabs : Tables) (ts : Toks) (E : Env) (us : Toks) → bodies (firstEnv ns tabs) ts ≡ ok E us → AllStand E (E .macros) × AllStand E (E .procs)
+-- ---- patterns
+
+module _ (e : Env) (ms : AllStand (forPatterns e) (e .macros)) (ps : AllStand (forPatterns e) (e .procs)) where
+  pattern-stands : (b : Tok) (l : Decls) (ts : Toks) → AllStand (forPatterns e) l → Leads (pattern (forPatterns e) b l) ts (λ l us. AllStand (forPatterns e) l)
+  pattern-stands b l ts h = record {
+    all = λ m us q. (
+        let i = one-pattern (forPatterns e) b l ts .all m us q in
+        more-stands (forPatterns e) (forPatterns e) (later-patterns (forPatterns e)) ms ps false _ l _ m us (i .3) h);
+  }
+
+  pub patterns-stand : (b : Tok) (ts : Toks) → Leads (patterns (forPatterns e) b) ts (λ l us. AllStand (forPatterns e) l)
+  unfolding patterns All
+  patterns-stand b ts =
+      leads-bind _ _ λ l us q. leads-while (λ l us. AllStand (forPatterns e) l) (pattern (forPatterns e) b) (pattern-stands b) _ l us (pattern-stands b [] ts tt .all l us q)
+
+-- where the declarations were read, every macro and procedure stands, as patterns use them
+pub bodies-stand : (ns : Names) (tabs : Tables) (ts : Toks) (e : Env) (us : Toks) → bodies (firstEnv ns tabs) ts ≡ ok e us
+    → AllStand (forPatterns e) (e .macros) × AllStand (forPatterns e) (e .procs)
 unfolding All
-bodies-stand ns tabs ts E us q =
-    leads-bodies (λ e us. Growing E e) (λ e us ts r h. h) (growing-macro E) (growing-procedure E) (firstEnv ns tabs) ts (record { all = λ later. (tt, tt) })
-    .all E us q .all (later-self E)
+bodies-stand ns tabs ts e us q =
+    leads-bodies (λ f us. Growing (forPatterns e) f) (λ f us ts r h. h) (growing-macro (forPatterns e)) (growing-procedure (forPatterns e)) (firstEnv ns tabs) ts (record { all = λ later. (tt, tt) })
+    .all e us q .all (later-patterns e)
 
 -- in a text that was read, all that is declared stands, and names and tables are the text's
 pub record Whole (E : Env) (ns : Names) (d : Read) : Type 0 where
@@ -134,4 +138,11 @@ pub whole : (ts : Toks) (d : Read) (us : Toks) (p : Parts ts d us) → Whole (p 
 whole ts d us p =
     let s = bodies-stay (firstEnv (p .names) (d .tables)) (p .bodies-at) .all _ _ (p .bodies-read) in
     let k = bodies-stand (p .names) (d .tables) _ _ _ (p .bodies-read) in
-    record { names = s .0; tables = s .1; macros = k .0; procs = k .1; patterns = patterns-stand (p .env) (k .0) (k .1) (p .burst-name) (p .patterns-at) .all _ _ (p .patterns-read) }
+    let read = subst (λ (E : Env). patterns E (p .burst-name) (p .patterns-at) ≡ ok (d .patterns) us) (p .env-is) (p .patterns-read) in
+    subst (λ (E : Env). Whole E (p .names) d) (sym (p .env-is)) (record {
+      names = s .0;
+      tables = s .1;
+      macros = k .0;
+      procs = k .1;
+      patterns = patterns-stand (p .bodied) (k .0) (k .1) (p .burst-name) (p .patterns-at) .all _ _ read;
+    })

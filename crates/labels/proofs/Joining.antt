@@ -16,7 +16,7 @@ use Rattle.words.specs.Cursor.{ahead, stream, alive, from, Goes}
 use Rattle.words.specs.Values.{told}
 use Rattle.words.specs.declared.Cursor.{Cursor}
 use Rattle.words.proofs.Flow.{from-on, from-stop, stream-on, stream-stop}
-use Rattle.labels.specs.Labels.{labelsFrom, labels, repeated, usedTwice, earlier, eachOnce}
+use Rattle.meaning.specs.Labels.{labelsFrom, labels, repeated, usedTwice, earlier, eachOnce}
 use Rattle.labels.specs.Table.{foundOf}
 use Rattle.labels.specs.Joined.{usedAt, sooner, Joins}
 use Rattle.labels.specs.declared.Found.{Found}

@@ -6,12 +6,9 @@ use mathlib.Core.Path.{_≡_, refl, sym, ap, _∙_}
 use mathlib.Core.Bool.{Bool, true, false, _||_}
 use mathlib.Core.Option.{Option, none, some}
 use mathlib.Core.List.{List, [], _∷_, _++_}
-use lib.Dec.{ltb}
 use Rattle.tokens.specs.Written.{same}
-use Rattle.tokens.specs.Tokens.{Tok, Toks}
-use Rattle.meaning.specs.Refusals.{usedName}
-use Rattle.meaning.specs.Reader.{Res, ok, refuse}
-use Rattle.labels.specs.Labels.{taken, usedBy, repeated, earlier}
+use Rattle.tokens.specs.Tokens.{Tok}
+use Rattle.meaning.specs.Labels.{taken, usedBy, repeated}
 
 pub never : {A : Type 0} → false ≡ true → A
 never e = let z : _≡_ {A = ℕ} 0 1 = cc in absurd (omega arith)
@@ -129,16 +126,3 @@ labels-differ vs i k l s t e = by (same (s .word) (t .word)) refl
     by true h =
         let here : taken (s .word ∷ usedBy vs i) (t .word) ≡ true = ap (λ (x : Bool). x || taken (usedBy vs i) (t .word)) h in
         never (sym new ∙ used-stays (s .word ∷ usedBy vs i) k (t .word) here)
-
--- ---- what else is read
-
--- where something is answered after all, no name is used twice, and the reader answered it
-pub earlier-ok : {A : Type 0} (o : Option ℕ) (r : Res A) {a : A} {ts : Toks} → earlier o r ≡ ok a ts → (o ≡ none) × (r ≡ ok a ts)
-unfolding earlier
-earlier-ok none r e = (refl, e)
-earlier-ok (some q) (ok b us) e = let z : _≡_ {A = ℕ} 0 1 = cc in absurd (omega arith)
-earlier-ok {A} (some q) (refuse n p) {a} {ts} e = by (ltb q p) e
-  where
-    by : (x : Bool) → _≡_ {A = Res A} (elim x [ true ↦ refuse usedName q | false ↦ refuse n p ]) (ok a ts) → (_≡_ {A = Option ℕ} (some q) none) × (_≡_ {A = Res A} (refuse n p) (ok a ts))
-    by true e = let z : _≡_ {A = ℕ} 0 1 = cc in absurd (omega arith)
-    by false e = let z : _≡_ {A = ℕ} 0 1 = cc in absurd (omega arith)

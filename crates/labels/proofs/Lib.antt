@@ -1,6 +1,5 @@
 pub mod Laws
 pub mod Chains
 pub mod Scanning
-mod Samples
 pub mod Joining
 pub mod Numbers

@@ -12,7 +12,7 @@ use Rattle.tokens.specs.Written.{same}
 use Rattle.tokens.specs.Tokens.{Tok, toks}
 use Rattle.words.specs.Values.{told}
 use Rattle.words.proofs.Words.{neither, same-eq, same-self}
-use Rattle.labels.specs.Labels.{taken, usedBy, repeated, labels, usedTwice}
+use Rattle.meaning.specs.Labels.{taken, usedBy, repeated, labels, usedTwice}
 use Rattle.labels.specs.Table.{wordOf, wordsOf, numberOf, Gathers}
 use Rattle.labels.specs.declared.Gathered.{Gathered}
 use Rattle.labels.proofs.Laws.{never, taken-append, repeated-later}

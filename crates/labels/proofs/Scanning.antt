@@ -18,7 +18,7 @@ use Rattle.words.specs.declared.Cursor.{Cursor}
 use Rattle.words.specs.Values.{told}
 use Rattle.words.proofs.Flow.{stream-on, stream-stop}
 use Rattle.words.proofs.Words.{same-long}
-use Rattle.labels.specs.Labels.{Here, begins, due, within, beginning, parting, labelling, behind, labelled, labelsFrom, labels, taken, usedBy, repeated, usedTwice}
+use Rattle.meaning.specs.Labels.{Here, begins, due, within, beginning, parting, labelling, behind, labelled, labelsFrom, labels, taken, usedBy, repeated, usedTwice}
 use Rattle.labels.specs.Table.{labelsMost, hashes, wordsOf, numberOf, latest, Held, Added, hereBy, hereOf, dues, used, Notes, Gathers}
 use Rattle.labels.specs.declared.Noted.{Noted}
 use Rattle.labels.proofs.Laws.{never, repeated-here, repeated-later, taken-append}

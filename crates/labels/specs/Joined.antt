@@ -11,7 +11,7 @@ use Rattle.tokens.specs.Tokens.{toks}
 use Rattle.meaning.specs.Refusals.{usedName}
 use Rattle.words.specs.Cursor.{stream, alive}
 use Rattle.words.specs.declared.Cursor.{Cursor}
-use Rattle.labels.specs.Labels.{usedTwice}
+use Rattle.meaning.specs.Labels.{usedTwice}
 
 -- a name at q is used already
 abbrev pub usedAt : ℕ → Cursor

@@ -10,7 +10,7 @@ use Rattle.tokens.specs.Written.{same}
 use Rattle.tokens.specs.Tokens.{Tok, toks}
 use Rattle.words.specs.Cursor.{span}
 use Rattle.words.specs.Values.{told}
-use Rattle.labels.specs.Labels.{Here, begins, due, within, labelled, labels, usedBy, repeated, usedTwice}
+use Rattle.meaning.specs.Labels.{Here, begins, due, within, labelled, labels, usedBy, repeated, usedTwice}
 use Rattle.labels.specs.declared.Found.{Found}
 use Rattle.labels.specs.declared.Noted.{Noted}
 use Rattle.labels.specs.declared.Gathered.{Gathered}

@@ -8,7 +8,7 @@ ghost use Rattle.tokens.specs.Refusals.{textMost};
 ghost use Rattle.tokens.specs.Tokens.{toks};
 ghost use Rattle.words.specs.Cursor.{ahead};
 ghost use Rattle.words.specs.Values.{told};
-ghost use Rattle.labels.specs.Labels.{parting, labelling, behind as behindOf, taken, usedTwice};
+ghost use Rattle.meaning.specs.Labels.{parting, labelling, behind as behindOf, taken, usedTwice};
 ghost use Rattle.labels.specs.Joined.{Joins};
 ghost use Rattle.labels.specs.Table.{labelsMost, wordOf, wordsOf, numberOf, hashed, Held, Added, hereOf, used, Notes, Gathers, foundOf};
 use words::Cursor;

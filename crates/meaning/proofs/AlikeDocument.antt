@@ -6,10 +6,11 @@ use mathlib.Core.List.{List, [], _∷_, _++_}
 use Rattle.tokens.specs.Written.{bytes, same}
 use Rattle.tokens.specs.Tokens.{Tok, Toks}
 use Rattle.meaning.specs.Reader.{Reader, ok, _>>=_, _>>_, give, due, option}
+use Rattle.meaning.specs.Labels.{eachOnce}
 use Rattle.meaning.specs.Signals.{Names, signals}
 use Rattle.meaning.specs.Groups.{groups}
 use Rattle.meaning.specs.Timing.{Tables, timing}
-use Rattle.meaning.specs.Statements.{Decls, Env}
+use Rattle.meaning.specs.Statements.{Decls, Env, forPatterns}
 use Rattle.meaning.specs.Document.{oneBody, oneMacro, oneProcedure, macroDefs, procedures, bodies, listEntry, burst, exec, patterns, Read, document, documentUpTo}
 use Rattle.meaning.proofs.Gives.{bind-ok, bind-go}
 use Rattle.meaning.proofs.Others.{SameWords}
@@ -41,14 +42,14 @@ opening = do
   ss ← signals
   ns ← option "SignalGroups" groups ss
   tabs ← timing ns
-  e ← bodies (record { names = ns; tables = tabs; macros = []; procs = [] })
+  e ← bodies (record { names = ns; tables = tabs; macros = []; procs = []; pattern = false })
   b ← burst
   exec (b .0)
-  give (record { signals = ss; tables = tabs; env = e; burst = b .0; listed = b .1 })
+  give (record { signals = ss; tables = tabs; env = forPatterns e; burst = b .0; listed = b .1 })
 
 -- and then they do
 abbrev pub onward : Opened → Reader Read
-onward x = patterns (x .env) (x .burst) >>= λ ps. give (record { signals = x .signals; tables = x .tables; listed = x .listed; patterns = ps })
+onward x = eachOnce (x .burst .word) (patterns (x .env) (x .burst)) >>= λ ps. give (record { signals = x .signals; tables = x .tables; listed = x .listed; patterns = ps })
 
 -- where m answers, k does, and `rest` from there on
 pub record Splits {A D : Type 0} (m : Reader D) (k : Reader A) (rest : A → Reader D) : Type 0 where
@@ -133,4 +134,8 @@ module _ {B : Border} where
       alike-bind (alike-due _ refl) λ i j k. alike-bind (alike-due _ refl) λ i j k. alike-bind (alike-due _ refl) λ i j k.
       alike-bind alike-signals λ ss rs h. alike-bind (alike-option "SignalGroups" _ _ ss rs (alike-groups ss rs h) h) λ ns ms n. alike-bind (alike-timing ns ms n) λ ta tb r.
       alike-bind (alike-bodies _ _ (record { names = n; tables = r; macros = tt; procs = tt })) λ e f w. alike-bind alike-burst λ b c l. alike-bind (alike-exec _ _ (l .0)) λ i j k.
-      alike-give _ _ (record { signals = h; env = w; listed = l .1 })
+      alike-give _ _ (record {
+        signals = h;
+        env = record { names = w .names; tables = w .tables; macros = w .macros; procs = w .procs };
+        listed = l .1;
+      })

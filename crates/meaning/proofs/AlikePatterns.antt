@@ -16,6 +16,7 @@ use Rattle.meaning.specs.Names.{name as nameDue, newName}
 use Rattle.meaning.specs.Statements.{Decl, Decls, Env, declared}
 use Rattle.meaning.specs.Document.{besides, pattern, over, patterns, Read, document}
 use Rattle.meaning.proofs.Gives.{bind-ok, give-ok, if-ok}
+use Rattle.meaning.proofs.Once.{once-ok}
 use Rattle.meaning.proofs.Others.{OthersTwins, SameWords}
 use Rattle.meaning.proofs.Alike.{Border, Like, Leaves, Alike, Equal, SameWord, alike-bind, alike-give, alike-if, word-any, alike-due}
 use Rattle.meaning.proofs.AlikeBlocks.{paired-length, alike-new}
@@ -275,7 +276,7 @@ module _ (name : List ℕ) (B : Border) (is os : Toks) (x : Opens name (B .first
       let u = bind-ok _ _ (i .1) d vs (i .3) in
       let v = bind-ok _ _ (j .1) c ws (j .3) in
       let o = patterns-others name (i .0 .env) (j .0 .env) (a .0 .env) (i .0 .burst) (j .0 .burst) B is os x y E (i .1) (j .1) (before (a .1 .left) (a .1 .like))
-      (u .0) (u .1) (u .2) (v .0) (v .1) (v .2) in
+      (u .0) (u .1) (once-ok _ _ (i .1) (u .2)) (v .0) (v .1) (once-ok _ _ (j .1) (v .2)) in
       let r = give-ok (u .3) .0 in
       let s = give-ok (v .3) .0 in
       rw (← r, ← s) (record { signals = paired-length Equal (i .0 .signals) (j .0 .signals) (a .0 .signals); listed = a .0 .listed; patterns = o })

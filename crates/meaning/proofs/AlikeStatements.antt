@@ -17,13 +17,13 @@ use Rattle.meaning.specs.Signals.{Names}
 use Rattle.meaning.specs.Timing.{Tables}
 use Rattle.meaning.specs.Body.{Assigns, Args, Setting, choosing, Kind, macro, procedure, looped, shifted, entered, Body, vec, set′, inner, outside, shifting, argOf, turns}
 use Rattle.meaning.specs.Data.{charsOf, stretched, repeatOf, times, repeated, piece, part, dataRead, paired, assign, assigns, argFor, argument, arguments}
-use Rattle.meaning.specs.Statements.{Decl, Decls, Env, numbered, Head, ends, vecs, sets, loops, shifts, uses, used, chosen, looping, shiftHead, head, inShift, behind, statementsF, statements, declared}
+use Rattle.meaning.specs.Statements.{Decl, Decls, Env, numbered, Head, ends, vecs, sets, loops, shifts, uses, used, chosen, looping, shiftHead, labelHead, head, inShift, behind, statementsF, statements, declared}
 use Rattle.meaning.proofs.Gives.{bind-ok, give-ok, if-ok}
 use Rattle.meaning.proofs.Choices.{_also_}
 use Rattle.meaning.proofs.Unplaced.{unplaced, Twins, outside-unplaced, shifting-unplaced}
 use Rattle.meaning.proofs.Others.{same-is}
 use Rattle.meaning.proofs.Alike.{Braced, Named, AtBlock, Border, Like, Leaves, Alike, Near, Equal, SameWord, Never, alike-bind, alike-equal, alike-at, alike-give, alike-if, alike-within, never-bind, never-refuse, alike-never, never-either, alike-choose, word-any, alike-due, goes-on, open′, Lost, near-closed, alike-closed, alike-until}
-use Rattle.meaning.proofs.AlikeBlocks.{Paired, alike-old, alike-number}
+use Rattle.meaning.proofs.AlikeBlocks.{Paired, alike-name, alike-old, alike-number}
 
 -- ---- what two bodies that differ in places alone have in common where they are used
 
@@ -295,7 +295,7 @@ module _ {B : Border} where
       alike-bind (alike-if _ _ _ _ _ _) λ p q r. alike-give _ _ (used-twins k (x .1) (y .1) (e .1) (a .0) (b .0) f)
 
   alike-head : (e f : Env) → TwinEnvs e f → (own : Bool) (d : ℕ) (seen : Bool) → Alike B false TwinHeads (head e own d seen) (head f own d seen)
-  unfolding head chosen looping shiftHead bytes same
+  unfolding head chosen looping shiftHead labelHead bytes same
   alike-head e f h own d seen = alike-choose _ _ (
       (refl, refl, λ p q. alike-equal (alike-assigns _ _ (h .names) own) λ a. alike-give _ _ both-vecs)
       also (refl, refl, λ p q. alike-equal (alike-assigns _ _ (h .names) false) λ a. alike-give _ _ both-sets)
@@ -308,6 +308,7 @@ module _ {B : Border} where
       also (refl, refl, λ p q. alike-bind (alike-if _ _ _ _ _ _) λ i j k. alike-equal (alike-number _ _) λ n. alike-bind (alike-due _ refl) λ i j k. alike-give _ _ both-loops)
       also (refl, refl, λ p q. alike-used macro d _ _ (h .names) _ _ (h .macros))
       also (refl, refl, λ p q. alike-used procedure d _ _ (h .names) _ _ (h .procs))
+      also (refl, refl, λ p q. alike-bind (alike-if _ _ _ _ _ _) λ i j k. alike-bind alike-name λ t u w. alike-bind (alike-due _ refl) λ i j k. alike-give _ _ both-sets)
       also (refl, refl, λ p q. alike-bind (alike-if _ _ _ _ _ _) λ i j k. alike-bind (alike-if _ _ _ _ _ _) λ i j k. alike-bind (alike-due _ refl) λ i j k. alike-give _ _ both-shifts)
       also (refl, refl, λ p q. alike-give _ _ both-end)
       also tt)

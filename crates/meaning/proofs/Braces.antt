@@ -17,7 +17,7 @@ use Rattle.meaning.specs.Names.{name, known, oldName, within, numberIn}
 use Rattle.meaning.specs.Signals.{Names}
 use Rattle.meaning.specs.Body.{Assigns, Args, mark, Kind, Body}
 use Rattle.meaning.specs.Data.{charsOf, repeatOf, times, repeated, piece, part, dataRead, assign, assigns, argument, arguments}
-use Rattle.meaning.specs.Statements.{Decl, Decls, Env, Head, ends, vecs, sets, loops, shifts, uses, used, chosen, looping, shiftHead, head, inShift, behind, statementsF, statements, declared}
+use Rattle.meaning.specs.Statements.{Decl, Decls, Env, Head, ends, vecs, sets, loops, shifts, uses, used, chosen, looping, shiftHead, labelHead, head, inShift, behind, statementsF, statements, declared}
 use Rattle.meaning.specs.Edited.{fromBrace}
 use Rattle.meaning.proofs.Gives.{bind-ok, give-ok, if-ok, no-not, gives-if}
 use Rattle.meaning.proofs.Choices.{_also_}
@@ -293,7 +293,7 @@ levels-used k d ns xs =
     levels-bind (even-old xs) λ x. levels-if _ _ _ _ λ e. levels-bind (even-arguments ns _) λ a. levels-if _ _ _ _ λ e. levels-give _ λ d. refl
 
 levels-head : (e : Env) (own : Bool) (d : ℕ) (seen : Bool) → Levels suc levelOf (head e own d seen)
-unfolding head chosen looping shiftHead levelBehind bytes same
+unfolding head chosen looping shiftHead labelHead levelBehind bytes same
 levels-head e own d seen = levels-choose _ (
     (λ p. levels-bind (even-assigns _ _) λ a. levels-give _ λ d. refl)
     also (λ p. levels-bind (even-assigns _ _) λ a. levels-give _ λ d. refl)
@@ -301,6 +301,7 @@ levels-head e own d seen = levels-choose _ (
     also (λ p. levels-if _ _ _ _ λ f. levels-bind (even-number _ _) λ n. levels-bind (levels-due _) λ q. levels-give _ λ d. refl)
     also (λ p. levels-used _ d _ _)
     also (λ p. levels-used _ d _ _)
+    also (λ p. levels-if _ _ _ _ λ f. levels-bind even-name λ t. levels-bind (levels-due _) λ q. levels-give _ λ d. refl)
     also (λ p. levels-if _ _ _ _ λ f. levels-if _ _ _ _ λ f. levels-bind (levels-due _) λ q. levels-give _ λ d. refl)
     also (λ p. levels-give _ λ d. refl)
     also tt)

@@ -8,7 +8,7 @@ use borrow.Author.Tests.{leb-false}
 use Rattle.meaning.specs.Bounds.{depthMost}
 use Rattle.meaning.specs.Signals.{Names}
 use Rattle.meaning.specs.Body.{Kind, Body, depth}
-use Rattle.meaning.specs.Statements.{Decls, Env, Head, ends, vecs, sets, loops, shifts, uses, used, chosen, looping, shiftHead, head, statements}
+use Rattle.meaning.specs.Statements.{Decls, Env, Head, ends, vecs, sets, loops, shifts, uses, used, chosen, looping, shiftHead, labelHead, head, statements}
 use Rattle.meaning.specs.Document.{document}
 use Rattle.meaning.proofs.Gives.{Gives, gives-bind, gives-after, gives-give, gives-if, gives-choose}
 use Rattle.meaning.proofs.Choices.{_also_}
@@ -30,7 +30,7 @@ room-used k d ns l =
     gives-after (Room d) _ _ λ a. gives-after (Room d) _ _ λ v. gives-give (Room d) _ (leb-false d (depth (x .1 .body)) q)
 
 room-head : (e : Env) (own : Bool) (d : ℕ) (seen : Bool) → Gives (Room d) (head e own d seen)
-unfolding head chosen looping shiftHead
+unfolding head chosen looping shiftHead labelHead
 room-head e own d seen = gives-choose R _ (
     (λ p. gives-after R _ _ λ a. gives-give R _ tt)
     also (λ p. gives-after R _ _ λ a. gives-give R _ tt)
@@ -38,6 +38,7 @@ room-head e own d seen = gives-choose R _ (
     also (λ p. gives-after R _ _ λ u. gives-after R _ _ λ n. gives-after R _ _ λ q. gives-give R _ tt)
     also (λ p. room-used _ d (e .names) (e .macros))
     also (λ p. room-used _ d (e .names) (e .procs))
+    also (λ p. gives-after R _ _ λ u. gives-after R _ _ λ t. gives-after R _ _ λ q. gives-give R _ tt)
     also (λ p. gives-after R _ _ λ u. gives-bind (λ u. leb d 0 ≡ false) R _ _ (gives-if _ _ _) λ v h. gives-after R _ _ λ q. gives-give R _ (leb-false d 0 h))
     also (λ p. gives-give R _ tt)
     also tt)

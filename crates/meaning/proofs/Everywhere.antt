@@ -12,11 +12,12 @@ use Rattle.meaning.specs.Refusals.{notDefined}
 use Rattle.meaning.specs.Reader.{ahead, option}
 use Rattle.meaning.specs.Names.{find, oldName}
 use Rattle.meaning.specs.Body.{Body, done, inner, entered, listed}
-use Rattle.meaning.specs.Statements.{Decl, Decls, Env, statements, declared}
+use Rattle.meaning.specs.Statements.{Decl, Decls, Env, forPatterns, statements, declared}
 use Rattle.meaning.specs.Document.{oneBody, oneMacro, oneProcedure, macroDefs, procedures, bodies, pattern, patterns, Read, document, documentUpTo}
 use Rattle.meaning.specs.Meaning.{Answer, given, refused, answering, runOf}
 use Rattle.meaning.proofs.Gives.{known-ok, Gives, gives-bind, gives-after, gives-give, gives-option, gives-while, gives-until}
 use Rattle.meaning.proofs.Choices.{gives-either}
+use Rattle.meaning.proofs.Once.{gives-once}
 
 -- P of each declared body
 unfoldable pub Every : (Body → Type 0) → Decls → Type 0
@@ -134,7 +135,7 @@ module _ (P : Body → Type 0) where
     everywhere =
         gives-after Q _ _ λ x. gives-after Q _ _ λ y. gives-after Q _ _ λ z. gives-after Q _ _ λ ss. gives-after Q _ _ λ ns. gives-after Q _ _ λ tabs.
         gives-bind (Known P) Q _ _ (known-bodies _ (tt, tt)) λ e k. gives-after Q _ _ λ b. gives-after Q _ _ λ w.
-        gives-bind (Every P) Q _ _ (every-patterns e k (b .0)) λ l q. gives-give Q _ q
+        gives-bind (Every P) Q _ _ (gives-once (Every P) (b .0 .word) _ (every-patterns (forPatterns e) k (b .0))) λ l q. gives-give Q _ q
       where
         Q : Read → Type 0
         Q d = Every P (d .patterns)

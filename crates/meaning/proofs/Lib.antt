@@ -1,9 +1,11 @@
 pub mod Samples
+mod LabelSamples
 pub mod Determined
 pub mod Takes
 pub mod Taking
 pub mod Gives
 pub mod Choices
+pub mod Once
 pub mod Statements
 pub mod Everywhere
 pub mod Depth

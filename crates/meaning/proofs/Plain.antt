@@ -14,7 +14,7 @@ use Rattle.meaning.specs.Signals.{Names}
 use Rattle.meaning.specs.Timing.{waveChar, allChars}
 use Rattle.meaning.specs.Body.{Assigns, mark, Kind, macro, procedure, Body, marked}
 use Rattle.meaning.specs.Data.{charsOf, stretched, repeated, piece, part, dataRead, paired, assign, assigns}
-use Rattle.meaning.specs.Statements.{Decls, Env, Head, ends, vecs, sets, loops, shifts, uses, used, chosen, looping, shiftHead, head, statements}
+use Rattle.meaning.specs.Statements.{Decls, Env, Head, ends, vecs, sets, loops, shifts, uses, used, chosen, looping, shiftHead, labelHead, head, statements}
 use Rattle.meaning.proofs.Gives.{Gives, gives-bind, gives-after, gives-give, gives-if, gives-choose, gives-closed, gives-until}
 use Rattle.meaning.proofs.Choices.{gives-either, gives-taken, _also_}
 use Rattle.meaning.proofs.Turns.{Unmarked, Plain, Good}
@@ -145,7 +145,7 @@ fine-shift own seen d p =
     gives-after (Fine own) _ _ λ v. gives-after (Fine own) _ _ λ q. gives-give (Fine own) shifts (never-shift own seen h)
 
 fine-head : (e : Env) → Known Good e → (own : Bool) (d : ℕ) (seen : Bool) → Gives (Fine own) (head e own d seen)
-unfolding head chosen looping
+unfolding head chosen looping labelHead marked
 fine-head e h own d seen = gives-choose F _ (
     (λ p. gives-bind (λ a. own ≡ false → Clear a) F _ _ (fine-vectors (e .names) own) λ a q. gives-give F _ q)
     also (λ p. gives-bind Clear F _ _ (clear-assigns (e .names)) λ a q. gives-give F _ q)
@@ -153,6 +153,7 @@ fine-head e h own d seen = gives-choose F _ (
     also (λ p. gives-after F _ _ λ u. gives-after F _ _ λ n. gives-after F _ _ λ q. gives-give F _ tt)
     also (λ p. fine-used own macro d (e .names) (e .macros) (h .0))
     also (λ p. fine-used own procedure d (e .names) (e .procs) (h .1))
+    also (λ p. gives-after F _ _ λ u. gives-after F _ _ λ t. gives-after F _ _ λ q. gives-give F _ refl)
     also (λ p. fine-shift own seen d p)
     also (λ p. gives-give F _ tt)
     also tt)

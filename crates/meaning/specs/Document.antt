@@ -9,11 +9,12 @@ use Rattle.meaning.specs.Refusals.{tooMany}
 use Rattle.meaning.specs.Bounds.{signalsMost, groupsMost, bodiesMost, patternsMost, listMost}
 use Rattle.meaning.specs.Reader.{Reader, _>>=_, _>>_, give, refuseIf, ahead, due, while, until, option}
 use Rattle.meaning.specs.Names.{name, newName, oldName}
+use Rattle.meaning.specs.Labels.{eachOnce}
 use Rattle.meaning.specs.Signals.{Names, signalsUpTo}
 use Rattle.meaning.specs.Groups.{groupsUpTo}
 use Rattle.meaning.specs.Timing.{Tables, timing}
 use Rattle.meaning.specs.Body.{done}
-use Rattle.meaning.specs.Statements.{Decl, Decls, Env, declared}
+use Rattle.meaning.specs.Statements.{Decl, Decls, Env, forPatterns, declared}
 
 -- ---- MacroDefs and Procedures
 
@@ -32,12 +33,12 @@ bodiesOf e = length (e .macros) + length (e .procs)
 unfoldable pub oneMacro : Env → Reader Env
 oneMacro e = do
   ms ← oneBody e (bodiesOf e) (e .macros)
-  give (record { names = e .names; tables = e .tables; macros = ms; procs = e .procs })
+  give (record { names = e .names; tables = e .tables; macros = ms; procs = e .procs; pattern = e .pattern })
 
 unfoldable pub oneProcedure : Env → Reader Env
 oneProcedure e = do
   ps ← oneBody e (bodiesOf e) (e .procs)
-  give (record { names = e .names; tables = e .tables; macros = e .macros; procs = ps })
+  give (record { names = e .names; tables = e .tables; macros = e .macros; procs = ps; pattern = e .pattern })
 
 unfoldable pub macroDefs : Env → Reader Env
 macroDefs e = do
@@ -89,7 +90,7 @@ exec b = do
   due ";"
   due "}"
 
--- ---- Patterns; the burst b shares their name space
+-- ---- Patterns; the burst b and the X names share their name space
 
 unfoldable pub besides : Tok → Decls → Decls
 besides b ps = (b, record { body = done; from = stop 0 0 }) ∷ ps
@@ -130,10 +131,10 @@ documentUpTo most groups = do
   ss ← signalsUpTo most
   ns ← option "SignalGroups" (groupsUpTo groups) ss
   tabs ← timing ns
-  e ← bodies (record { names = ns; tables = tabs; macros = []; procs = [] })
+  e ← bodies (record { names = ns; tables = tabs; macros = []; procs = []; pattern = false })
   b ← burst
   exec (b .0)
-  ps ← patterns e (b .0)
+  ps ← eachOnce (b .0 .word) (patterns (forPatterns e) (b .0))
   give (record { signals = ss; tables = tabs; listed = b .1; patterns = ps })
 
 abbrev pub document : Reader Read

@@ -3,6 +3,7 @@ pub mod Bounds
 pub mod Lists
 pub mod Reader
 pub mod Names
+pub mod Labels
 pub mod Signals
 pub mod Groups
 pub mod Timing

@@ -22,7 +22,7 @@ unfoldable pub reserved : List String
 reserved =
     "STIL" ∷ "Signals" ∷ "SignalGroups" ∷ "Timing" ∷ "WaveformTable" ∷ "Period" ∷ "Waveforms" ∷ "Procedures" ∷ "MacroDefs"
     ∷ "PatternBurst" ∷ "PatList" ∷ "PatternExec" ∷ "Pattern" ∷ "In" ∷ "Out" ∷ "InOut" ∷ "V" ∷ "W" ∷ "C" ∷ "Call" ∷ "Macro"
-    ∷ "Loop" ∷ "Shift" ∷ []
+    ∷ "Loop" ∷ "Shift" ∷ "X" ∷ []
 
 unfoldable pub among : List String → List ℕ → Bool
 among [] w = false

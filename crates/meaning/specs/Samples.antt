@@ -178,6 +178,9 @@ between =
     ∷ (windows (grouping "SignalGroups { ba = 'B+A'; ab = 'ba-B+B'; a = '(A+B)-(B)'; c = 'A-A+B'; }" ("Pattern p { W t0; V { ba = L1; } V { a = 0; c = H; } }" ∷ [])) 0 9 dot 8, given (2 ∷ 6 ∷ bytes "1L0\n0H0\n"))
     -- a repeat says its whole word, between words that stand once
     ∷ (windows (playing ("Pattern p { W t0; Macro m { A = 1 \\r2 01 10; B = \\r3 LH; } }" ∷ [])) 0 9 dot 28, given (7 ∷ 14 ∷ bytes "1L0\n0H0\n1L0\n0H0\n1L0\n1H0\n0H0\n"))
+    -- an X makes no cycle and has size 1, in a Loop too; X in DATA is a character
+    ∷ (windows (playing ("Pattern p { X a; W t0; Loop 2 { X c; V { A = 1; B = X; } } X d; }" ∷ [])) 0 9 dot 8, given (2 ∷ 14 ∷ bytes "1X0\n1X0\n"))
+    ∷ (checks (playing ("Pattern p { X a; W t0; Loop 2 { X c; V { A = 1; B = X; } } X d; }" ∷ [])), given (2 ∷ 1 ∷ 1 ∷ 2 ∷ 7 ∷ []))
     -- a Shift is entered at its turn
     ∷ (windows worked 5 1 dot 4, given (1 ∷ 22 ∷ bytes "0H0\n"))
     ∷ []
@@ -240,6 +243,27 @@ refusals =
     ∷ (checks (playing ("Pattern p { Macro m; }" ∷ [])), refused 13 331)
     -- a second Shift
     ∷ (checks (bodied "MacroDefs { m { Shift { V { A = #; } } Shift { V { A = #; } } } }" ([])), refused 4 227)
+    -- an X in a macro, and in a Loop of a procedure
+    ∷ (checks (bodied "MacroDefs { m { X a; } }" ([])), refused 4 204)
+    ∷ (checks (bodied "Procedures { m { Loop 2 { X a; } } }" ([])), refused 4 214)
+    -- X as a signal's name
+    ∷ (checks (signed "Signals { X In; B Out; }" ([])), refused 5 20)
+    -- an X without its name, with a word that is none, and without its semicolon
+    ∷ (checks (playing ("Pattern p { X ; }" ∷ [])), refused 4 326)
+    ∷ (checks (playing ("Pattern p { X 1a; }" ∷ [])), refused 5 326)
+    ∷ (checks (playing ("Pattern p { X a }" ∷ [])), refused 4 328)
+    -- an X with the burst's name, that of a pattern before, of its own, or of another X; a pattern with an X's name
+    ∷ (checks (playing ("Pattern p { X b; }" ∷ [])), refused 7 326)
+    ∷ (checks (playing ("Pattern p { }" ∷ "Pattern q { X p; }" ∷ [])), refused 7 340)
+    ∷ (checks (playing ("Pattern p { X p; }" ∷ [])), refused 7 326)
+    ∷ (checks (playing ("Pattern p { X a; Loop 2 { X a; } }" ∷ [])), refused 7 340)
+    ∷ (checks (playing ("Pattern p { X a; }" ∷ "Pattern q { X a; }" ∷ [])), refused 7 345)
+    ∷ (checks (playing ("Pattern p { X q; }" ∷ "Pattern q { }" ∷ [])), refused 7 339)
+    -- what stands further left is refused first
+    ∷ (checks (playing ("Pattern p { W t9; X p; }" ∷ [])), refused 6 326)
+    ∷ (checks (playing ("Pattern p { X p; W t9; }" ∷ [])), refused 7 326)
+    -- a listed X name is no pattern
+    ∷ (checks (listing "PatternBurst b { PatList { p; a; } }" ("Pattern p { X a; }" ∷ [])), refused 15 276)
     -- a listed pattern that is not defined
     ∷ (checks (listing "PatternBurst b { PatList { p; b; c; } }" ("Pattern p { }" ∷ [])), refused 15 276)
     -- more cycles than 2 to the power of 40

@@ -10,7 +10,7 @@ use Rattle.meaning.specs.Refusals.{badArgument, tooDeep}
 use Rattle.meaning.specs.Bounds.{loopMost, depthMost}
 use Rattle.meaning.specs.Lists.{empty}
 use Rattle.meaning.specs.Reader.{Reader, refuse, _>>=_, _>>_, give, refuseIf, due, choose}
-use Rattle.meaning.specs.Names.{oldName, numberIn}
+use Rattle.meaning.specs.Names.{name, oldName, numberIn}
 use Rattle.meaning.specs.Signals.{Names}
 use Rattle.meaning.specs.Timing.{Tables}
 use Rattle.meaning.specs.Body.{Assigns, Args, Setting, assigning, choosing, Kind, macro, procedure, Way, looped, shifted, entered, Body, done, vec, set′, inner, depth, marked, turns, fits}
@@ -30,6 +30,12 @@ pub record Env : Type 0 where
   pub tables : Tables
   pub macros : Decls
   pub procs : Decls
+  -- does it stand in a pattern
+  pub pattern : Bool
+
+-- the same before a pattern's statements
+abbrev pub forPatterns : Env → Env
+forPatterns e = record { names = e .names; tables = e .tables; macros = e .macros; procs = e .procs; pattern = true }
 
 -- the number of each name in its list, from n on
 unfoldable pub numbered : {A : Type 0} → ℕ → List (Tok × A) → List (Tok × ℕ)
@@ -41,7 +47,7 @@ pub data Head : Type 0 where
   ends : Head
   -- `V { .. }` at its place
   vecs : ℕ → Assigns → Head
-  -- `C { .. }`, `W NAME;`
+  -- `C { .. }`, `W NAME;`, and `X NAME;`, which assigns nothing
   sets : Setting → Head
   -- `Loop N {`
   loops : ℕ → Head
@@ -80,6 +86,14 @@ shiftHead may d p = do
   due "{"
   give shifts
 
+-- an X stands in a pattern only; that its name is new is looked for in all patterns at once (Labels)
+unfoldable pub labelHead : Bool → ℕ → Reader Head
+labelHead may p = do
+  refuseIf (not may) notHere p
+  name
+  due ";"
+  give (sets (assigning []))
+
 -- One statement's head. own: it stands directly in a macro or procedure; d: how many levels of bodies may stand in this one; seen: a
 -- Shift came before.
 unfoldable pub head : Env → Bool → ℕ → Bool → Reader Head
@@ -91,6 +105,7 @@ head e own d seen =
     ∷ ("Loop", looping d)
     ∷ ("Macro", λ p. used macro d (e .names) (e .macros))
     ∷ ("Call", λ p. used procedure d (e .names) (e .procs))
+    ∷ ("X", labelHead (e .pattern))
     ∷ ("Shift", shiftHead (own && not seen) d)
     ∷ ("}", λ p. give ends)
     ∷ [])

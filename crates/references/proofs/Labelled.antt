@@ -14,7 +14,7 @@ use Rattle.meaning.specs.Statements.{Env}
 use Rattle.meaning.specs.Run.{cycles}
 use Rattle.held.specs.Held.{Holds}
 use Rattle.words.proofs.Words.{neither, same-eq}
-use Rattle.labels.specs.Labels.{Here, begins, due, within, beginning, parting, labelling, behind, labelled, labelsFrom, labels, taken, usedBy}
+use Rattle.meaning.specs.Labels.{Here, begins, due, within, beginning, parting, labelling, behind, labelled, labelsFrom, labels, taken, usedBy}
 use Rattle.labels.specs.Table.{wordsOf, numberOf, Gathers}
 use Rattle.labels.specs.declared.Gathered.{Gathered}
 use Rattle.labels.proofs.Chains.{taken-number}

@@ -23,7 +23,7 @@ use Rattle.held.proofs.Leads.{Leads, leads-bind, leads-give, leads-if, leads-wh
 use Rattle.held.proofs.Due.{any-is, due-is}
 use Rattle.held.proofs.All.{all-more}
 use Rattle.words.proofs.Words.{same-eq}
-use Rattle.labels.specs.Labels.{parting}
+use Rattle.meaning.specs.Labels.{parting}
 
 -- the tokens us stand in ts behind a token behind which something begins
 pub data Parted : Toks → Toks → Type 0 where

@@ -7,22 +7,24 @@ use mathlib.Core.Bool.{Bool, true, false, not, _&&_}
 use mathlib.Core.Logic.{_⊎_, inl, inr}
 use mathlib.Core.Option.{Option, none, some}
 use mathlib.Core.List.{List, [], _∷_}
-use lib.Dec.{leb, eqb}
+use lib.Dec.{leb, ltb, eqb}
 use lib.ListN.{length, drop}
 use borrow.Author.Tests.{leb-true}
 use Rattle.tokens.specs.Written.{bytes, same}
 use Rattle.tokens.specs.Refusals.{textMost, tooLong, notHere}
 use Rattle.tokens.specs.Tokens.{Tok, Toks, stop, tok, plain, toks, left, faultIn, faultOf}
 use Rattle.tokens.proofs.Stream.{Stops, Closes, closes}
+use Rattle.meaning.specs.Refusals.{usedName}
 use Rattle.meaning.specs.Bounds.{depthMost, entryMost, bracketsMost}
 use Rattle.meaning.specs.Reader.{Res, Reader, ok, refuse, after, _>>=_, give, refuseIf, any, ahead, dueOf, oneOf, choose, isWord, word, ifAhead, option, whileF, while, closed, until}
 use Rattle.meaning.specs.Names.{name, dueAmong, newName, known, oldName, within, numberIn}
+use Rattle.meaning.specs.Labels.{usedTwice, earlier, eachOnce}
 use Rattle.meaning.specs.Signals.{Names, signal, signals, signalUpTo, signalsUpTo}
 use Rattle.meaning.specs.Groups.{term, sign, joined, more, terms, bracket, expression, group, groups, groupUpTo, groupsUpTo}
 use Rattle.meaning.specs.Timing.{Wave, Tables, quoted, letterDue, alternative, letters, Events, oneEvent, event, entry, waveforms, table, timing}
 use Rattle.meaning.specs.Body.{Assigns, Args, Kind, Body}
 use Rattle.meaning.specs.Data.{charsOf, times, repeated, piece, part, dataRead, assign, assigns, argument, arguments}
-use Rattle.meaning.specs.Statements.{Decls, Env, Head, ends, vecs, sets, loops, shifts, uses, used, chosen, looping, shiftHead, head, inShift, behind, statementsF, statements, declared}
+use Rattle.meaning.specs.Statements.{Decls, Env, Head, ends, vecs, sets, loops, shifts, uses, used, chosen, looping, shiftHead, labelHead, head, inShift, behind, statementsF, statements, declared}
 use Rattle.meaning.specs.Document.{oneBody, oneMacro, oneProcedure, macroDefs, procedures, bodies, listEntry, burst, exec, pattern, patterns, document, documentUpTo}
 use Rattle.meaning.proofs.Choices.{_also_}
 
@@ -295,7 +297,7 @@ unfolding used
 low-used k d ns l = search (lowly, low-arguments) depth 10
 
 low-head : (e : Env) (own : Bool) (d : ℕ) (seen : Bool) → Low (head e own d seen)
-unfolding head chosen looping shiftHead
+unfolding head chosen looping shiftHead labelHead
 low-head e own d seen = low-choose _ (
     (λ p. search (lowly, low-assigns))
     also (λ p. search (lowly, low-assigns))
@@ -303,6 +305,7 @@ low-head e own d seen = low-choose _ (
     also (λ p. search lowly depth 8)
     also (λ p. (low-used _ d _ _))
     also (λ p. (low-used _ d _ _))
+    also (λ p. search lowly depth 8)
     also (λ p. search lowly depth 8)
     also (λ p. low-give _)
     also tt)
@@ -384,12 +387,26 @@ low-patterns : (e : Env) (b : Tok) → Low (patterns e b)
 unfolding patterns
 low-patterns e b = low-bind _ _ (low-pattern e b []) (low-while (pattern e b) (low-pattern e b) _)
 
+-- a name that is used already is 7
+low-once : {A : Type 0} (burst : List ℕ) (m : Reader A) → Low m → Low (eachOnce burst m)
+unfolding eachOnce earlier
+low-once {A} burst m h = record { low = λ ts s. by (usedTwice burst ts) (m ts) (h .low ts s) }
+  where
+    by : (o : Option ℕ) (r : Res A) → Out r → Out (earlier o r)
+    by none r i = i
+    by (some q) (ok a us) i = omega arith
+    by (some q) (refuse n p) i = either (ltb q p)
+      where
+        either : (c : Bool) → Out {A = A} (elim c [ true ↦ refuse usedName q | false ↦ refuse n p ])
+        either true = omega arith
+        either false = i
+
 low-document : Low document
 unfolding documentUpTo
 low-document =
     low-bind _ _ (low-due _) λ a. low-bind _ _ (low-due _) λ b. low-bind _ _ (low-due _) λ c.
     low-bind _ _ low-signals λ ss. low-bind _ _ (low-option "SignalGroups" groups low-groups ss) λ ns. low-bind _ _ (low-timing ns) λ tabs.
-    low-bind _ _ (low-bodies _) λ e. low-bind _ _ low-burst λ l. low-bind _ _ (low-exec _) λ q. low-bind _ _ (low-patterns e _) λ ps. low-give _
+    low-bind _ _ (low-bodies _) λ e. low-bind _ _ low-burst λ l. low-bind _ _ (low-exec _) λ q. low-bind _ _ (low-once _ _ (low-patterns _ _)) λ ps. low-give _
 
 -- ---- of a text
 

@@ -9,9 +9,11 @@ use Rattle.meaning.specs.Reader.{Res, Reader, ok, refuse, after, _>>=_, _>>_, g
 use Rattle.meaning.specs.Signals.{Names, signal, signals, signalUpTo, signalsUpTo}
 use Rattle.meaning.specs.Groups.{groups}
 use Rattle.meaning.specs.Timing.{Tables, timing}
-use Rattle.meaning.specs.Statements.{Decls, Env}
+use Rattle.meaning.specs.Labels.{eachOnce}
+use Rattle.meaning.specs.Statements.{Decls, Env, forPatterns}
 use Rattle.meaning.specs.Document.{bodies, burst, exec, patterns, Read, document, documentUpTo}
 use Rattle.meaning.proofs.Gives.{Gives, gives-bind, gives-after, gives-give, gives-until}
+use Rattle.meaning.proofs.Once.{once-ok}
 use Rattle.held.proofs.Leads.{Leads, leads-bind, leads-give}
 use Rattle.held.proofs.Parts.{firstEnv, Parts}
 use Rattle.signals.specs.Names.{front}
@@ -74,13 +76,13 @@ module _ {A : Type 0} where
       ∙ same-on signals (λ ss. same-on (option "SignalGroups" groups ss) λ ns. same-after (timing ns) (λ t. give (ss, ns, t)) k) us) ts
 
   ending-then : (e : Env) (k : Tok × List Tok × Decls → Reader A)
-      → Same (ending e >>= k) (burst >>= λ b. exec (b .0) >>= λ q. patterns e (b .0) >>= λ ps. k (b .0, b .1, ps))
+      → Same (ending e >>= k) (burst >>= λ b. exec (b .0) >>= λ q. eachOnce (b .0 .word) (patterns (forPatterns e) (b .0)) >>= λ ps. k (b .0, b .1, ps))
   unfolding ending give _>>=_ after
   ending-then e k ts =
-      same-after burst (λ b. exec (b .0) >>= λ q. patterns e (b .0) >>= λ ps. give (b .0, b .1, ps)) k ts
+      same-after burst (λ b. exec (b .0) >>= λ q. eachOnce (b .0 .word) (patterns (forPatterns e) (b .0)) >>= λ ps. give (b .0, b .1, ps)) k ts
       ∙ same-on burst (λ b us.
-      same-after (exec (b .0)) (λ q. patterns e (b .0) >>= λ ps. give (b .0, b .1, ps)) k us
-      ∙ same-on (exec (b .0)) (λ q. same-after (patterns e (b .0)) (λ ps. give (b .0, b .1, ps)) k) us) ts
+      same-after (exec (b .0)) (λ q. eachOnce (b .0 .word) (patterns (forPatterns e) (b .0)) >>= λ ps. give (b .0, b .1, ps)) k us
+      ∙ same-on (exec (b .0)) (λ q. same-after (eachOnce (b .0 .word) (patterns (forPatterns e) (b .0))) (λ ps. give (b .0, b .1, ps)) k) us) ts
 
 pub document-blocks : Same blocks document
 unfolding blocks documentUpTo
@@ -127,13 +129,13 @@ pub record Ending (e : Env) (ts : Toks) (y : Tok × List Tok × Decls) (us : Tok
   pub exec-end : ℕ
   pub burst-read : burst ts ≡ ok (y .0, y .1) exec-at
   pub exec-read : exec (y .0) exec-at ≡ ok exec-end patterns-at
-  pub patterns-read : patterns e (y .0) patterns-at ≡ ok (y .2) us
+  pub patterns-read : patterns (forPatterns e) (y .0) patterns-at ≡ ok (y .2) us
 
 pub ending-parts : (e : Env) (ts : Toks) → Leads (ending e) ts (Ending e ts)
 unfolding ending
 ending-parts e ts =
     leads-bind _ _ λ b bs b-is. leads-bind _ _ λ q qs q-is. leads-bind _ _ λ ps us p-is.
-    leads-give _ (record { exec-at = bs; patterns-at = qs; exec-end = q; burst-read = b-is; exec-read = q-is; patterns-read = p-is })
+    leads-give _ (record { exec-at = bs; patterns-at = qs; exec-end = q; burst-read = b-is; exec-read = q-is; patterns-read = once-ok _ _ qs p-is })
 
 -- each behind the one before
 unfoldable pub parts-of : {ts us vs ws : Toks} {x : Names × Names × Tables} {e : Env} {y : Tok × List Tok × Decls} → declarations ts ≡ ok x us
@@ -150,7 +152,9 @@ parts-of {ts} {us} {vs} {ws} {x} {e} {y} d-is b-is e-is =
       exec-at = n .exec-at;
       patterns-at = n .patterns-at;
       names = x .1;
-      env = e;
+      bodied = e;
+      env = forPatterns e;
+      env-is = refl;
       burst-name = y .0;
       opening-end = d .opening-end;
       exec-end = n .exec-end;

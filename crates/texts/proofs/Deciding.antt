@@ -1,5 +1,5 @@
 -- From what was read to what is decided: a text that 1 to 16 leave was read, so that the tables hold it; and the numbers that are told of it.
-use Prim.Native.Nat.{ℕ}
+use Prim.Native.Nat.{ℕ, _≤_}
 use native.Mathlib.Omega.{arith}
 use mathlib.Core.Path.{_≡_, refl, sym, ap, _∙_}
 use mathlib.Core.Bool.{Bool, true, false}
@@ -7,7 +7,8 @@ use mathlib.Core.Option.{Option, none, some}
 use mathlib.Core.List.{List, []}
 use lib.Dec.{eqb, leb}
 use lib.ListN.{length}
-use borrow.Author.Tests.{eqb-true, eqb-false, leb-true}
+use borrow.Author.Tests.{eqb-true, eqb-false, leb-true, leb-false}
+use Rattle.tokens.specs.Refusals.{textMost}
 use Rattle.tokens.specs.Tokens.{faultOf}
 use Rattle.meaning.specs.Bounds.{sizeMost, cyclesMost}
 use Rattle.meaning.specs.Body.{Body}
@@ -29,33 +30,52 @@ use Rattle.texts.specs.Run.{Tells, soundOf, ReadAs}
 use Rattle.texts.specs.declared.Parts.{Parts}
 use Rattle.texts.specs.declared.Total.{Total}
 use Rattle.texts.specs.declared.Verdict.{Verdict}
+use Rattle.texts.proofs.Ends.{fault-long}
 use Rattle.texts.proofs.Sounds.{sound-fault, sound-refused, sound-runs}
 
-module _ {text places lists tplaces waves book rows list : List ℕ} {w : Watch} {r : Parts} (h : Reads text w places lists tplaces waves book rows list r) where
+-- a text that 1 to 16 leave is not too long
+short-sound : (text : List ℕ) {x : Sound} → sound text ≡ given x → length text ≤ textMost
+short-sound text e = by (leb (length text) textMost) refl
+  where
+    by : (b : Bool) → leb (length text) textMost ≡ b → length text ≤ textMost
+    by true f = leb-true (length text) textMost f
+    by false f =
+        let q = sym e ∙ sound-fault text (fault-long text (leb-false (length text) textMost f)) in
+        let z : _≡_ {A = ℕ} 0 1 = cc in
+        absurd (omega arith)
+
+module _ {text places lists tplaces waves book rows list : List ℕ} {w : Watch} {r : Parts}
+    (all : length text ≤ textMost → Reads text w places lists tplaces waves book rows list r) where
   -- what was read, or anything where reading was refused
   abbrev Held : Type 0
   Held =
       (d : Read)
-      × ReadAs text book list r d
-      × (r .cursor .no ≡ 0 → Tabled text places lists tplaces waves book rows list r d × Watched text w (r .found) (r .place) (tableAt (d .tables) (w .table)))
+      × (length text ≤ textMost → ReadAs text book list r d)
+      × (length text ≤ textMost → r .cursor .no ≡ 0 → Tabled text places lists tplaces waves book rows list r d × Watched text w (r .found) (r .place) (tableAt (d .tables) (w .table)))
+
+  nothing : Read
+  nothing = record { signals = []; tables = []; listed = []; patterns = [] }
 
   pub held : Held
-  held = by (eqb (r .cursor .no) 0) refl
+  held = by (leb (length text) textMost) refl (eqb (r .cursor .no) 0) refl
     where
-      by : (b : Bool) → eqb (r .cursor .no) 0 ≡ b → Held
-      by true e =
+      by : (s : Bool) → leb (length text) textMost ≡ s → (b : Bool) → eqb (r .cursor .no) 0 ≡ b → Held
+      by false f b e = let long = leb-false (length text) textMost f in (nothing, λ short. absurd (omega (arith, long, short)), λ short. absurd (omega (arith, long, short)))
+      by true f true e =
+          let h = all (leb-true (length text) textMost f) in
           let x = h .reads (eqb-true (r .cursor .no) 0 e) in
           let t = x .2 in (
             x .0,
-            record {
+            λ short. record {
               refuses = h .refuses;
               reads = λ z. record { read = x .1; listed-are = t .listed-are; patterns-are = t .patterns-are; patterns-counted = t .patterns-counted };
             },
-            λ z. (t, x .3),
+            λ short z. (t, x .3),
           )
-      by false e =
+      by true f false e =
+          let h = all (leb-true (length text) textMost f) in
           let off = eqb-false (r .cursor .no) 0 e in
-          (record { signals = []; tables = []; listed = []; patterns = [] }, record { refuses = h .refuses; reads = λ z. absurd (off z) }, λ z. absurd (off z))
+          (nothing, λ short. record { refuses = h .refuses; reads = λ z. absurd (off z) }, λ short z. absurd (off z))
 
   -- a text that could not be read is refused, whatever its bytes
   read-sound : {x : Sound} → sound text ≡ given x → r .cursor .no ≡ 0
@@ -64,7 +84,7 @@ module _ {text places lists tplaces waves book rows list : List ℕ} {w : Watch}
       by : (b : Bool) → eqb (r .cursor .no) 0 ≡ b → (o : Option (ℕ × ℕ)) → faultOf text ≡ o → r .cursor .no ≡ 0
       by true f o g = eqb-true (r .cursor .no) 0 f
       by false f none g =
-          let q = sym e ∙ sound-refused text g (h .refuses (eqb-false (r .cursor .no) 0 f)) in
+          let q = sym e ∙ sound-refused text g (all (short-sound text e) .refuses (eqb-false (r .cursor .no) 0 f)) in
           let z : _≡_ {A = ℕ} 0 1 = cc in
           absurd (omega arith)
       by false f (some p) g = let q = sym e ∙ sound-fault text g in let z : _≡_ {A = ℕ} 0 1 = cc in absurd (omega arith)
@@ -76,13 +96,14 @@ module _ {text places lists tplaces waves book rows list : List ℕ} {w : Watch}
         refuses = t .refuses;
         finds = λ z. (
             let x = t .finds z in
-            let k = held .2 (read-sound (x .1)) in
+            let k = held .2 (short-sound text (x .1)) (read-sound (x .1)) in
             record { it = soundOf (held .0) (x .0); is = x .1; tabled = k .0; measured = x .2; watched = k .1 });
       }
 
   -- what was noted of it is noted of what is left
-  pub notes-sound : {used : List ℕ} {t : Total} → NotesRead text used r → NotesSound text used (record { no = t .no; place = t .place; parts = r; total = t .measure })
-  notes-sound n = record { noted = λ x e. (let k = sound-runs text e in n .noted (read-sound e) (x .read) (k .rest) (k .read)) }
+  pub notes-sound : {used : List ℕ} {t : Total} → (length text ≤ textMost → NotesRead text used r)
+      → NotesSound text used (record { no = t .no; place = t .place; parts = r; total = t .measure })
+  notes-sound n = record { noted = λ x e. (let k = sound-runs text e in n (short-sound text e) .noted (read-sound e) (x .read) (k .rest) (k .read)) }
 
 -- ---- the numbers that are told
 

@@ -16,7 +16,9 @@ use Rattle.meaning.specs.Reader.{Res, Reader, ok, _>>=_, ahead, whileF, while}
 use Rattle.meaning.specs.Groups.{groups}
 use Rattle.meaning.specs.Statements.{Env}
 use Rattle.meaning.specs.Document.{macroDefs, procedures, bodies, pattern, over, patterns, Read, document, documentUpTo}
+use Rattle.meaning.specs.Labels.{eachOnce}
 use Rattle.meaning.proofs.Gives.{bind-ok}
+use Rattle.meaning.proofs.Once.{once-ok}
 use Rattle.meaning.proofs.Takes.{Takes}
 use Rattle.held.proofs.Parts.{parts}
 use Rattle.held.proofs.Places.{rest-stream}
@@ -50,6 +52,9 @@ unfolding patterns
 leaves-patterns e b =
     leaves-bind _ _ (moves-leaves (moves-pattern e b [])) (leaves-while (pattern e b) (λ ps. moves-leaves (moves-pattern e b ps)) _)
 
+leaves-once : {A : Type 0} (burst : List ℕ) (m : Reader A) → Leaves m → Leaves (eachOnce burst m)
+leaves-once burst m h = record { rest = λ ts a us e. h .rest ts a us (once-ok burst m ts e) }
+
 leaves-document : Leaves document
 unfolding documentUpTo
 leaves-document =
@@ -62,7 +67,7 @@ leaves-document =
     leaves-bind _ _ (leaves-bodies _) λ e.
     leaves-bind _ _ (moves-leaves moves-burst) λ x.
     leaves-bind _ _ (moves-leaves (moves-exec _)) λ q.
-    leaves-bind _ _ (leaves-patterns e _) λ ps.
+    leaves-bind _ _ (leaves-once _ _ (leaves-patterns _ _)) λ ps.
     leaves-give _
 
 -- ---- and the last one leaves nothing

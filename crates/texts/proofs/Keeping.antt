@@ -70,6 +70,7 @@ module _ {text places lists tplaces book book′ rows : List ℕ} {known : Known
         macros-counted = s .macros-counted;
         procs-counted = s .procs-counted;
         few-bodies = s .few-bodies;
+        pattern-is = s .pattern-is;
         macros-are = stay 0 (e .macros) (omega (arith, s .macros-counted, s .few-bodies)) (s .macros-are);
         procs-are = stay firstProcedure (e .procs) (omega (arith, s .procs-counted, s .few-bodies)) (s .procs-are);
       }

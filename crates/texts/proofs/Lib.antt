@@ -4,6 +4,7 @@ pub mod Sounds
 pub mod Runs
 mod Judging
 mod Keeping
+mod Naming
 mod Blocks
 mod Tabling
 pub mod Deciding

@@ -10,6 +10,7 @@ use Rattle.tokens.specs.Tokens.{toks}
 use Rattle.meaning.specs.Bounds.{tablesMost}
 use Rattle.meaning.specs.Reader.{ok, give}
 use Rattle.meaning.specs.Signals.{Names}
+use Rattle.meaning.specs.Statements.{forPatterns}
 use Rattle.meaning.specs.Document.{bodies, Read, document}
 use Rattle.meaning.specs.Meaning.{firsts, tableAt}
 use Rattle.held.specs.Held.{All}
@@ -102,7 +103,7 @@ module _ {text places lists tplaces waves : List ℕ} {c a : Cursor} {signals na
 
     -- before any macro or procedure
     pub describes-first : {book rows : List ℕ} → length book ≡ bookLength → length rows ≡ rowsLength
-        → Describes text places lists tplaces book rows (record { names = names; tables = tables; macros = 0; procs = 0 }) (firstEnv ns (d .it))
+        → Describes text places lists tplaces book rows (record { names = names; tables = tables; macros = 0; procs = 0; pattern = false }) (firstEnv ns (d .it))
     unfolding Listed
     describes-first long rows-long =
         let k = known-signals .declared in
@@ -121,6 +122,7 @@ module _ {text places lists tplaces waves : List ℕ} {c a : Cursor} {signals na
           macros-counted = refl;
           procs-counted = refl;
           few-bodies = omega arith;
+          pattern-is = refl;
           macros-are = tt;
           procs-are = tt;
         }
@@ -148,9 +150,9 @@ module _ {text places lists tplaces waves : List ℕ} {c a : Cursor} {signals na
         pub reads-all : {book′ rows′ list used′ : List ℕ} {n : Ended} → length waves ≡ tablesMost * tableSize
             → Makes text b (ending (f .it)) (n .cursor) (Ends text places lists tplaces book′ rows′ list known n (f .it) used used′)
             → Reads text w places lists tplaces waves book′ rows′ list
-            (record { cursor = n .cursor; signals = signals; known = known; listed = n .listed; patterns = n .patterns; found = found; place = place })
+            (record { cursor = n .cursor; signals = signals; known = n .known; listed = n .listed; patterns = n .patterns; found = found; place = place })
         unfolding blocks parts-of Listed
-        reads-all {n = n} long g =
+        reads-all {book′ = book′} {rows′ = rows′} {n = n} long g =
             reads-from s (then _ (d .goes) (then _ (f .goes) (then _ (g .goes) given)))
             (λ end.
             let live = alive-before (g .goes) end in
@@ -160,8 +162,8 @@ module _ {text places lists tplaces waves : List ℕ} {c a : Cursor} {signals na
               record {
                 rest = stream text (n .cursor);
                 parts = parts-of (ap declarations (sym (s .there)) ∙ read (d .goes) on .gave) (read (f .goes) live .gave) (read (g .goes) end .gave);
-                describes = e .patterned .describes;
-                held = rw (tables-same live) (d .held on);
+                describes = subst (λ (k : Known). Describes text places lists tplaces book′ rows′ k (forPatterns (f .it))) (sym (e .known-is)) (e .patterned .describes);
+                held = rw (e .known-is, tables-same live) (d .held on);
                 waves-long = long;
                 signals-are = refl;
                 few-signals = omega (arith, k .signals .few);
@@ -180,8 +182,11 @@ module _ {text places lists tplaces waves : List ℕ} {c a : Cursor} {signals na
         pub notes-all : {book′ rows′ list used′ : List ℕ} {n : Ended} {found : Bool} {place : ℕ}
             → Makes text b (ending (f .it)) (n .cursor) (Ends text places lists tplaces book′ rows′ list known n (f .it) used used′)
             → NotesRead text used′
-            (record { cursor = n .cursor; signals = signals; known = known; listed = n .listed; patterns = n .patterns; found = found; place = place })
+            (record { cursor = n .cursor; signals = signals; known = n .known; listed = n .listed; patterns = n .patterns; found = found; place = place })
         unfolding blocks All
         notes-all g =
             notes-from s (then _ (d .goes) (then _ (f .goes) (then _ (g .goes) given)))
-            (λ end. g .held end .patterned .noted (f .held (alive-before (g .goes) end) .knows (record { macros = tt; procs = tt })) .1)
+            (λ end.
+            let e = g .held end in
+            let k = f .held (alive-before (g .goes) end) .knows (record { macros = tt; procs = tt }) in
+            rw (e .known-is) (e .patterned .noted (record { macros = k .macros; procs = k .procs }) .1))

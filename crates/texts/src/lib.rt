@@ -69,11 +69,12 @@ struct Counted {
     count: usize,
 }
 
-// The blocks behind the bodies: the cursor behind them, how many names the burst lists, and how many patterns there are.
+// The blocks behind the bodies: the cursor behind them, how many names the burst lists, how many patterns there are, and what their statements know.
 struct Ended {
     cursor: Cursor,
     listed: usize,
     patterns: usize,
+    known: Known,
 }
 
 // What refuses a text, 0 for nothing, and its place; else the measure of the listed patterns as one run.
@@ -193,7 +194,7 @@ fn patterns<'a>(
 
 // ---- all blocks
 
-// PatternBurst, PatternExec and the patterns.
+// PatternBurst, PatternExec and the patterns, whose names and X names differ. (A text above 65,536 bytes is refused for that.)
 fn ending<'a>(
     text: &'a [u8],
     c: Cursor,
@@ -207,7 +208,7 @@ fn ending<'a>(
     used: &mut [u8],
 ) -> Ended
     requires { ⌜ Described (now text) (now places) (now lists) (now tplaces) (now book) (now rows) known × (length (now list) ≡ listLength) × (length (now used) ≡ tableSize) ⌝ }
-    ensures { λ r. ⌜ ((e : Env) → Describes (now (text .entry)) (now (places .entry)) (now (lists .entry)) (now (tplaces .entry)) (now (book .entry)) (now (rows .entry)) known e → Makes (now (text .entry)) c (endingDue e) (r .cursor) (Ends (now (text .entry)) (now (places .entry)) (now (lists .entry)) (now (tplaces .entry)) (now (book .exit)) (now (rows .entry)) (now (list .exit)) known r e (now (used .entry)) (now (used .exit)))) × Grows (now (used .entry)) (now (used .exit)) ⌝ }
+    ensures { λ r. ⌜ (length (now (text .entry)) ≤ textMost → (e : Env) → Describes (now (text .entry)) (now (places .entry)) (now (lists .entry)) (now (tplaces .entry)) (now (book .entry)) (now (rows .entry)) known e → Makes (now (text .entry)) c (endingDue e) (r .cursor) (Ends (now (text .entry)) (now (places .entry)) (now (lists .entry)) (now (tplaces .entry)) (now (book .exit)) (now (rows .entry)) (now (list .exit)) known r e (now (used .entry)) (now (used .exit)))) × Grows (now (used .entry)) (now (used .exit)) ⌝ }
 {
     let n = bursts::burst(text, c, list);
     let a = n.cursor;
@@ -220,12 +221,21 @@ fn ending<'a>(
     measures::keep(book, measures::BODIES, name, 0, measures::nothing());
     let x = bursts::exec(text, a, n.at, n.end);
     let b = x.cursor;
-    let p = patterns(text, b, places, lists, tplaces, book, rows, known, used);
-    let cursor = p.cursor;
+    let inside = Known {
+        names: known.names,
+        tables: known.tables,
+        macros: known.macros,
+        procs: known.procs,
+        pattern: true,
+    };
+    let p = patterns(text, b, places, lists, tplaces, book, rows, inside, used);
+    let all = p.cursor;
+    let cursor = labels::each_once(text, words::bytes_of(text, n.at, n.end), b, all);
     Ended {
         cursor,
         listed: n.count,
         patterns: p.count,
+        known: inside,
     }
 }
 
@@ -244,7 +254,7 @@ fn stopped(cursor: Cursor, known: Known) -> Parts
     }
 }
 
-// All of them. Where one waveform stands that is wanted is watched for. What the statements assign is noted.
+// All of them, of a text of at most 65,536 bytes. Where one waveform stands that is wanted is watched for. What the statements assign is noted.
 pub fn document(
     text: &[u8],
     places: &mut [usize],
@@ -258,7 +268,7 @@ pub fn document(
     used: &mut [u8],
 ) -> Parts
     requires { ⌜ Blank (now places) (now lists) (now tplaces) (now waves) × (length (now book) ≡ bookLength) × (length (now rows) ≡ rowsLength) × (length (now list) ≡ listLength) × (length (now used) ≡ tableSize) ⌝ }
-    ensures { λ r. ⌜ Reads (now (text .entry)) watch (now (places .exit)) (now (lists .exit)) (now (tplaces .exit)) (now (waves .exit)) (now (book .exit)) (now (rows .exit)) (now (list .exit)) r × NotesRead (now (text .entry)) (now (used .exit)) r ⌝ }
+    ensures { λ r. ⌜ (length (now (text .entry)) ≤ textMost → Reads (now (text .entry)) watch (now (places .exit)) (now (lists .exit)) (now (tplaces .exit)) (now (waves .exit)) (now (book .exit)) (now (rows .exit)) (now (list .exit)) r) × (length (now (text .entry)) ≤ textMost → NotesRead (now (text .entry)) (now (used .exit)) r) ⌝ }
 {
     let c = words::cursor_at(text, 0);
     let d = declared::declarations(text, c, places, lists, tplaces, waves, watch);
@@ -268,6 +278,7 @@ pub fn document(
         tables: d.tables,
         macros: 0,
         procs: 0,
+        pattern: false,
     };
     if a.no != 0 {
         return stopped(a, first);
@@ -291,10 +302,11 @@ pub fn document(
         used,
     );
     let cursor = e.cursor;
+    let inside = e.known;
     Parts {
         cursor,
         signals: d.signals,
-        known,
+        known: inside,
         listed: e.listed,
         patterns: e.patterns,
         found: d.found,
@@ -386,8 +398,8 @@ fn judged<'a>(text: &'a [u8], book: &'a [usize], list: &'a [usize], parts: Parts
 
 // What refuses a text of which these parts were read.
 fn refusal<'a>(text: &'a [u8], book: &'a [usize], list: &'a [usize], parts: Parts) -> Total
-    requires { ⌜ (length (now book) ≡ bookLength) × (length (now list) ≡ listLength) × (parts .cursor .no ≡ 0 → (parts .listed ≤ listMost) × (parts .patterns ≤ patternsMost)) ⌝ }
-    ensures { λ r. ⌜ ((d : Read) → ReadAs (now (text .entry)) (now (book .entry)) (now (list .entry)) parts d → Tells (sound (now (text .entry))) (soundOf d) r) ⌝ }
+    requires { ⌜ (length (now book) ≡ bookLength) × (length (now list) ≡ listLength) × (length (now text) ≤ textMost → parts .cursor .no ≡ 0 → (parts .listed ≤ listMost) × (parts .patterns ≤ patternsMost)) ⌝ }
+    ensures { λ r. ⌜ ((d : Read) → (length (now (text .entry)) ≤ textMost → ReadAs (now (text .entry)) (now (book .entry)) (now (list .entry)) parts d) → Tells (sound (now (text .entry))) (soundOf d) r) ⌝ }
 {
     if TEXT_MOST < text.len() {
         return refused(TOO_LONG, 0);

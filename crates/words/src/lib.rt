@@ -247,7 +247,7 @@ fn reserved_short(w: &[u8]) -> bool
 {
     let n = w.len();
     match n {
-        1 => equal(w, b"V") | (equal(w, b"W") | equal(w, b"C")),
+        1 => equal(w, b"V") | (equal(w, b"W") | (equal(w, b"C") | equal(w, b"X"))),
         2 => equal(w, b"In"),
         3 => equal(w, b"Out"),
         4 => equal(w, b"STIL") | (equal(w, b"Call") | equal(w, b"Loop")),

@@ -5,7 +5,6 @@ use super::random::Random;
 use super::tokens::{render, Tokens};
 use crate::bounds::{MAX_CYCLES, MAX_TEXT};
 use crate::document::Document;
-use crate::requests::REPORTS;
 use crate::statements::{Act, Range};
 use crate::tokens::Token;
 
@@ -62,7 +61,7 @@ pub fn marked(seed: u64) -> Vec<u8> {
     if random.percent(3) {
         list += "x1; ";
     }
-    let odd = |random: &mut Random, rest: &'static str| if REPORTS && random.percent(2) { rest } else { "" };
+    let odd = |random: &mut Random, rest: &'static str| if random.percent(2) { rest } else { "" };
     let (signal, body) = (odd(random, "X In;"), odd(random, "X x0;"));
     let patterns = patterns.iter().enumerate().map(|(number, body)| format!("Pattern p{number} {{ {body}}}\n"));
     format!(
@@ -97,9 +96,6 @@ impl Marked {
     }
 
     fn mark(&mut self) -> String {
-        if !REPORTS {
-            return String::new();
-        }
         if self.random.percent(self.slips) {
             return format!("{} ", self.random.pick(&SLIPS));
         }

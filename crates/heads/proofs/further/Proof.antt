@@ -1,8 +1,8 @@
--- `further` meets its contract: the bodies of the word's kind, if it uses one, and else the last heads.
+-- `further` meets its contract: the bodies of the word's kind, if it uses one, a label, or else the last heads.
 use borrow.Author.Needs.{needs}
 use Rattle.tokens.specs.Written.{bytes}
 use Rattle.heads.proofs.ByNumber.{of-part}
-use Rattle.heads.proofs.Heads.{body-read, no-body-read}
+use Rattle.heads.proofs.Heads.{body-read, no-body-read, named-read, unnamed-read}
 use Rattle.heads.proofs.further.Statement.{statement}
 use Rattle.heads.proofs.further.Tie as tie
 
@@ -46,16 +46,35 @@ returns c =
     body-read h (start k .args .d) (start k .args .may) _ (k .before .before .before .before .equal .ensures) (k .before .before .equal2 .ensures) (k .before .if1 .taken) (k .part-of .ensures)
     (λ kind ds o. c .before .before .before .before .used .ensures kind ds (start k .args .known .tables) o)
 
-shift-or-end-requires : tie.Need-shift-or-end-requires
-shift-or-end-requires c κs = search needs
+slice-aggregate-equal-3 : tie.Need-slice-aggregate-equal-3
+slice-aggregate-equal-3 c = search needs
+
+equal-requires-3 : tie.Need-equal-requires-3
+equal-requires-3 c κs = search needs
+
+labelling-requires : tie.Need-labelling-requires
+labelling-requires c κs = search needs
 
 returns-2 : tie.Need-returns-2
 unfolding bytes
 returns-2 c =
-    let begin = c .before .before .before .before .before .before .before .before .before .before .before .before .before .before in
+    let k = c .before .before .before .before in
+    let begin = k .before .before .before .before .before .before .before .before .before .before .before .before .before in
     λ tplaces e h.
-    no-body-read h (begin .args .d) (begin .args .may) _ (c .before .before .before .before .equal .ensures) (c .before .before .equal2 .ensures) (c .before .if1 .left)
-    (c .shift-or-end .ensures (begin .args .known .tables) _ _ _ _)
+    no-body-read h (begin .args .d) (begin .args .may) _ (k .before .before .before .equal .ensures) (k .before .equal2 .ensures) (k .if1 .left)
+    (named-read h (begin .args .d) (begin .args .may) _ (c .before .before .equal3 .ensures) (c .before .if2 .taken) (c .labelling .ensures (begin .args .known .tables) _ _ _ _ (begin .pre .2)))
+
+shift-or-end-requires : tie.Need-shift-or-end-requires
+shift-or-end-requires c κs = search needs
+
+returns-3 : tie.Need-returns-3
+unfolding bytes
+returns-3 c =
+    let k = c .before .before .before .before in
+    let begin = k .before .before .before .before .before .before .before .before .before .before .before .before .before in
+    λ tplaces e h.
+    no-body-read h (begin .args .d) (begin .args .may) _ (k .before .before .before .equal .ensures) (k .before .equal2 .ensures) (k .if1 .left)
+    (unnamed-read h (begin .args .d) (begin .args .may) _ (c .before .before .equal3 .ensures) (c .before .if2 .left) (c .shift-or-end .ensures (begin .args .known .tables) _ _ _ _))
 
 pub further-spec : {M : Type 1} → statement M
 further-spec =
@@ -70,5 +89,9 @@ further-spec =
     same-length
     same-length-2
     returns
+    slice-aggregate-equal-3
+    equal-requires-3
+    labelling-requires
+    returns-2
     shift-or-end-requires
-    returns-2)
+    returns-3)

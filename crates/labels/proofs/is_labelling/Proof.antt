@@ -1,7 +1,7 @@
 -- `is_labelling` meets its contract: two words are compared.
 use Rattle.tokens.specs.Written.{bytes}
 use Rattle.words.proofs.Words.{or-both}
-use Rattle.labels.specs.Labels.{labelling}
+use Rattle.meaning.specs.Labels.{labelling}
 use borrow.Author.Needs.{needs}
 use Rattle.labels.proofs.is_labelling.Statement.{statement}
 use Rattle.labels.proofs.is_labelling.Tie as tie

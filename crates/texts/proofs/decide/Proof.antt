@@ -14,8 +14,8 @@ refusal-requires c κs =
     let pre′ = c .before .before .before .before .before .before .before .before .before .before .before .before .before .before .before .before .before .before .before .before .before .before .before .before .before .before .before .before .before .before .before .before .before .before .before .before .pre in (
       document′ .kept .1 .1 .1 .1 .1 .0 ∙ pre′ .1,
       document′ .kept .1 .1 .1 .1 .1 .1 .1 .0 ∙ pre′ .3,
-      λ z.
-          let tabled = document′ .ensures .0 .reads z .2 in (tabled .few-listed, tabled .few-patterns),
+      λ short z.
+          let tabled = document′ .ensures .0 short .reads z .2 in (tabled .few-listed, tabled .few-patterns),
     )
 
 same-length : tie.Need-same-length

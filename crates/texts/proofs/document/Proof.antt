@@ -32,7 +32,7 @@ returns c =
     let cursor-at′ = c .before .before .before .before .before .before .before .before .before .before .before .before .before .before .before .before .before .cursor-at in
     let declarations′ = c .before .before .before .before .before .before .before .before .before .before .before .before .declarations in
     let off = ne-eqb _ _ (c .before .if1 .taken) in
-    (reads-stopped (cursor-at′ .ensures) (declarations′ .ensures) (c .stopped .ensures) off, notes-stopped (c .stopped .ensures) off)
+    (λ short. reads-stopped (cursor-at′ .ensures) (declarations′ .ensures) (c .stopped .ensures) off, λ short. notes-stopped (c .stopped .ensures) off)
 
 bodies-requires : tie.Need-bodies-requires
 bodies-requires c κs =
@@ -83,10 +83,10 @@ returns-2 c =
     let pre′ = c .before .before .before .before .before .before .before .before .before .before .before .before .before .before .before .before .before .before .before .before .before .before .before .before .before .before .before .before .before .before .before .before .before .before .before .before .before .before .before .before .before .before .before .before .pre in
     let on = eq-eqb _ _ (if1′ .left) in
     let off = ne-eqb _ _ (c .before .if2 .taken) in (
-      bodies-stopped (cursor-at′ .ensures) (declarations′ .ensures) on
+      λ short. bodies-stopped (cursor-at′ .ensures) (declarations′ .ensures) on
           (bodies′ .ensures .2 _ (describes-first (cursor-at′ .ensures) (declarations′ .ensures) on (pre′ .1) (pre′ .2)))
           (c .stopped2 .ensures) off,
-      notes-stopped (c .stopped2 .ensures) off,
+      λ short. notes-stopped (c .stopped2 .ensures) off,
     )
 
 ending-requires : tie.Need-ending-requires
@@ -102,26 +102,29 @@ ending-requires c κs =
 
 same-length-12 : tie.Need-same-length-12
 same-length-12 c =
-    let declarations′ = c .before .before .before .before .before .before .before .before .before .before .before .before .before .before .before .before .before .before .before .before .before .before .before .before .before .before .before .before .before .before .before .before .before .before .before .before .before .before .before .before .before .before .before .declarations in
+    let declarations′ = c .before .before .before .before .before .before .before .before .before .before .before .before .before .before .before .before .before .before .before .before .before .before .before .before .before .before .before .before .before .before .before .before .before .before .before .before .before .before .before .before .before .before .before .before .declarations in
     declarations′ .kept .1 .1 .0
 
 same-length-13 : tie.Need-same-length-13
 same-length-13 c =
-    let declarations′ = c .before .before .before .before .before .before .before .before .before .before .before .before .before .before .before .before .before .before .before .before .before .before .before .before .before .before .before .before .before .before .before .before .before .before .before .before .before .before .before .before .before .before .before .declarations in
+    let declarations′ = c .before .before .before .before .before .before .before .before .before .before .before .before .before .before .before .before .before .before .before .before .before .before .before .before .before .before .before .before .before .before .before .before .before .before .before .before .before .before .before .before .before .before .before .before .declarations in
     declarations′ .kept .1 .1 .1 .0
 
 same-length-14 : tie.Need-same-length-14
 same-length-14 c =
-    let declarations′ = c .before .before .before .before .before .before .before .before .before .before .before .before .before .before .before .before .before .before .before .before .before .before .before .before .before .before .before .before .before .before .before .before .before .before .before .before .before .before .before .before .before .before .before .declarations in
+    let declarations′ = c .before .before .before .before .before .before .before .before .before .before .before .before .before .before .before .before .before .before .before .before .before .before .before .before .before .before .before .before .before .before .before .before .before .before .before .before .before .before .before .before .before .before .before .before .declarations in
     declarations′ .kept .1 .1 .1 .1 .0
 
 same-length-15 : tie.Need-same-length-15
 same-length-15 c =
-    let declarations′ = c .before .before .before .before .before .before .before .before .before .before .before .before .before .before .before .before .before .before .before .before .before .before .before .before .before .before .before .before .before .before .before .before .before .before .before .before .before .before .before .before .before .before .before .declarations in
+    let declarations′ = c .before .before .before .before .before .before .before .before .before .before .before .before .before .before .before .before .before .before .before .before .before .before .before .before .before .before .before .before .before .before .before .before .before .before .before .before .before .before .before .before .before .before .before .before .declarations in
     declarations′ .kept .1 .1 .1 .1 .1 .0
 
 same-length-16 : tie.Need-same-length-16
-same-length-16 c = search needs
+same-length-16 c =
+    let ending′ = c .before .before .before .before .before .before .before .before .ending in
+    let bodies′ = c .before .before .before .before .before .before .before .before .before .before .before .before .before .before .before .before .before .before .before .before .before .before .before .before .before .before .bodies in
+    ending′ .kept .1 .1 .1 .1 .1 .0 ∙ bodies′ .kept .1 .1 .1 .1 .1 .0
 
 same-length-17 : tie.Need-same-length-17
 same-length-17 c = search needs
@@ -134,18 +137,18 @@ same-length-19 c = search needs
 
 returns-3 : tie.Need-returns-3
 returns-3 c =
-    let if1′ = c .before .before .before .before .before .before .before .before .before .before .before .before .before .before .before .before .before .before .before .before .before .before .before .before .before .before .before .before .before .before .before .before .if1 in
-    let bodies′ = c .before .before .before .before .before .before .before .before .before .before .before .before .before .before .before .before .before .before .before .before .before .before .before .before .before .bodies in
-    let cursor-at′ = c .before .before .before .before .before .before .before .before .before .before .before .before .before .before .before .before .before .before .before .before .before .before .before .before .before .before .before .before .before .before .before .before .before .before .before .before .before .before .before .before .before .before .before .before .before .before .before .before .cursor-at in
-    let declarations′ = c .before .before .before .before .before .before .before .before .before .before .before .before .before .before .before .before .before .before .before .before .before .before .before .before .before .before .before .before .before .before .before .before .before .before .before .before .before .before .before .before .before .before .before .declarations in
-    let pre′ = c .before .before .before .before .before .before .before .before .before .before .before .before .before .before .before .before .before .before .before .before .before .before .before .before .before .before .before .before .before .before .before .before .before .before .before .before .before .before .before .before .before .before .before .before .before .before .before .before .before .before .before .before .before .before .before .before .before .before .pre in
-    let ending′ = c .before .before .before .before .before .before .before .ending in
-    let if2′ = c .before .before .before .before .before .before .before .before .before .before .before .before .before .before .before .if2 in
+    let if1′ = c .before .before .before .before .before .before .before .before .before .before .before .before .before .before .before .before .before .before .before .before .before .before .before .before .before .before .before .before .before .before .before .before .before .if1 in
+    let bodies′ = c .before .before .before .before .before .before .before .before .before .before .before .before .before .before .before .before .before .before .before .before .before .before .before .before .before .before .bodies in
+    let cursor-at′ = c .before .before .before .before .before .before .before .before .before .before .before .before .before .before .before .before .before .before .before .before .before .before .before .before .before .before .before .before .before .before .before .before .before .before .before .before .before .before .before .before .before .before .before .before .before .before .before .before .before .cursor-at in
+    let declarations′ = c .before .before .before .before .before .before .before .before .before .before .before .before .before .before .before .before .before .before .before .before .before .before .before .before .before .before .before .before .before .before .before .before .before .before .before .before .before .before .before .before .before .before .before .before .declarations in
+    let pre′ = c .before .before .before .before .before .before .before .before .before .before .before .before .before .before .before .before .before .before .before .before .before .before .before .before .before .before .before .before .before .before .before .before .before .before .before .before .before .before .before .before .before .before .before .before .before .before .before .before .before .before .before .before .before .before .before .before .before .before .before .pre in
+    let ending′ = c .before .before .before .before .before .before .before .before .ending in
+    let if2′ = c .before .before .before .before .before .before .before .before .before .before .before .before .before .before .before .before .if2 in
     let on = eq-eqb _ _ (if1′ .left) in
     let f = bodies′ .ensures .2 _ (describes-first (cursor-at′ .ensures) (declarations′ .ensures) on (pre′ .1) (pre′ .2)) in
-    let g = ending′ .ensures .0 (f .it) (f .held (eq-eqb _ _ (if2′ .left)) .describes) in (
-      reads-all (cursor-at′ .ensures) (declarations′ .ensures) on f (declarations′ .kept .1 .1 .1 .1 .1 .0 ∙ pre′ .0 .marks) g,
-      notes-all (cursor-at′ .ensures) (declarations′ .ensures) on f g,
+    let known = f .held (eq-eqb _ _ (if2′ .left)) .describes in (
+      λ short. reads-all (cursor-at′ .ensures) (declarations′ .ensures) on f (declarations′ .kept .1 .1 .1 .1 .1 .0 ∙ pre′ .0 .marks) (ending′ .ensures .0 short (f .it) known),
+      λ short. notes-all (cursor-at′ .ensures) (declarations′ .ensures) on f (ending′ .ensures .0 short (f .it) known),
     )
 
 pub document-spec : {M : Type 1} → statement M

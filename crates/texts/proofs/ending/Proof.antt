@@ -1,8 +1,11 @@
--- `ending` meets its contract: the burst, its exec and the patterns, one behind the other.
+-- `ending` meets its contract: the burst, its exec and the patterns, one behind the other, and each name once.
 use mathlib.Core.Path.{refl}
 use Rattle.tokens.specs.Written.{bytes}
 use Rattle.words.proofs.Flow.{given, then, alive-before}
+use Rattle.meaning.specs.Statements.{forPatterns}
+use Rattle.held.proofs.Grammar.{moves-exec}
 use Rattle.texts.specs.Patterns.{ending as endingDue}
+use Rattle.texts.proofs.Naming.{placed-behind, once-read, once-alive, describes-patterns}
 use Rattle.texts.proofs.Keeping.{burst-kept}
 use borrow.Author.Needs.{needs}
 use Rattle.texts.proofs.ending.Statement.{statement}
@@ -26,13 +29,21 @@ patterns-requires c κs =
     let pre′ = c .before .before .before .before .before .before .before .before .before .before .before .before .before .before .before .before .before .before .before .before .before .before .pre in
     let keep′ = c .before .before .before .before .before .before .keep in
     let nothing′ = c .before .before .before .before .before .before .before .nothing in
-    (record { env = pre′ .0 .env; name = _; patterned = burst-kept (keep′ .ensures) refl refl (nothing′ .ensures) (pre′ .0 .describes) }, pre′ .2)
+    (record { env = forPatterns (pre′ .0 .env); name = _; patterned = burst-kept (keep′ .ensures) refl refl (nothing′ .ensures) (describes-patterns (pre′ .0 .describes)) }, pre′ .2)
+
+bytes-of-requires : tie.Need-bytes-of-requires
+bytes-of-requires c κs = search needs
+
+each-once-requires : tie.Need-each-once-requires
+each-once-requires c κs = search needs
 
 same-length : tie.Need-same-length
 same-length c = search needs
 
 same-length-2 : tie.Need-same-length-2
-same-length-2 c = search needs
+same-length-2 c =
+    let burst′ = c .before .before .before .before .before .before .before .before .before .before .before .before .before .before .before .before .before .before .before .before .burst in
+    burst′ .kept .1 .1 .0
 
 same-length-3 : tie.Need-same-length-3
 same-length-3 c = search needs
@@ -40,21 +51,27 @@ same-length-3 c = search needs
 returns : tie.Need-returns
 unfolding endingDue
 returns c =
-    let patterns′ = c .before .before .before .before .before .patterns in
-    let keep′ = c .before .before .before .before .before .before .before .before .before .before .before .before .keep in
-    let nothing′ = c .before .before .before .before .before .before .before .before .before .before .before .before .before .nothing in
-    let burst′ = c .before .before .before .before .before .before .before .before .before .before .before .before .before .before .before .before .before .before .burst in
-    let exec′ = c .before .before .before .before .before .before .before .before .before .exec in (
-      λ e s.
-          let all = patterns′ .ensures .0 e _ (burst-kept (keep′ .ensures) refl refl (nothing′ .ensures) s) in
+    let each-once′ = c .each-once in
+    let bytes-of′ = c .before .bytes-of in
+    let patterns′ = c .before .before .before .before .before .before .before .patterns in
+    let keep′ = c .before .before .before .before .before .before .before .before .before .before .before .before .before .before .keep in
+    let nothing′ = c .before .before .before .before .before .before .before .before .before .before .before .before .before .before .before .nothing in
+    let burst′ = c .before .before .before .before .before .before .before .before .before .before .before .before .before .before .before .before .before .before .before .before .burst in
+    let exec′ = c .before .before .before .before .before .before .before .before .before .before .before .exec in (
+      λ short e s.
+          let all = patterns′ .ensures .0 (forPatterns e) _ (burst-kept (keep′ .ensures) refl refl (nothing′ .ensures) (describes-patterns s)) in
+          let placed = placed-behind (moves-exec _) (exec′ .ensures) in
           record {
             it = (_, _, all .it);
-            goes = then _ (burst′ .ensures .goes) (then _ (exec′ .ensures) (then _ (all .goes) given));
-            held = λ live. record {
-              patterned = all .held live;
-              listed-are = refl;
-              few-listed = burst′ .ensures .few (alive-before (exec′ .ensures) (alive-before (all .goes) live));
-            };
+            goes = then _ (burst′ .ensures .goes) (then _ (exec′ .ensures) (then _ (once-read _ short placed (bytes-of′ .ensures) (each-once′ .ensures) (all .goes)) given));
+            held = λ live. (
+                let on = once-alive short placed (each-once′ .ensures) live in
+                record {
+                  known-is = refl;
+                  patterned = all .held on;
+                  listed-are = refl;
+                  few-listed = burst′ .ensures .few (alive-before (exec′ .ensures) (alive-before (all .goes) on));
+                });
           },
       patterns′ .ensures .1,
     )
@@ -68,6 +85,8 @@ ending-spec =
     keep-requires
     exec-requires
     patterns-requires
+    bytes-of-requires
+    each-once-requires
     same-length
     same-length-2
     same-length-3

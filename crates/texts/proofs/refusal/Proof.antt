@@ -15,17 +15,20 @@ unread-requires : tie.Need-unread-requires
 unread-requires c κs = search needs
 
 returns-2 : tie.Need-returns-2
-returns-2 c = λ d h. c .unread .ensures (c .before .if2 .taken) (h .refuses (c .before .if2 .taken)) d
+returns-2 c =
+    let if1′ = c .before .before .before .before .if1 in
+    λ d h. c .unread .ensures (c .before .if2 .taken) (h (if1′ .left) .refuses (c .before .if2 .taken)) d
 
 judged-requires : tie.Need-judged-requires
 judged-requires c κs =
     let pre′ = c .before .before .before .before .before .before .before .pre in
-    let pre = pre′ in (pre .0, pre .1, pre .2 (c .if2 .left) .0, pre .2 (c .if2 .left) .1)
+    let if1′ = c .before .before .before .if1 in
+    let few = pre′ .2 (if1′ .left) (c .if2 .left) in (pre′ .0, pre′ .1, few .0, few .1)
 
 returns-3 : tie.Need-returns-3
 returns-3 c =
     let if1′ = c .before .before .before .before .if1 in
-    λ d h. c .judged .ensures (if1′ .left) d (h .reads (c .before .if2 .left))
+    λ d h. c .judged .ensures (if1′ .left) d (h (if1′ .left) .reads (c .before .if2 .left))
 
 pub refusal-spec : {M : Type 1} → statement M
 refusal-spec =

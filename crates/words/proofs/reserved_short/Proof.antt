@@ -56,24 +56,31 @@ slice-aggregate-equal-8 c = search needs
 equal-requires-8 : tie.Need-equal-requires-8
 equal-requires-8 c κs = search needs
 
+slice-aggregate-equal-9 : tie.Need-slice-aggregate-equal-9
+slice-aggregate-equal-9 c = search needs
+
+equal-requires-9 : tie.Need-equal-requires-9
+equal-requires-9 c κs = search needs
+
 returns : tie.Need-returns
 unfolding ofLength among reserved bytes
 returns c =
-    or-both (c .before .before .before .before .equal .ensures) (or-both (c .before .before .equal2 .ensures) (or-last (c .equal3 .ensures)))
-    ∙ reserved-of 1 _ (c .before .before .before .before .before .before .match .keys1)
+    or-both (c .before .before .before .before .before .before .equal .ensures)
+    (or-both (c .before .before .before .before .equal2 .ensures) (or-both (c .before .before .equal3 .ensures) (or-last (c .equal4 .ensures))))
+    ∙ reserved-of 1 _ (c .before .before .before .before .before .before .before .before .match .keys1)
 
 returns-2 : tie.Need-returns-2
 unfolding ofLength among reserved bytes
-returns-2 c = or-last (c .equal4 .ensures) ∙ reserved-of 2 _ (c .before .before .match .keys2)
+returns-2 c = or-last (c .equal5 .ensures) ∙ reserved-of 2 _ (c .before .before .match .keys2)
 
 returns-3 : tie.Need-returns-3
 unfolding ofLength among reserved bytes
-returns-3 c = or-last (c .equal5 .ensures) ∙ reserved-of 3 _ (c .before .before .match .keys3)
+returns-3 c = or-last (c .equal6 .ensures) ∙ reserved-of 3 _ (c .before .before .match .keys3)
 
 returns-4 : tie.Need-returns-4
 unfolding ofLength among reserved bytes
 returns-4 c =
-    or-both (c .before .before .before .before .equal6 .ensures) (or-both (c .before .before .equal7 .ensures) (or-last (c .equal8 .ensures)))
+    or-both (c .before .before .before .before .equal7 .ensures) (or-both (c .before .before .equal8 .ensures) (or-last (c .equal9 .ensures)))
     ∙ reserved-of 4 _ (c .before .before .before .before .before .before .match .keys4)
 
 returns-5 : tie.Need-returns-5
@@ -100,6 +107,8 @@ reserved-short-spec =
     equal-requires-7
     slice-aggregate-equal-8
     equal-requires-8
+    slice-aggregate-equal-9
+    equal-requires-9
     returns
     returns-2
     returns-3

@@ -6,14 +6,9 @@ use mathlib.Core.Option.{Option, none, some}
 use mathlib.Core.List.{List, [], _∷_}
 use Rattle.tokens.specs.Written.{bytes}
 use Rattle.tokens.specs.Tokens.{Tok, stop, toks}
 use Rattle.meaning.specs.Open.{everything}
 use Rattle.meaning.specs.Reader.{Res, ok, refuse}
-use Rattle.labels.specs.Labels
-use Rattle.labels.specs.Labels.{labels, usedTwice, earlier}
-
-unfoldable opened : Unit {0}
-unfolding everything Labels.beginning Labels.parting Labels.labelling Labels.behind Labels.labelled Labels.labelsFrom Labels.labels Labels.taken Labels.usedBy Labels.repeated Labels.usedTwice
-opened = tt
+use Rattle.meaning.specs.Labels.{labels, usedTwice, earlier}
 
 unfoldable pub wordsIn : List Tok → List (List ℕ)
 wordsIn [] = []
@@ -66,7 +61,7 @@ pub edges : answers (
     ∷ told (";" ∷ "1.0" ∷ ";" ∷ []) (some 13)
     ∷ told ("p" ∷ "a" ∷ "aa" ∷ "A" ∷ "B" ∷ []) none
     ∷ []
-unfolding opened answers wordsIn
+unfolding everything answers wordsIn
 edges = refl
 
 -- a name used already at 20, where a reader of numbers refused before it, at it, behind it, or answered; and no name used twice
@@ -78,5 +73,5 @@ pub further-left : _≡_ {A = List (Res ℕ)}
     ∷ earlier none (refuse 4 21)
     ∷ [])
     (refuse 12 19 ∷ refuse 5 20 ∷ refuse 7 20 ∷ refuse 7 20 ∷ refuse 4 21 ∷ [])
-unfolding opened earlier
+unfolding everything
 further-left = refl
