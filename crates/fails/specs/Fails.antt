@@ -8,12 +8,12 @@ use lib.ListN.{length, drop}
 use Rattle.tokens.specs.Written.{same}
 use Rattle.tokens.specs.Tokens.{Tok, toks}
 use Rattle.meaning.specs.Refusals.{noRoom}
-use Rattle.meaning.specs.Reader.{Res, Reader, ok, refuse, _>>=_, _>>_, due, option}
+use Rattle.meaning.specs.Reader.{Res, Reader, ok, refuse, _>>=_, _>>_, give, due, option}
 use Rattle.meaning.specs.Names.{find}
 use Rattle.meaning.specs.Signals.{signals}
 use Rattle.meaning.specs.Groups.{groups}
 use Rattle.meaning.specs.Timing.{timing}
-use Rattle.meaning.specs.Statements.{Decls, Env, numbered}
+use Rattle.meaning.specs.Statements.{Decls, Env, forPatterns, numbered}
 use Rattle.meaning.specs.Document.{Read, bodies, document}
 use Rattle.meaning.specs.Meaning.{Answer, given, refused, answering, Meaning, meaning}
 use Rattle.held.proofs.Parts.{firstEnv}
@@ -56,7 +56,8 @@ declarations = do
   ss ← signals
   ns ← option "SignalGroups" groups ss
   tabs ← timing ns
-  bodies (firstEnv ns tabs)
+  e ← bodies (firstEnv ns tabs)
+  give (forPatterns e)
 
 -- how many of its cycles come before a reference
 unfoldable pub pastIn : Env → Decls → List ℕ → List ℕ → Option ℕ

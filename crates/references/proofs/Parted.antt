@@ -12,12 +12,12 @@ use Rattle.meaning.specs.Reader.{Reader, ok, _>>=_, give, refuseIf, dueOf, oneO
 use Rattle.meaning.specs.Signals.{Names}
 use Rattle.meaning.specs.Data.{assign, assigns, argument, arguments}
 use Rattle.meaning.specs.Body.{looped, shifted, entered, Kind, Body, done, vec, set′, inner}
-use Rattle.meaning.specs.Statements.{Decl, Decls, Env, Head, used, chosen, looping, shiftHead, head, statements, declared}
+use Rattle.meaning.specs.Statements.{Decl, Decls, Env, Head, used, chosen, looping, shiftHead, labelHead, head, statements, declared}
 use Rattle.meaning.specs.Document.{pattern, patterns}
 use Rattle.meaning.proofs.Gives.{bind-ok, give-ok, if-ok}
 use Rattle.meaning.proofs.Choices.{_also_}
 use Rattle.held.specs.Held.{All, HeadAt, Holds}
-use Rattle.held.proofs.Rest.{Rest, all, behind, Leaves, rest-rest, moves-leaves, moves-due, moves-old, moves-new, moves-number, leaves-if, leaves-while}
+use Rattle.held.proofs.Rest.{Rest, all, behind, Leaves, rest-rest, moves-leaves, moves-due, moves-name, moves-old, moves-new, moves-number, leaves-if, leaves-while}
 use Rattle.held.proofs.Grammar.{moves-assign, moves-argument, moves-statements}
 use Rattle.held.proofs.Leads.{Leads, leads-bind, leads-give, leads-if, leads-while}
 use Rattle.held.proofs.Due.{any-is, due-is}
@@ -151,7 +151,7 @@ parts-used k d ns l =
     parts-last _ _ (moves-leaves (moves-old l)) λ x. parts-last _ _ (leaves-if _ _ _) λ u. parts-then _ _ (parts-arguments ns (x .1 .body)) λ a. stays-if _ _ _ _
 
 parts-head : (e : Env) (own : Bool) (d : ℕ) (seen : Bool) → Parts (head e own d seen)
-unfolding head chosen looping shiftHead
+unfolding head chosen looping shiftHead labelHead
 parts-head e own d seen = parts-choose _ (
     entry "V" _ (λ p. parts-then _ _ (parts-assigns (e .names) own) λ a. stays-give _)
     also entry "C" _ (λ p. parts-then _ _ (parts-assigns (e .names) false) λ a. stays-give _)
@@ -159,6 +159,7 @@ parts-head e own d seen = parts-choose _ (
     also entry "Loop" _ (λ p. parts-last _ _ (leaves-if _ _ _) λ u. parts-last _ _ (moves-leaves (moves-number _ _)) λ n. parts-then _ _ (parts-due _ opening) λ q. stays-give _)
     also entry "Macro" _ (λ p. parts-used _ d (e .names) (e .macros))
     also entry "Call" _ (λ p. parts-used _ d (e .names) (e .procs))
+    also entry "X" _ (λ p. parts-last _ _ (leaves-if _ _ _) λ u. parts-last _ _ (moves-leaves moves-name) λ t. parts-then _ _ (parts-due _ ending) λ q. stays-give _)
     also entry "Shift" _ (λ p. parts-last _ _ (leaves-if _ _ _) λ u. parts-last _ _ (leaves-if _ _ _) λ v. parts-then _ _ (parts-due _ opening) λ q. stays-give _)
     also alone "}" _ closing (λ p. stays-give _)
     also tt)
