@@ -15,7 +15,7 @@ use Rattle.meaning.specs.Lists.{has, count}
 use Rattle.meaning.specs.Signals.{Names}
 use Rattle.meaning.specs.Body.{Assigns, Args, mark, assigning, choosing, Kind, macro, procedure, looped, shifted, entered, Body, done, vec, set′, inner, marked, shifting, turns, fits}
 use Rattle.meaning.specs.Data.{assigned, assigns}
-use Rattle.meaning.specs.Statements.{Decl, Decls, Env, Head, ends, vecs, sets, loops, shifts, uses, used, chosen, looping, shiftHead, head}
+use Rattle.meaning.specs.Statements.{Decl, Decls, Env, Head, ends, vecs, sets, loops, shifts, uses, used, chosen, looping, shiftHead, labelHead, head}
 use Rattle.meaning.proofs.Gives.{Gives, gives-bind, gives-after, gives-give, gives-if, gives-choose}
 use Rattle.meaning.proofs.Choices.{_also_}
 use Rattle.held.specs.Held.{freeHead, HeadAt, Holds}
@@ -25,7 +25,7 @@ use Rattle.held.proofs.Only.{Split, head-held}
 use Rattle.words.specs.Cursor.{alive, stream, from, Goes}
 use Rattle.words.specs.declared.Cursor.{Cursor}
 use Rattle.words.proofs.Flow.{from-on, from-stop}
-use Rattle.sets.proofs.Tidy.{TidyBelow}
+use Rattle.sets.proofs.Tidy.{TidyBelow, bare}
 use Rattle.signals.specs.Names.{AllTidy}
 use Rattle.timing.specs.Makes.{Makes}
 use Rattle.assigns.specs.Given.{chars}
@@ -88,7 +88,7 @@ unfolding used
 opens-used t ts k d ns l = leads-bind _ _ λ x vs v. leads-if _ _ _ _ λ c. leads-bind _ _ λ a ws w. leads-if _ _ _ _ λ e. leads-give _ tt
 
 opens : (e : Env) (t : Tok) (ts : Toks) → Leads (freeHead e) (tok t ts) (Opens t ts)
-unfolding head chosen looping shiftHead
+unfolding head chosen looping shiftHead labelHead
 opens e t ts = leads-choose (Opens t ts) t ts _ (
     (λ c. leads-bind _ _ λ a vs v. leads-give _ refl)
     also (λ c. leads-bind _ _ λ a vs v. leads-give _ tt)
@@ -96,6 +96,7 @@ opens e t ts = leads-choose (Opens t ts) t ts _ (
     also (λ c. leads-if _ _ _ _ λ f. leads-bind _ _ λ n vs v. leads-bind _ _ λ q ws w. leads-give _ tt)
     also (λ c. opens-used t ts _ _ (e .names) (e .macros))
     also (λ c. opens-used t ts _ _ (e .names) (e .procs))
+    also (λ c. leads-if _ _ _ _ λ f. leads-bind _ _ λ n vs v. leads-bind _ _ λ q ws w. leads-give _ tt)
     also (λ c. leads-if _ _ _ _ λ f. leads-if _ _ _ _ λ g. leads-bind _ _ λ q vs v. leads-give _ tt)
     also (λ c. leads-give _ (c, refl))
     also tt)
@@ -170,7 +171,7 @@ fine-set : (n : ℕ) (ns : Names) → AllTidy n ns → Gives (λ a. TidyBelow n 
 fine-set n ns h = record { all = λ ts a us q. (differ-assigns ns false h .all ts a us q, unmarked a (no-mark-assigned ns .all ts a us q)) }
 
 pub fine-head : (e : Env) (n : ℕ) → AllTidy n (e .names) → Gives (Fine n) (freeHead e)
-unfolding head chosen looping shiftHead
+unfolding head chosen looping shiftHead labelHead assigned marked
 fine-head e n h = gives-choose F _ (
     (λ p. gives-bind (λ a. TidyBelow n (assigned a)) F _ _ (differ-assigns (e .names) true h) λ a q. gives-give F _ q)
     also (λ p. gives-bind (λ a. TidyBelow n (assigned a) × (marked a ≡ [])) F _ _ (fine-set n (e .names) h) λ a q. gives-give F _ q)
@@ -178,6 +179,7 @@ fine-head e n h = gives-choose F _ (
     also (λ p. gives-after F _ _ λ u. gives-after F _ _ λ m. gives-after F _ _ λ q. gives-give F _ tt)
     also (λ p. fine-used n _ _ (e .names) (e .macros))
     also (λ p. fine-used n _ _ (e .names) (e .procs))
+    also (λ p. gives-after F _ _ λ u. gives-after F _ _ λ t. gives-after F _ _ λ q. gives-give F _ (bare, refl))
     also (λ p. gives-after F _ _ λ u. gives-after F _ _ λ v. gives-after F _ _ λ q. gives-give F _ tt)
     also (λ p. gives-give F _ tt)
     also tt)
@@ -200,7 +202,7 @@ unfolding used
 turned-used k d ns l = gives-after Turned _ _ λ x. gives-after Turned _ _ λ u. gives-after Turned _ _ λ a. gives-after Turned _ _ λ v. gives-give Turned _ refl
 
 turned-head : (e : Env) → Gives Turned (freeHead e)
-unfolding head chosen looping shiftHead
+unfolding head chosen looping shiftHead labelHead
 turned-head e = gives-choose Turned _ (
     (λ p. gives-after Turned _ _ λ a. gives-give Turned _ tt)
     also (λ p. gives-after Turned _ _ λ a. gives-give Turned _ tt)
@@ -208,6 +210,7 @@ turned-head e = gives-choose Turned _ (
     also (λ p. gives-after Turned _ _ λ u. gives-after Turned _ _ λ n. gives-after Turned _ _ λ q. gives-give Turned _ tt)
     also (λ p. turned-used macro _ (e .names) (e .macros))
     also (λ p. turned-used procedure _ (e .names) (e .procs))
+    also (λ p. gives-after Turned _ _ λ u. gives-after Turned _ _ λ t. gives-after Turned _ _ λ q. gives-give Turned _ tt)
     also (λ p. gives-after Turned _ _ λ u. gives-after Turned _ _ λ v. gives-after Turned _ _ λ q. gives-give Turned _ tt)
     also (λ p. gives-give Turned _ tt)
     also tt)

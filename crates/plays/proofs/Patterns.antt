@@ -1,6 +1,6 @@
 -- Every pattern of a text that was read can be played from its beginning.
 use native.Mathlib.Omega.{arith}
-use mathlib.Core.Path.{_≡_}
+use mathlib.Core.Path.{_≡_, sym, subst}
 use mathlib.Core.Bool.{Bool, true, false}
 use mathlib.Core.List.{[], _∷_, _++_}
 use Rattle.tokens.specs.Tokens.{Tok, Toks}
@@ -10,7 +10,7 @@ use Rattle.meaning.specs.Reader.{ok}
 use Rattle.meaning.specs.Signals.{Names}
 use Rattle.meaning.specs.Timing.{Tables}
 use Rattle.meaning.specs.Body.{Body}
-use Rattle.meaning.specs.Statements.{Decl, Decls, Env, statements}
+use Rattle.meaning.specs.Statements.{Decl, Decls, Env, forPatterns, statements}
 use Rattle.meaning.specs.Document.{oneMacro, oneProcedure, bodies, pattern, patterns, Read}
 use Rattle.meaning.proofs.Gives.{Gives}
 use Rattle.meaning.proofs.Everywhere.{Every, Known}
@@ -89,7 +89,8 @@ every-all P (x ∷ l) h = (h .0, every-all P l (h .1))
 -- THE LAW
 pub patterns-fit : (ts : Toks) (d : Read) (us : Toks) → Parts ts d us → All (λ x. Playing (x .1 .body)) (d .patterns)
 patterns-fit ts d us p =
-    let good = known-all Good (λ e k own. read-good e k depthMost own) (p .names) (d .tables) _ (p .env) _ (p .bodies-read) in
-    let single = known-all Single (λ e k own. read-single e k depthMost own) (p .names) (d .tables) _ (p .env) _ (p .bodies-read) in
+    let good = known-all Good (λ e k own. read-good e k depthMost own) (p .names) (d .tables) _ (p .bodied) _ (p .bodies-read) in
+    let single = known-all Single (λ e k own. read-single e k depthMost own) (p .names) (d .tables) _ (p .bodied) _ (p .bodies-read) in
+    let fits = subst (λ (E : Env). Gives Playing (statements E depthMost false)) (sym (p .env-is)) (pattern-fits (forPatterns (p .bodied)) good single) in
     every-all Playing (d .patterns)
-    (every-patterns Playing (p .env) (pattern-fits (p .env) good single) (p .burst-name) (p .patterns-at) .all (d .patterns) us (p .patterns-read))
+    (every-patterns Playing (p .env) fits (p .burst-name) (p .patterns-at) .all (d .patterns) us (p .patterns-read))

@@ -4,7 +4,7 @@ use mathlib.Core.Path.{refl}
 use mathlib.Core.Bool.{Bool}
 use Rattle.meaning.specs.Signals.{Names}
 use Rattle.meaning.specs.Body.{Kind, macro, procedure, Body}
-use Rattle.meaning.specs.Statements.{Decls, Env, Head, ends, vecs, sets, loops, shifts, uses, used, chosen, looping, shiftHead, head, statements}
+use Rattle.meaning.specs.Statements.{Decls, Env, Head, ends, vecs, sets, loops, shifts, uses, used, chosen, looping, shiftHead, labelHead, head, statements}
 use Rattle.meaning.proofs.Gives.{Gives, gives-bind, gives-after, gives-give, gives-choose}
 use Rattle.meaning.proofs.Choices.{_also_}
 use Rattle.meaning.proofs.Statements.{Kept, Deeper, gives-statements}
@@ -27,7 +27,7 @@ ones-used k d ns l h =
     gives-give Ones _ q
 
 ones-head : (e : Env) → Known Single e → (own : Bool) (d : ℕ) (seen : Bool) → Gives Ones (head e own d seen)
-unfolding head chosen looping shiftHead
+unfolding head chosen looping shiftHead labelHead
 ones-head e h own d seen = gives-choose Ones _ (
     (λ p. gives-after Ones _ _ λ a. gives-give Ones _ tt)
     also (λ p. gives-after Ones _ _ λ a. gives-give Ones _ tt)
@@ -35,6 +35,7 @@ ones-head e h own d seen = gives-choose Ones _ (
     also (λ p. gives-after Ones _ _ λ u. gives-after Ones _ _ λ n. gives-after Ones _ _ λ q. gives-give Ones _ tt)
     also (λ p. ones-used macro d (e .names) (e .macros) (h .0))
     also (λ p. ones-used procedure d (e .names) (e .procs) (h .1))
+    also (λ p. gives-after Ones _ _ λ u. gives-after Ones _ _ λ t. gives-after Ones _ _ λ q. gives-give Ones _ tt)
     also (λ p. gives-after Ones _ _ λ u. gives-after Ones _ _ λ v. gives-after Ones _ _ λ q. gives-give Ones _ tt)
     also (λ p. gives-give Ones _ tt)
     also tt)
