@@ -9,7 +9,7 @@ use Rattle.meaning.specs.Bounds.{tablesMost}
 use Rattle.meaning.specs.Timing.{Tables}
 use Rattle.meaning.specs.Signals.{Names}
 use Rattle.meaning.specs.Body.{Assigns, Args, assigning, choosing, Kind, macro, procedure, Way, looped, shifted, entered, Body, done, vec, set′, inner, depth, turns}
-use Rattle.meaning.specs.Statements.{Decls, Env, Head, ends, vecs, sets, loops, shifts, uses, used, chosen, looping, shiftHead, head}
+use Rattle.meaning.specs.Statements.{Decls, Env, Head, ends, vecs, sets, loops, shifts, uses, used, chosen, looping, shiftHead, labelHead, head}
 use Rattle.meaning.proofs.Gives.{Gives, gives-after, gives-give, gives-choose}
 use Rattle.meaning.proofs.Choices.{_also_}
 use Rattle.meaning.proofs.Turns.{Plain, Good}
@@ -49,7 +49,7 @@ unfolding used
 turned-used k d ns l = gives-after Turned _ _ λ x. gives-after Turned _ _ λ u. gives-after Turned _ _ λ a. gives-after Turned _ _ λ v. gives-give Turned _ refl
 
 turned-head : (e : Env) → Gives Turned (freeHead e)
-unfolding head chosen looping shiftHead
+unfolding head chosen looping shiftHead labelHead
 turned-head e = gives-choose Turned _ (
     (λ p. gives-after Turned _ _ λ a. gives-give Turned _ tt)
     also (λ p. gives-after Turned _ _ λ a. gives-give Turned _ tt)
@@ -57,6 +57,7 @@ turned-head e = gives-choose Turned _ (
     also (λ p. gives-after Turned _ _ λ u. gives-after Turned _ _ λ n. gives-after Turned _ _ λ q. gives-give Turned _ tt)
     also (λ p. turned-used macro _ (e .names) (e .macros))
     also (λ p. turned-used procedure _ (e .names) (e .procs))
+    also (λ p. gives-after Turned _ _ λ u. gives-after Turned _ _ λ t. gives-after Turned _ _ λ q. gives-give Turned _ tt)
     also (λ p. gives-after Turned _ _ λ u. gives-after Turned _ _ λ v. gives-after Turned _ _ λ q. gives-give Turned _ tt)
     also (λ p. gives-give Turned _ tt)
     also tt)
