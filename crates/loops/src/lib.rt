@@ -1,6 +1,6 @@
 // What the statements in a Loop measure, read where the text holds them: a window needs it to know in which turn its cycle is.
 ghost use mathlib.Core.Path.{_≡_};
-ghost use mathlib.Core.Bool.{true};
+ghost use mathlib.Core.Bool.{true, false};
 ghost use Prim.Native.Nat.{_*_};
 ghost use lib.ListN.{length};
 ghost use Rattle.words.specs.Cursor.{alive, stream};
@@ -17,6 +17,17 @@ pub struct Measured {
     pub cursor: Cursor,
     pub measure: Measure,
     pub ends: bool,
+}
+
+// A statement that measures so much, up to the cursor.
+fn counted(cursor: Cursor, measure: Measure) -> Measured
+    ensures { λ r. ⌜ r ≡ record { cursor = cursor; measure = measure; ends = false } ⌝ }
+{
+    Measured {
+        cursor,
+        measure,
+        ends: false,
+    }
 }
 
 // The statement at the cursor, or the `}` there.
@@ -60,21 +71,9 @@ fn statement<'a>(
             measure: measures::nothing(),
             ends: true,
         },
-        heads::What::Vector(place) => Measured {
-            cursor,
-            measure: measures::vector(),
-            ends: false,
-        },
-        heads::What::Assigns => Measured {
-            cursor,
-            measure: measures::setting(),
-            ends: false,
-        },
-        heads::What::Chooses(k) => Measured {
-            cursor,
-            measure: measures::setting(),
-            ends: false,
-        },
+        heads::What::Vector(place) => counted(cursor, measures::vector()),
+        heads::What::Assigns => counted(cursor, measures::setting()),
+        heads::What::Chooses(k) => counted(cursor, measures::setting()),
         heads::What::Loops(n) => {
             let r = measure(
                 text,
@@ -96,16 +95,11 @@ fn statement<'a>(
                 ends: false,
             }
         }
-        heads::What::Shifts => Measured {
+        heads::What::Shifts => counted(cursor, measures::shift()),
+        heads::What::Uses(i, t) => counted(
             cursor,
-            measure: measures::shift(),
-            ends: false,
-        },
-        heads::What::Uses(i, t) => Measured {
-            cursor,
-            measure: measures::used(t, measures::measure_at(book, i)),
-            ends: false,
-        },
+            measures::used(t, measures::measure_at(book, i)),
+        ),
     }
 }
 

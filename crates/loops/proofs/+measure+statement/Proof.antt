@@ -18,6 +18,7 @@ use Rattle.loops.proofs.+measure+statement.Lts-measure as measure-lts
 use Rattle.loops.proofs.statement.Reads as statement′
 use Rattle.loops.proofs.statement.Kinds as statement-kinds
 use Rattle.loops.proofs.+measure+statement.Lts-statement as statement-lts
+use Rattle.loops.proofs.counted.Reads as counted-reads
 use Rattle.heads.proofs.head.Reads as head-reads
 use Rattle.measures.proofs.looped.Reads as looped-reads
 use Rattle.measures.proofs.measure_at.Reads as measure-at-reads
@@ -53,7 +54,7 @@ abbrev measure-calls : ℕ → measure-lts.Claims
 measure-calls t = (nothing-reads.Asked, nothing-reads.Learnt, statement-below t, statement′.Post, plus-reads.Asked, plus-reads.Learnt)
 
 abbrev statement-calls : ℕ → statement-lts.Claims
-statement-calls t = (head-reads.Asked, head-reads.Learnt, nothing-reads.Asked, nothing-reads.Learnt, vector-reads.Asked, vector-reads.Learnt, setting-reads.Asked, setting-reads.Learnt, measure-below t, measure.Post, looped-reads.Asked, looped-reads.Learnt, shift-reads.Asked, shift-reads.Learnt, measure-at-reads.Asked, measure-at-reads.Learnt, used-reads.Asked, used-reads.Learnt)
+statement-calls t = (head-reads.Asked, head-reads.Learnt, nothing-reads.Asked, nothing-reads.Learnt, vector-reads.Asked, vector-reads.Learnt, counted-reads.Asked, counted-reads.Learnt, setting-reads.Asked, setting-reads.Learnt, measure-below t, measure.Post, looped-reads.Asked, looped-reads.Learnt, shift-reads.Asked, shift-reads.Learnt, measure-at-reads.Asked, measure-at-reads.Learnt, used-reads.Asked, used-reads.Learnt)
 
 abbrev measure-Inv-loop : measure-lts.InvT-loop
 measure-Inv-loop text places lists tplaces book rows known signals depth args₀ cursor₀ sum₀ args cursor sum =
@@ -141,17 +142,26 @@ statement-enum-known-what t c = c .match .keys2
 statement-vector-requires : (t : ℕ) → statement-lts.Need-vector-requires (statement-calls t) (statement-at t) statement′.Post
 statement-vector-requires t c κs = search needs
 
+statement-counted-requires : (t : ℕ) → statement-lts.Need-counted-requires (statement-calls t) (statement-at t) statement′.Post
+statement-counted-requires t c κs = search needs
+
 statement-enum-told-2 : (t : ℕ) → statement-lts.Need-enum-told-2 (statement-calls t) (statement-at t) statement′.Post
 statement-enum-told-2 t c = c .match .keys3
 
 statement-setting-requires : (t : ℕ) → statement-lts.Need-setting-requires (statement-calls t) (statement-at t) statement′.Post
 statement-setting-requires t c κs = search needs
 
+statement-counted-requires-2 : (t : ℕ) → statement-lts.Need-counted-requires-2 (statement-calls t) (statement-at t) statement′.Post
+statement-counted-requires-2 t c κs = search needs
+
 statement-enum-known-what-2 : (t : ℕ) → statement-lts.Need-enum-known-what-2 (statement-calls t) (statement-at t) statement′.Post
 statement-enum-known-what-2 t c = c .match .keys4
 
 statement-setting-requires-2 : (t : ℕ) → statement-lts.Need-setting-requires-2 (statement-calls t) (statement-at t) statement′.Post
 statement-setting-requires-2 t c κs = search needs
+
+statement-counted-requires-3 : (t : ℕ) → statement-lts.Need-counted-requires-3 (statement-calls t) (statement-at t) statement′.Post
+statement-counted-requires-3 t c κs = search needs
 
 statement-enum-known-what-3 : (t : ℕ) → statement-lts.Need-enum-known-what-3 (statement-calls t) (statement-at t) statement′.Post
 statement-enum-known-what-3 t c = c .match .keys5
@@ -186,6 +196,9 @@ statement-enum-told-3 t c = c .match .keys6
 statement-shift-requires : (t : ℕ) → statement-lts.Need-shift-requires (statement-calls t) (statement-at t) statement′.Post
 statement-shift-requires t c κs = search needs
 
+statement-counted-requires-4 : (t : ℕ) → statement-lts.Need-counted-requires-4 (statement-calls t) (statement-at t) statement′.Post
+statement-counted-requires-4 t c κs = search needs
+
 statement-enum-known-what-4 : (t : ℕ) → statement-lts.Need-enum-known-what-4 (statement-calls t) (statement-at t) statement′.Post
 statement-enum-known-what-4 t c = c .match .keys7
 
@@ -200,6 +213,9 @@ statement-measure-at-requires t c κs =
 
 statement-used-requires : (t : ℕ) → statement-lts.Need-used-requires (statement-calls t) (statement-at t) statement′.Post
 statement-used-requires t c κs = search needs
+
+statement-counted-requires-5 : (t : ℕ) → statement-lts.Need-counted-requires-5 (statement-calls t) (statement-at t) statement′.Post
+statement-counted-requires-5 t c κs = search needs
 
 statement-same-length : (t : ℕ) → statement-lts.Need-same-length (statement-calls t) (statement-at t) statement′.Post
 statement-same-length t c = search needs
@@ -216,30 +232,30 @@ statement-same-length-2 t c = search needs
 
 statement-returns-2 : (t : ℕ) → statement-lts.Need-returns-2 (statement-calls t) (statement-at t) statement′.Post
 statement-returns-2 t c =
-    let pre′ = c .before .before .before .before .before .before .before .before .before .before .before .before .before .before .before .before .before .before .pre in
-    let h = c .before .before .before .before .before .before .before .before .head .ensures in
-    let what′ = c .before .before .what in
-    (h .1, record { steps = λ E b us st. vector-step st (pre′ .1 .0) _ _ _ (h .2 E (st .describes)) _ (what′ .given .1) (c .vector .ensures) })
+    let pre′ = c .before .before .before .before .before .before .before .before .before .before .before .before .before .before .before .before .before .before .before .pre in
+    let h = c .before .before .before .before .before .before .before .before .before .head .ensures in
+    let what′ = c .before .before .before .what in
+    rw (c .counted .ensures) (h .1, record { steps = λ E b us st. vector-step st (pre′ .1 .0) _ _ _ (h .2 E (st .describes)) _ (what′ .given .1) (c .before .vector .ensures) })
 
 statement-same-length-3 : (t : ℕ) → statement-lts.Need-same-length-3 (statement-calls t) (statement-at t) statement′.Post
 statement-same-length-3 t c = search needs
 
 statement-returns-3 : (t : ℕ) → statement-lts.Need-returns-3 (statement-calls t) (statement-at t) statement′.Post
 statement-returns-3 t c =
-    let pre′ = c .before .before .before .before .before .before .before .before .before .before .before .before .before .before .before .before .before .pre in
-    let h = c .before .before .before .before .before .before .before .head .ensures in
-    let enum-told2′ = c .before .enum-told2 in
-    (h .1, record { steps = λ E b us st. assigns-step st (pre′ .1 .0) _ _ _ (h .2 E (st .describes)) (c .setting .ensures) (enum-told2′ .given .1) })
+    let pre′ = c .before .before .before .before .before .before .before .before .before .before .before .before .before .before .before .before .before .before .pre in
+    let h = c .before .before .before .before .before .before .before .before .head .ensures in
+    let enum-told2′ = c .before .before .enum-told2 in
+    rw (c .counted2 .ensures) (h .1, record { steps = λ E b us st. assigns-step st (pre′ .1 .0) _ _ _ (h .2 E (st .describes)) (c .before .setting .ensures) (enum-told2′ .given .1) })
 
 statement-same-length-4 : (t : ℕ) → statement-lts.Need-same-length-4 (statement-calls t) (statement-at t) statement′.Post
 statement-same-length-4 t c = search needs
 
 statement-returns-4 : (t : ℕ) → statement-lts.Need-returns-4 (statement-calls t) (statement-at t) statement′.Post
 statement-returns-4 t c =
-    let pre′ = c .before .before .before .before .before .before .before .before .before .before .before .before .before .before .before .before .before .before .pre in
-    let h = c .before .before .before .before .before .before .before .before .head .ensures in
-    let what2′ = c .before .before .what2 in
-    (h .1, record { steps = λ E b us st. chooses-step st (pre′ .1 .0) _ _ _ (h .2 E (st .describes)) (c .setting2 .ensures) _ (what2′ .given .1) })
+    let pre′ = c .before .before .before .before .before .before .before .before .before .before .before .before .before .before .before .before .before .before .before .pre in
+    let h = c .before .before .before .before .before .before .before .before .before .head .ensures in
+    let what2′ = c .before .before .before .what2 in
+    rw (c .counted3 .ensures) (h .1, record { steps = λ E b us st. chooses-step st (pre′ .1 .0) _ _ _ (h .2 E (st .describes)) (c .before .setting2 .ensures) _ (what2′ .given .1) })
 
 statement-same-length-5 : (t : ℕ) → statement-lts.Need-same-length-5 (statement-calls t) (statement-at t) statement′.Post
 statement-same-length-5 t c = search needs
@@ -264,24 +280,25 @@ statement-same-length-6 t c = search needs
 
 statement-returns-6 : (t : ℕ) → statement-lts.Need-returns-6 (statement-calls t) (statement-at t) statement′.Post
 statement-returns-6 t c =
-    let pre′ = c .before .before .before .before .before .before .before .before .before .before .before .before .before .before .before .before .before .pre in
-    let h = c .before .before .before .before .before .before .before .head .ensures in
-    let enum-told3′ = c .before .enum-told3 in
-    (h .1, record { steps = λ E b us st. absurd (no-shift st (pre′ .1 .0) _ _ _ (h .2 E (st .describes)) (enum-told3′ .given .1)) })
+    let pre′ = c .before .before .before .before .before .before .before .before .before .before .before .before .before .before .before .before .before .before .pre in
+    let h = c .before .before .before .before .before .before .before .before .head .ensures in
+    let enum-told3′ = c .before .before .enum-told3 in
+    rw (c .counted4 .ensures) (h .1, record { steps = λ E b us st. absurd (no-shift st (pre′ .1 .0) _ _ _ (h .2 E (st .describes)) (enum-told3′ .given .1)) })
 
 statement-same-length-7 : (t : ℕ) → statement-lts.Need-same-length-7 (statement-calls t) (statement-at t) statement′.Post
 statement-same-length-7 t c = search needs
 
 statement-returns-7 : (t : ℕ) → statement-lts.Need-returns-7 (statement-calls t) (statement-at t) statement′.Post
 statement-returns-7 t c =
-    let pre′ = c .before .before .before .before .before .before .before .before .before .before .before .before .before .before .before .before .before .before .before .pre in
-    let h = c .before .before .before .before .before .before .before .before .before .head .ensures in
-    let what4′ = c .before .before .before .what4 in
-    let measure-at′ = c .before .measure-at in (
+    let pre′ = c .before .before .before .before .before .before .before .before .before .before .before .before .before .before .before .before .before .before .before .before .pre in
+    let h = c .before .before .before .before .before .before .before .before .before .before .head .ensures in
+    let what4′ = c .before .before .before .before .what4 in
+    let measure-at′ = c .before .before .measure-at in
+    rw (c .counted5 .ensures) (
       h .1,
       record {
         steps = λ E b us st.
-            used-step st (pre′ .1 .0) _ _ _ (h .2 E (st .describes)) _ _ (what4′ .given .1) (rw (measure-at′ .ensures) at (c .used .ensures));
+            used-step st (pre′ .1 .0) _ _ _ (h .2 E (st .describes)) _ _ (what4′ .given .1) (rw (measure-at′ .ensures) at (c .before .used .ensures));
       },
     )
 
@@ -308,19 +325,24 @@ pub +measure+statement-spec : {M : Type 1} → statement M
     (statement-nothing-requires t)
     (statement-enum-known-what t)
     (statement-vector-requires t)
+    (statement-counted-requires t)
     (statement-enum-told-2 t)
     (statement-setting-requires t)
+    (statement-counted-requires-2 t)
     (statement-enum-known-what-2 t)
     (statement-setting-requires-2 t)
+    (statement-counted-requires-3 t)
     (statement-enum-known-what-3 t)
     (statement-sub-measure t)
     (statement-measure-requires t)
     (statement-looped-requires t)
     (statement-enum-told-3 t)
     (statement-shift-requires t)
+    (statement-counted-requires-4 t)
     (statement-enum-known-what-4 t)
     (statement-measure-at-requires t)
     (statement-used-requires t)
+    (statement-counted-requires-5 t)
     (statement-same-length t)
     (statement-returns t)
     (statement-same-length-2 t)
