@@ -5,3 +5,4 @@ mod Going
 pub mod Whole
 pub mod Parted
 pub mod Labelled
+mod Samples
