@@ -3,9 +3,10 @@
 /// Behind eight Loops in each other around as many V's as there is room for; behind uses of a macro that uses others, in five Loops. Those others have a Shift
 /// that plays no turn; or arguments with a character that only one of their two tables has: repeated, spelled out, with another V between the uses, with each
 /// character a word, or in a procedure; behind V's too, beside a Shift that plays no turn; and many uses with such an argument, each at a place of its own. Or
-/// behind one macro with such an argument, in which stand seven Loops in each other around V's.
-pub const CONTRIVED_KINDS: [&str; 10] =
-    ["loops", "empty", "repeated", "spelled", "between", "words", "calls", "still", "many", "nested"];
+/// behind one macro with such an argument, in which stand seven Loops in each other around V's. Or behind eight Loops in each other, each left with another table
+/// than it began with.
+pub const CONTRIVED_KINDS: [&str; 11] =
+    ["loops", "empty", "repeated", "spelled", "between", "words", "calls", "still", "many", "nested", "tables"];
 
 pub fn contrived(kind: &str, signals: usize) -> Option<Vec<u8>> {
     let spelled = format!("{}2", "1".repeat(1000));
@@ -20,10 +21,11 @@ pub fn contrived(kind: &str, signals: usize) -> Option<Vec<u8>> {
         "calls" => (bodies("Procedures", "Call", SHOWN, &spelled, 30), nested(5, &between("Call k;", 300))),
         "still" => (macros(&still(), &format!("{}2; B = ", "1".repeat(200)), 30), nested(5, &between("Macro k;", 300))),
         "many" => (format!("MacroDefs {{ {SHOWN} }}\n"), nested(5, &between(&format!("Macro m {{ A = {}2; }}", "1 ".repeat(20)), 700))),
+        "tables" => (String::new(), choosing(7, &"V { }\n".repeat(9000))),
         "nested" => (entered(&nested(7, &"V { A = 1; }\n".repeat(4200))), "Macro m { A = 12; }".into()),
         _ => return None,
     };
-    let most = if kind == "nested" { 256 } else { 64 };
+    let most = if ["nested", "tables"].contains(&kind) { 256 } else { 64 };
     (2..=most).contains(&signals).then(|| text(signals, &bodies, &statements))
 }
 
@@ -56,6 +58,11 @@ fn between(one: &str, count: usize) -> String {
 
 fn nested(depth: usize, inner: &str) -> String {
     format!("{}\n{inner}{}", "Loop 2 { ".repeat(depth), "} ".repeat(depth))
+}
+
+/// Each turn shows a cycle under the table that it finds and chooses one, which the innermost Loop leaves as another.
+fn choosing(depth: usize, inner: &str) -> String {
+    format!("{}Loop 2 {{ V {{ }} W s;\n{inner}{}", "Loop 2 { V { } W t; ".repeat(depth), "} ".repeat(depth + 1))
 }
 
 /// All signals but the first, which is shown under two tables, have all digits.
