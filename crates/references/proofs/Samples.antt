@@ -8,6 +8,7 @@ use Rattle.tokens.specs.Written.{bytes}
 use Rattle.tokens.specs.Tokens.{toks}
 use Rattle.meaning.specs.Open.{everything}
 use Rattle.meaning.specs.Body.{assigning, looped, Body, done, vec, set′, inner}
+use Rattle.meaning.specs.Statements.{forPatterns}
 use Rattle.held.proofs.Parts.{firstEnv}
 use Rattle.references.specs.References
 use Rattle.references.specs.References.{past}
@@ -25,9 +26,9 @@ s = set′ (assigning [])
 
 -- in the pattern p with these statements, of which the body is b
 abbrev pub before : String → Body → String → Option ℕ
-before text b w = past (firstEnv [] []) (toks (bytes text) 0) b (bytes "p") (bytes w)
+before text b w = past (forPatterns (firstEnv [] [])) (toks (bytes text) 0) b (bytes "p") (bytes w)
 
--- the pattern itself, and a name that is no X; behind a V; in a Loop's first turn, also of a Loop in a Loop; behind all turns; C is no X
+-- the pattern itself, and a name that is no X; behind a V; in a Loop's first turn, also of a Loop in a Loop; behind all turns; C is no X; the first of two
 pub edges : (before "V { } X a; }" (v (s done)) "p" ≡ some 0)
     × (before "V { } X a; }" (v (s done)) "b" ≡ none)
     × (before "V { } X a; }" (v (s done)) "a" ≡ some 1)
@@ -35,5 +36,7 @@ pub edges : (before "V { } X a; }" (v (s done)) "p" ≡ some 0)
     × (before "V { } Loop 3 { V { } Loop 2 { V { } X a; } } }" (v (inner (looped 3) (v (inner (looped 2) (v (s done)) done)) done)) "a" ≡ some 3)
     × (before "V { } Loop 3 { V { } Loop 2 { V { } } } X a; }" (v (inner (looped 3) (v (inner (looped 2) (v done) done)) (s done))) "a" ≡ some 10)
     × (before "C { } }" (s done) "{" ≡ none)
+    × (before "V { } X a; V { } X b; X a; }" (v (s (v (s (s done))))) "a" ≡ some 1)
+    × (before "V { } X a; V { } X b; X a; }" (v (s (v (s (s done))))) "b" ≡ some 2)
 unfolding opened
-edges = (refl, refl, refl, refl, refl, refl, refl)
+edges = (refl, refl, refl, refl, refl, refl, refl, refl, refl)
