@@ -7,7 +7,7 @@ use mathlib.Core.Bool.{Bool, true, false, cond, not, _&&_, _||_}
 use mathlib.Core.Option.{Option, none, some}
 use mathlib.Core.List.{List, [], _∷_, _++_}
 use lib.Dec.{eqb, leb}
-use lib.ListN.{length, getD, take, drop, set, length-take}
+use lib.ListN.{length, getD, replicate, take, drop, set, length-take}
 use lib.Seq.{getD-set-same, getD-set-other, getD-take, take-suc, take-all}
 use borrow.Author.Tests.{eqb-true, eqb-false, eq-eqb, ne-eqb, leb-true, leb-false}
 use Rattle.tokens.specs.Tokens.{Toks, toks}
@@ -19,6 +19,7 @@ use Rattle.meaning.specs.Services.{waveOf}
 use Rattle.words.proofs.Words.{cut}
 use Rattle.timing.specs.Watch.{charsEvents, Watched}
 use Rattle.timing.proofs.Watching.{watched-more}
+use Rattle.declared.proofs.Numbers.{zeros}
 use Rattle.waves.specs.Waves.{EntryAt}
 use Rattle.waves.proofs.Entries.{entry-found}
 use Rattle.folded.specs.Flat.{entriesOf}
@@ -152,11 +153,15 @@ taken-there s b sigs cs (x ∷ ws) {es} t p q w =
     by true f false g w u h t ih = ih (rest u t) w
     by false f e g w u h t ih = ih (rest u t) w
 
-pub spots-none : (text spots : List ℕ) → ((i : ℕ) → getD spots i 0 ≡ 0) → Spots text spots []
+spots-none : (text spots : List ℕ) → ((i : ℕ) → getD spots i 0 ≡ 0) → Spots text spots []
 unfolding waveOf
 spots-none text spots z = record {
   each = λ s b q. rw (z (s * bytesMost + b)) (record { no = λ k. refl; yes = λ k. absurd (let z : _≡_ {A = ℕ} 0 1 = cc in omega arith) });
 }
+
+-- spots before any entry is read
+pub blank-spots : (text : List ℕ) → Spots text (replicate spotsMost 0) []
+blank-spots text = spots-none text (replicate spotsMost 0) (zeros spotsMost)
 
 module _ {text spots spots′ : List ℕ} {ws : List Wave} {us : Toks} (sigs cs : List ℕ) (es : Events) (place : ℕ) where
   pub spots-more : Spots text spots ws → Stored spots sigs cs (place + 1) spots′ → taken sigs cs ws ≡ false → length (es .0) ≡ length cs → length cs ≤ entryMost
