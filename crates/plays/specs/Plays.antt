@@ -152,7 +152,7 @@ nestOf more = depthMost - more
 pub record Below (nest : ℕ) (memo memo′ : List ℕ) : Type 0 where
   pub each : (i : ℕ) → i < nest * signalsMost → getD memo′ i 0 ≡ getD memo i 0
 
--- what is known of the bodies that a text uses
+-- what is known of the bodies that a text uses, and of statements that were played
 pub record Knows (g : Ground) (marks sums memo : List ℕ) (E : Env) : Type 0 where
   pub summed : Summed g marks sums E
   pub heads : Heads g memo E

@@ -279,7 +279,7 @@ looped-sub-around : (t : ℕ) → looped-lts.Need-sub-around (looped-calls t) (l
 looped-sub-around t c = omega (arith, c .before .before .before .before .before .before .before .before .before .before .before .before .before .before .before .before .before .before .before .before .before .before .before .before .before .before .before .before .before .before .before .before .before .before .before .before .before .before .before .before .pre .1 .3)
 
 looped-rise-requires : (t : ℕ) → looped-lts.Need-rise-requires (looped-calls t) (looped-at t) looped.Post
-looped-rise-requires t c κs = (nest-less (c .before .before .before .before .before .before .before .before .before .before .before .before .before .before .before .before .before .before .before .before .before .before .before .before .before .before .before .before .before .before .before .before .before .before .before .before .before .before .before .before .before .pre .1 .2), c .before .before .before .before .before .before .before .before .before .before .before .before .before .before .before .before .before .before .before .before .before .before .before .before .before .before .before .before .before .before .before .before .before .before .before .before .before .before .before .before .before .pre .1 .4 .sized .roomy .few)
+looped-rise-requires t c κs = (omega (arith, c .before .before .before .before .before .before .before .before .before .before .before .before .before .before .before .before .before .before .before .before .before .before .before .before .before .before .before .before .before .before .before .before .before .before .before .before .before .before .before .before .before .pre .1 .2), omega (arith, c .before .before .before .before .before .before .before .before .before .before .before .before .before .before .before .before .before .before .before .before .before .before .before .before .before .before .before .before .before .before .before .before .before .before .before .before .before .before .before .before .before .pre .1 .4 .sized .roomy .few))
 
 looped-goes-on-requires : (t : ℕ) → looped-lts.Need-goes-on-requires (looped-calls t) (looped-at t) looped.Post
 looped-goes-on-requires t c κs = search needs
