@@ -1,0 +1,4 @@
+pub mod Edges
+pub mod Signed
+pub mod Three
+pub mod Turned
