@@ -48,7 +48,7 @@ module _ (tabs : Tables) where
       by false h = refl
 
   -- behind its own last cycle, a row fails as often as it comes where it fails once
-  failing-steady : (o : Option Cycle) (m : List Cycle) → lastBehind o m ≡ o → (n : ℕ) → failingBehind tabs o (copies (suc n) m) ≡ failingBehind tabs o m
+  pub failing-steady : (o : Option Cycle) (m : List Cycle) → lastBehind o m ≡ o → (n : ℕ) → failingBehind tabs o (copies (suc n) m) ≡ failingBehind tabs o m
   unfolding copies
   failing-steady o m e zero = ap (failingBehind tabs o) (append-nil m)
   failing-steady o m e (suc n) =

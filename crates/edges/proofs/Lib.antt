@@ -4,3 +4,7 @@ pub mod Texts
 pub mod Counted
 pub mod Turned
 pub mod Samples
+pub mod Loops
+pub mod Parted
+pub mod Bordered
+pub mod Steps

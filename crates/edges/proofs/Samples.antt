@@ -34,7 +34,7 @@ listing list =
     whole "Signals { A InOut; B Out; }" "SignalGroups { ab = 'A+B'; }"
     "Timing { WaveformTable t0 { Period '100ns'; Waveforms { A { 0 { '0ns' D; } 1 { '0ns' U; '100ns' D; } 2 { '1ps' D; } L { '150ns' L; } X { '0ns' X; } } } }"
     " WaveformTable t1 { Period '200ns'; Waveforms { A { 0 { '0ns' D; } 1 { '0ns' U; '100ns' D; } } B { 0 { '0ns' D; } } } } }"
-    "MacroDefs { m { V { A = 0; } } } Procedures { f { V { } } g { V { A = 1; } V { A = 0; } } }" list
+    "MacroDefs { m { V { A = 0; } } s { Shift { V { A = #; } } } } Procedures { f { V { } } g { V { A = 1; } V { A = 0; } } }" list
 
 unfoldable pub playing : String → List ℕ
 unfolding listing
@@ -48,35 +48,35 @@ unfoldable pub edges : List Sample
 unfolding listing playing
 edges =
     -- a pair inside a turn
-    (playing "Pattern p { W t0; Loop 2 { V { A = 1; } V { A = 0; } } }", some (25, 541))
+    (playing "Pattern p { W t0; Loop 2 { V { A = 1; } V { A = 0; } } }", some (25, 570))
     -- into the second turn
-    ∷ (playing "Pattern p { W t0; Loop 2 { V { A = 0; } V { A = 1; } } }", some (25, 528))
+    ∷ (playing "Pattern p { W t0; Loop 2 { V { A = 0; } V { A = 1; } } }", some (25, 557))
     ∷ (playing "Pattern p { W t0; Loop 1 { V { A = 0; } V { A = 1; } } }", none)
     -- into the third turn, and not before
-    ∷ (playing "Pattern p { W t0; C { A = 0; } Loop 3 { V { } C { A = 1; } } }", some (25, 541))
+    ∷ (playing "Pattern p { W t0; C { A = 0; } Loop 3 { V { } C { A = 1; } } }", some (25, 570))
     ∷ (playing "Pattern p { W t0; C { A = 0; } Loop 2 { V { } C { A = 1; } } }", none)
     -- behind a Loop: at the same time is not before, 1 ps later is
-    ∷ (playing "Pattern p { W t0; Loop 3 { V { A = 2; } V { A = 1; } } V { A = 0; } }", some (25, 556))
+    ∷ (playing "Pattern p { W t0; Loop 3 { V { A = 2; } V { A = 1; } } V { A = 0; } }", some (25, 585))
     ∷ (playing "Pattern p { W t0; Loop 3 { V { A = 2; } V { A = 1; } } V { A = 2; } }", none)
     -- a value that is held
-    ∷ (playing "Pattern p { W t0; V { A = 1; } V { } }", some (25, 532))
+    ∷ (playing "Pattern p { W t0; V { A = 1; } V { } }", some (25, 561))
     -- the earlier cycle's period counts
-    ∷ (playing "Pattern p { W t0; V { A = 1; } W t1; V { A = 0; } }", some (25, 538))
+    ∷ (playing "Pattern p { W t0; V { A = 1; } W t1; V { A = 0; } }", some (25, 567))
     ∷ (playing "Pattern p { W t1; V { A = 1; } W t0; V { A = 0; } }", none)
     -- a category that either lacks is skipped, and the cycle behind that is not asked
     ∷ (playing "Pattern p { W t0; V { A = 1; } V { A = L; } V { A = 0; } }", none)
     -- compare events as well
-    ∷ (playing "Pattern p { W t0; V { A = L; } V { A = X; } }", some (25, 532))
+    ∷ (playing "Pattern p { W t0; V { A = L; } V { A = X; } }", some (25, 561))
     -- in a macro, at its V
     ∷ (playing "Pattern p { W t0; V { A = 1; } Macro m; }", some (25, 359))
     -- a procedure begins without values; within it pairs are asked for
     ∷ (playing "Pattern p { W t0; V { A = 1; } Call f; V { A = 0; } }", none)
-    ∷ (playing "Pattern p { W t0; Call g; }", some (25, 418))
+    ∷ (playing "Pattern p { W t0; Call g; }", some (25, 447))
     -- 17 comes before
-    ∷ (playing "Pattern p { W t0; V { A = 1; } V { } V { A = H; } }", some (17, 538))
+    ∷ (playing "Pattern p { W t0; V { A = 1; } V { } V { A = H; } }", some (17, 567))
     -- between two listed patterns nothing is asked
     ∷ (listing "PatternBurst b { PatList { p; q; p; } }" ("Pattern p { W t0; V { A = 0; } V { A = 1; } }" ∷ "Pattern q { W t0; V { A = 0; } }" ∷ []), none)
-    ∷ (listing "PatternBurst b { PatList { p; q; p; } }" ("Pattern p { W t0; V { A = 0; } V { A = 1; } }" ∷ "Pattern q { W t0; V { A = 1; } V { } }" ∷ []), some (25, 584))
+    ∷ (listing "PatternBurst b { PatList { p; q; p; } }" ("Pattern p { W t0; V { A = 0; } V { A = 1; } }" ∷ "Pattern q { W t0; V { A = 1; } V { } }" ∷ []), some (25, 613))
     ∷ []
 
 unfoldable pub told : Answer Meaning → Option (ℕ × ℕ)
@@ -108,10 +108,19 @@ third = meaning (playing "Pattern p { W t0; C { A = 0; } Loop 4 { V { } C { A = 
 
 -- two turns of each Loop find no pair that fails, and three find the one into the third turn
 pub two-miss : (meant (λ tabs r. firstInRun tabs 2 (shortened r)) third ≡ none)
-    × (meant (λ tabs r. firstInRun tabs 2 (inThree r)) third ≡ some 541)
+    × (meant (λ tabs r. firstInRun tabs 2 (inThree r)) third ≡ some 570)
     × (meant (λ tabs r. turnsInRun tabs 2 r) third ≡ some (3 ∷ []))
 unfolding opened meant third playing listing shortened fewer twice fewTurns inThree Turned.inTurn Turned.loopTurns Turned.around Turned.turnsIn Turned.turnsOfFailing Turned.turnsInRun
 two-miss = (refl, refl, refl)
+
+-- a Shift plays all of its turns: here the fifth fails first, and lies in no Loop
+unfoldable pub shifting : Answer Meaning
+unfolding playing listing
+shifting = meaning (playing "Pattern p { W t0; Macro s { A = 00010; } }")
+
+pub in-shift : (meant (λ tabs r. firstInRun tabs 2 r) shifting ≡ some 386) × (meant (λ tabs r. turnsInRun tabs 2 r) shifting ≡ some [])
+unfolding opened meant shifting playing listing Turned.shiftTurns Turned.around Turned.turnsIn Turned.turnsOfFailing Turned.turnsInRun
+in-shift = (refl, refl)
 
 -- ---- times with a sign
 

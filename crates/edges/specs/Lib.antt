@@ -2,3 +2,4 @@ pub mod Edges
 pub mod Signed
 pub mod Three
 pub mod Turned
+pub mod Bordered
