@@ -8,3 +8,4 @@ pub mod Loops
 pub mod Parted
 pub mod Bordered
 pub mod Steps
+pub mod Pairs

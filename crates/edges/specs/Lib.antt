@@ -3,3 +3,4 @@ pub mod Signed
 pub mod Three
 pub mod Turned
 pub mod Bordered
+pub mod Pairs
