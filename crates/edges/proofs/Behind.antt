@@ -1,9 +1,9 @@
 -- Rows of cycles one behind the other: which cycle comes last, and which pair fails first. A row again and again fails in its first turn, or
 -- where it follows itself.
-use mathlib.Core.Path.{_≡_, refl, sym, ap, _∙_}
+use mathlib.Core.Path.{_≡_, refl, ap, _∙_}
 use Prim.Native.Nat.{ℕ, zero, suc}
 use mathlib.Core.Bool.{Bool, true, false}
-use mathlib.Core.Option.{Option, none, some}
+use mathlib.Core.Option.{Option, some}
 use mathlib.Core.List.{List, [], _∷_, _++_, append-nil}
 use Rattle.meaning.specs.Timing.{Tables}
 use Rattle.meaning.specs.Run.{Cycle}

@@ -1,20 +1,20 @@
 -- Times with a sign are counted from the earliest one, and a pair is judged as it would be with signs. From which zero times are counted makes no difference.
-use mathlib.Core.Path.{_≡_, refl, sym, ap, ap₂, _∙_}
+use mathlib.Core.Path.{_≡_, refl, ap, ap₂, _∙_}
 use Prim.Native.Nat.{ℕ, zero, suc, _+_, _-_, _<_, _≤_}
 use native.Mathlib.Omega.{arith}
 use mathlib.Core.Bool.{Bool, true, false, _&&_}
 use mathlib.Core.Option.{Option, none, some}
 use mathlib.Core.List.{List, [], _∷_}
 use lib.Dec.{ltb, eqb}
-use borrow.Author.Tests.{ltb-true, ltb-false, lt-ltb, le-ltb}
+use borrow.Author.Tests.{ltb-true, ltb-false}
 use Rattle.meaning.specs.Bounds.{timeMost}
 use Rattle.meaning.specs.Timing.{Event, Wave, Tables}
-use Rattle.meaning.specs.Body.{Body, done, vec, set′, inner}
+use Rattle.meaning.specs.Body.{Body}
 use Rattle.meaning.specs.Run.{unassigned, Cycle}
 use Rattle.meaning.specs.Meaning.{tableAt}
 use Rattle.meaning.specs.Services.{waveOf}
 use Rattle.edges.specs.Edges.{Category, drive, compare, belongs, timesIn, firstOf, lastBehind, firstTime, lastTime, before, apart, follows, eventsOf, allFollow, periodAt, inOrder, fineBehind, failingBehind, firstFailingPair, listedCycles, firstAmong, firstInRun}
-use Rattle.edges.specs.Signed.{Signed, plus, minus, counted, signedBefore, eventsFrom, wavesFrom, tablesFrom}
+use Rattle.edges.specs.Signed.{Signed, plus, minus, counted, uncounted, signedBefore, eventsFrom, wavesFrom, tablesFrom}
 
 -- two tests that hold together
 ltb-alike : (a b c d : ℕ) → (a < b → c < d) → (c < d → a < b) → ltb a b ≡ ltb c d
@@ -39,6 +39,15 @@ counted-before (plus l) (plus f) period h k = ltb-alike (timeMost + l) (period +
 counted-before (plus l) (minus f) period h k = ltb-alike (timeMost + l) (period + (timeMost - f)) (l + f) period (λ x. omega arith) (λ x. omega arith)
 counted-before (minus l) (plus f) period h k = ltb-alike (timeMost - l) (period + (timeMost + f)) 0 (l + (period + f)) (λ x. omega arith) (λ x. omega arith)
 counted-before (minus l) (minus f) period h k = ltb-alike (timeMost - l) (period + (timeMost - f)) f (l + period) (λ x. omega arith) (λ x. omega arith)
+
+-- nothing is lost
+pub counted-back : (t : ℕ) → counted (uncounted t) ≡ t
+unfolding counted uncounted
+counted-back t = by (ltb t timeMost) refl
+  where
+    by : (w : Bool) → ltb t timeMost ≡ w → counted (elim w [ true ↦ minus (timeMost - t) | false ↦ plus (t - timeMost) ]) ≡ t
+    by true e = let h = ltb-true t timeMost e in omega (arith, h)
+    by false e = let h = ltb-false t timeMost e in omega (arith, h)
 
 -- ---- from a zero that lies k earlier
 

@@ -9,3 +9,5 @@ pub mod Parted
 pub mod Bordered
 pub mod Steps
 pub mod Pairs
+pub mod Rising
+pub mod Signals

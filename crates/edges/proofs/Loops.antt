@@ -1,7 +1,7 @@
 -- What a player needs of a Loop: two turns, and the first cycle of the second once more behind its last; for that is how the third begins, and no later turn
 -- has a pair that is new. One turn and its first cycle are enough where it leaves what it found.
 use mathlib.Core.Path.{_≡_, refl, sym, ap, ap₂, _∙_}
-use Prim.Native.Nat.{ℕ, zero, suc, _*_}
+use Prim.Native.Nat.{ℕ, zero, suc}
 use native.Mathlib.Omega.{arith}
 use mathlib.Core.Bool.{Bool, true, false}
 use mathlib.Core.Option.{Option, none, some}
@@ -13,7 +13,7 @@ use Rattle.meaning.specs.Run.{State, Cycle, Played, cycles, follow, again, play
 use Rattle.meaning.proofs.Turns.{Plain, plain-twice, copies, steady, turns-repeat, orElse}
 use Rattle.meaning.proofs.Rows.{length-play}
 use Rattle.edges.specs.Edges.{lastBehind, fineBehind, failingBehind}
-use Rattle.edges.proofs.Behind.{last-++, last-twice, last-copies, failing-++, failing-steady, failing-copies}
+use Rattle.edges.proofs.Behind.{last-++, last-copies, failing-++, failing-copies}
 
 or-alike : (x y z : Option ℕ) → (x ≡ none → y ≡ z) → orElse x y ≡ orElse x z
 unfolding orElse

@@ -5,8 +5,7 @@ use Prim.Native.String.{String}
 use mathlib.Core.Path.{_≡_, refl}
 use mathlib.Core.Option.{Option, none, some}
 use mathlib.Core.List.{List, [], _∷_}
-use lib.ListN.{length}
-use Rattle.meaning.specs.Timing.{Event, Wave, Tables}
+use Rattle.meaning.specs.Timing.{Wave, Tables}
 use Rattle.meaning.specs.Body.{Body}
 use Rattle.meaning.specs.Run.{Cycle}
 use Rattle.meaning.specs.Meaning.{Answer, given, refused, Meaning, meaning}

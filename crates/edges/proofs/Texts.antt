@@ -1,12 +1,11 @@
 -- Of every accepted text, at most three turns of each Loop find the first failing pair of the run. And what is judged pattern by pattern is
 -- the run, cut where a listed pattern begins.
-use mathlib.Core.Path.{_≡_, refl, sym, ap, ap₂, _∙_}
+use mathlib.Core.Path.{_≡_, refl, ap₂}
 use Prim.Native.Nat.{ℕ}
 use mathlib.Core.Option.{Option, none, some}
 use mathlib.Core.List.{List, [], _∷_, _++_, append-nil}
-use lib.ListN.{length}
 use Rattle.meaning.specs.Timing.{Tables}
-use Rattle.meaning.specs.Body.{listed, entered, Body, done, vec, set′, inner}
+use Rattle.meaning.specs.Body.{listed, Body, done, vec, set′, inner}
 use Rattle.meaning.specs.Run.{shiftOf, Cycle, follow, entering, playing, play, start, cyclesOf}
 use Rattle.meaning.specs.Meaning.{given, Meaning, meaning}
 use Rattle.meaning.specs.Edited.{alone}

@@ -4,3 +4,4 @@ pub mod Three
 pub mod Turned
 pub mod Bordered
 pub mod Pairs
+pub mod Rising

@@ -1,6 +1,6 @@
 -- Times with a sign (request 8): how they are counted, so that they are numbers without one.
 use Prim.Native.Nat.{ℕ, _+_, _-_}
-use mathlib.Core.Bool.{Bool}
+use mathlib.Core.Bool.{Bool, true, false}
 use mathlib.Core.List.{List, [], _∷_}
 use lib.Dec.{ltb}
 use Rattle.meaning.specs.Bounds.{timeMost}
@@ -14,6 +14,10 @@ pub data Signed : Type 0 where
 unfoldable pub counted : Signed → ℕ
 counted (plus n) = timeMost + n
 counted (minus n) = timeMost - n
+
+-- and what was counted so
+unfoldable pub uncounted : ℕ → Signed
+uncounted t = elim (ltb t timeMost) [ true ↦ minus (timeMost - t) | false ↦ plus (t - timeMost) ]
 
 -- is a time before another that lies in the next cycle, a period later
 unfoldable pub signedBefore : Signed → ℕ → Signed → Bool
