@@ -11,3 +11,4 @@ pub mod Steps
 pub mod Pairs
 pub mod Rising
 pub mod Signals
+pub mod Ordered
