@@ -12,3 +12,4 @@ pub mod Pairs
 pub mod Rising
 pub mod Signals
 pub mod Ordered
+pub mod Reading

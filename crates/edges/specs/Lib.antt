@@ -5,3 +5,4 @@ pub mod Turned
 pub mod Bordered
 pub mod Pairs
 pub mod Rising
+pub mod Steps

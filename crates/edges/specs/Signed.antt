@@ -4,7 +4,9 @@ use mathlib.Core.Bool.{Bool, true, false}
 use mathlib.Core.List.{List, [], _∷_}
 use lib.Dec.{ltb}
 use Rattle.meaning.specs.Bounds.{timeMost}
-use Rattle.meaning.specs.Timing.{Event, Wave, Tables}
+use Rattle.meaning.specs.Reader.{Reader, _>>=_, _>>_, give, due, word, ifAhead}
+use Rattle.meaning.specs.Names.{within}
+use Rattle.meaning.specs.Timing.{Event, Wave, Tables, picoseconds}
 
 -- an amount of ps behind the cycle's start, or before it
 pub data Signed : Type 0 where
@@ -18,6 +20,23 @@ counted (minus n) = timeMost - n
 -- and what was counted so
 unfoldable pub uncounted : ℕ → Signed
 uncounted t = elim (ltb t timeMost) [ true ↦ minus (timeMost - t) | false ↦ plus (t - timeMost) ]
+
+-- ---- an event's 'T', also with a `-` before the word: as it will be read
+
+unfoldable pub timeOf : (ℕ → Signed) → Reader Signed
+timeOf sign = do
+  t ← word
+  n ← within 0 timeMost (picoseconds (t .word)) (t .at)
+  give (sign n)
+
+unfoldable pub signedQuoted : Reader ℕ
+signedQuoted = do
+  due "'"
+  t ← ifAhead "-" (do due "-"; timeOf minus) (timeOf plus)
+  due "'"
+  give (counted t)
+
+-- ---- across the edge
 
 -- is a time before another that lies in the next cycle, a period later
 unfoldable pub signedBefore : Signed → ℕ → Signed → Bool
