@@ -1,0 +1,15 @@
+pub mod Behind
+pub mod Three
+pub mod Texts
+pub mod Counted
+pub mod Turned
+pub mod Samples
+pub mod Loops
+pub mod Parted
+pub mod Bordered
+pub mod Steps
+pub mod Pairs
+pub mod Rising
+pub mod Signals
+pub mod Ordered
+pub mod Reading
