@@ -19,7 +19,8 @@
  * the text; then 15, 16, 17, 18, 21, 23, 22, 19. A text that lutemeteor_check accepts is refused by lutemeteor_name and
  * lutemeteor_waveform for 18 or 19 only, by lutemeteor_waveforms for 8 too, and by lutemeteor_window for 19,
  * or for 12 at 0 before that: its mark is none; by lutemeteor_index for 19 only, by lutemeteor_belongs for 21 only, and by
- * lutemeteor_holds for 21 or 19, and by lutemeteor_fold for 23, 22 or 19. lutemeteor_save never refuses it but for 19, and many others neither.
+ * lutemeteor_holds for 21 or 19, and by lutemeteor_fold for 23, 22 or 19. lutemeteor_save refuses it for 19
+ * only, and answers for many texts that lutemeteor_check refuses.
  *
  * Pointers   Behind each pointer stands how many bytes or numbers are there; for a buffer, how many it has room
  *            for. All of them must be there during the call, numbers must be aligned as uint64_t is, and no buffer

@@ -25,8 +25,6 @@ pub struct Often {
     pub waveforms: usize,
     pub lists: usize,
     pub windows: usize,
-    /// Whether windows are asked for with other marks than the dot.
-    pub marks: bool,
     /// Up to this many cycles, windows are asked for at each of them.
     pub every: u64,
     /// At most so many tokens are asked for one by one, and so many at places that are drawn.
@@ -54,7 +52,7 @@ impl Often {
         let saves = if proved::SAVE { self.saves } else { 0 };
         let folds = if proved::FOLD { self.folds } else { 0 };
         let reports = if proved::REPORTS { self.reports } else { 0 };
-        Often { lists, lines, indexes, saves, folds, reports, marks: self.marks && proved::MARKS, ..self }
+        Often { lists, lines, indexes, saves, folds, reports, ..self }
     }
 }
 
@@ -116,10 +114,10 @@ impl Comparison {
             self.waveforms.compare(named, &Waveforms::draw(document, random), proved, second);
         }
         for _ in 0..times(often.windows) {
-            self.window.compare(named, &Window::draw(document, often.marks, random), proved, second);
+            self.window.compare(named, &Window::draw(document, random), proved, second);
         }
         if let Some(document) = document.filter(|document| document.extent.cycles <= often.every) {
-            let calls = Window::every(document, often.marks);
+            let calls = Window::every(document);
             calls.iter().for_each(|call| self.window.compare(named, call, proved, second));
         }
         for _ in 0..times(often.indexes) {

@@ -13,8 +13,6 @@ mod line;
 mod name;
 mod one;
 mod proved;
-// With marks the window has one number more than is declared there, and is declared beside its call.
-#[cfg_attr(feature = "marks", allow(dead_code, clashing_extern_declarations))]
 #[path = "../../examples/rust/src/raw.rs"]
 mod raw;
 mod reader;

@@ -1,9 +1,7 @@
 //! The proved reader, behind its C interface.
 
 use crate::lent::Slices;
-#[cfg(not(feature = "marks"))]
-use crate::raw::lutemeteor_window;
-use crate::raw::{lutemeteor_check, lutemeteor_name, lutemeteor_token, lutemeteor_waveform};
+use crate::raw::{lutemeteor_check, lutemeteor_name, lutemeteor_token, lutemeteor_waveform, lutemeteor_window};
 use crate::reader::Reader;
 use second::timing::Asked;
 
@@ -44,21 +42,6 @@ extern "C" {
 #[cfg(feature = "lines")]
 extern "C" {
     fn lutemeteor_line(text: *const u8, length: usize, place: u64, numbers: *mut u64, room: usize) -> u64;
-}
-
-#[cfg(feature = "marks")]
-extern "C" {
-    fn lutemeteor_window(
-        text: *const u8,
-        length: usize,
-        first: u64,
-        wanted: u64,
-        mark: u8,
-        rows: *mut u8,
-        rows_room: usize,
-        numbers: *mut u64,
-        room: usize,
-    ) -> u64;
 }
 
 #[cfg(feature = "reports")]
@@ -112,9 +95,6 @@ extern "C" {
 /// Whether the linked library has waveforms by the list, as Cargo.toml says; else they are not compared.
 pub const WAVEFORMS: bool = cfg!(feature = "waveforms");
 
-/// Whether its window takes a mark; else each is asked for with the dot, which it shows then.
-pub const MARKS: bool = cfg!(feature = "marks");
-
 /// Whether it tells the line and column of a place.
 pub const LINES: bool = cfg!(feature = "lines");
 
@@ -136,9 +116,8 @@ pub const HEX: bool = cfg!(feature = "hex");
 /// Whether it answers fail reports.
 pub const REPORTS: bool = cfg!(feature = "reports");
 
-pub const FEATURES: [(&str, bool); 9] = [
+pub const FEATURES: [(&str, bool); 8] = [
     ("waveforms", WAVEFORMS),
-    ("marks", MARKS),
     ("lines", LINES),
     ("index", INDEX),
     ("save", SAVE),
@@ -206,7 +185,6 @@ impl Reader for Proved<'_> {
         panic!("Cargo.toml says that the linked library has no waveforms by the list")
     }
 
-    #[cfg_attr(not(feature = "marks"), allow(unused_variables))]
     fn window(&self, first: u64, wanted: u64, mark: u8, rows: &mut [u8], numbers: &mut [u64]) -> u64 {
         unsafe {
             lutemeteor_window(
@@ -214,7 +192,6 @@ impl Reader for Proved<'_> {
                 self.0.len(),
                 first,
                 wanted,
-                #[cfg(feature = "marks")]
                 mark,
                 rows.as_mut_ptr(),
                 rows.len(),

@@ -507,7 +507,6 @@ const OFTEN: Often = Often {
     waveforms: 5,
     lists: 5,
     windows: 5,
-    marks: true,
     every: 20,
     tokens: 100,
     places: 20,

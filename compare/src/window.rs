@@ -24,25 +24,24 @@ const FEW_BYTES: u64 = 1 << 13;
 impl Window {
     pub const DUE: usize = 2;
 
-    /// With any mark, or with the dot alone.
-    pub fn draw(document: Option<&Document>, marks: bool, random: &mut Random) -> Window {
+    /// Any cycles, any mark and any room.
+    pub fn draw(document: Option<&Document>, random: &mut Random) -> Window {
         let cycles = document.map_or(7, |document| document.extent.cycles);
         let first = draw_first(document, cycles, random);
         let left = cycles.saturating_sub(first);
         let wanted = draw_wanted(left, random);
         let width = document.map_or(4, |document| document.row_width()) as u64;
         let rows = draw_room(wanted.min(left) * width, random);
-        let mark = if marks { draw_mark(random) } else { DOT };
+        let mark = draw_mark(random);
         Window { first, wanted, mark, rows, room: room_around(Window::DUE, random) }
     }
 
     /// At every cycle of a short run: none, one and two rows, and all in just enough room and in too little.
-    pub fn every(document: &Document, marks: bool) -> Vec<Window> {
-        let mark = if marks { MARK } else { DOT };
+    pub fn every(document: &Document) -> Vec<Window> {
         let (cycles, width) = (document.extent.cycles, document.row_width() as u64);
         let at = |first: u64, wanted: u64, more: i64| {
             let need = wanted.min(cycles.saturating_sub(first)) * width;
-            Window { first, wanted, mark, rows: (need as i64 + more).max(0) as usize, room: Window::DUE }
+            Window { first, wanted, mark: MARK, rows: (need as i64 + more).max(0) as usize, room: Window::DUE }
         };
         let asks = [(0, 0), (1, 0), (2, 3), (u64::MAX, 0), (u64::MAX, -1)];
         (0..=cycles + 1).flat_map(|first| asks.map(|(wanted, more)| at(first, wanted, more))).collect()

@@ -7,7 +7,7 @@ use second::requests::REPORTS;
 use second::timing::Asked;
 use second::tokens::next_token;
 use second::{accept_mark, bounds, listing, Declared, Document, Refusal, MARK};
-use std::ffi::OsString;
+use std::ffi::{OsStr, OsString};
 use std::fs::File;
 use std::io::{self, BufWriter, Read, Write};
 use std::os::unix::ffi::OsStrExt;
@@ -31,13 +31,18 @@ fold FILE
 /// Rows written at a time, so that no count asked for needs more memory.
 const ROWS_AT_ONCE: u64 = 65_536;
 
-/// Why a command line is not answered: one line for standard error.
-struct Fault(String);
+/// Why a command line is not answered: one line for standard error, in bytes, as its words may be any.
+struct Fault(Vec<u8>);
 
 impl From<io::Error> for Fault {
     fn from(error: io::Error) -> Fault {
-        Fault(format!("standard output: {error}"))
+        Fault(format!("standard output: {error}").into_bytes())
     }
+}
+
+/// What is wrong with a word, and the word.
+fn wrong(what: &str, word: &OsStr) -> Fault {
+    Fault([what.as_bytes(), b": ", word.as_bytes()].concat())
 }
 
 type Done = Result<(), Fault>;
@@ -47,15 +52,17 @@ fn main() -> ExitCode {
     let mut out = BufWriter::new(io::stdout());
     match answer(&words, &mut out).and_then(|()| Ok(out.flush()?)) {
         Ok(()) => ExitCode::SUCCESS,
-        Err(Fault(line)) => {
-            eprintln!("{line}");
+        Err(Fault(mut line)) => {
+            line.push(b'\n');
+            // Where standard error cannot be written to there is nobody to tell.
+            let _ = io::stderr().write_all(&line);
             ExitCode::from(2)
         }
     }
 }
 
 fn answer(words: &[OsString], out: &mut dyn Write) -> Done {
-    let (command, rest) = words.split_first().ok_or_else(|| Fault("missing word: command".into()))?;
+    let (command, rest) = words.split_first().ok_or_else(|| wrong("missing word", "command".as_ref()))?;
     match command.as_bytes() {
         b"check" => check(rest, out),
         b"name" => name(exactly(rest, ["FILE", "signal or table", "N"])?, out),
@@ -74,16 +81,16 @@ fn answer(words: &[OsString], out: &mut dyn Write) -> Done {
             let report = if REPORTS { "report FILE REPORTFILE\n" } else { "" };
             Ok(write!(out, "{HELP}{report}help\n")?)
         }
-        _ => Err(Fault(format!("no such command: {}", command.to_string_lossy()))),
+        _ => Err(wrong("no such command", command)),
     }
 }
 
 /// The words that must stand there, no fewer and no more.
 fn exactly<'w, const N: usize>(words: &'w [OsString], due: [&str; N]) -> Result<&'w [OsString; N], Fault> {
     if words.len() < N {
-        return Err(Fault(format!("missing word: {}", due[words.len()])));
+        return Err(wrong("missing word", due[words.len()].as_ref()));
     }
-    <&[OsString; N]>::try_from(words).map_err(|_| Fault(format!("one word too many: {}", words[N].to_string_lossy())))
+    <&[OsString; N]>::try_from(words).map_err(|_| wrong("one word too many", &words[N]))
 }
 
 /// A file's bytes, one past the bound at most: more cannot change that it is too long.
@@ -94,7 +101,7 @@ fn read_file(file: &OsString, bound: usize) -> io::Result<Vec<u8>> {
 }
 
 fn bytes_of(file: &OsString, bound: usize) -> Result<Vec<u8>, Fault> {
-    read_file(file, bound).map_err(|_| Fault(format!("cannot be read: {}", file.to_string_lossy())))
+    read_file(file, bound).map_err(|_| wrong("cannot be read", file))
 }
 
 fn text_of(file: &OsString) -> Result<Vec<u8>, Fault> {
@@ -105,13 +112,13 @@ fn number(word: &OsString) -> Result<u64, Fault> {
     let bytes = word.as_bytes();
     let digits = !bytes.is_empty() && bytes.iter().all(u8::is_ascii_digit);
     let value = word.to_str().filter(|_| digits).and_then(|word| word.parse().ok());
-    value.ok_or_else(|| Fault(format!("not a number: {}", word.to_string_lossy())))
+    value.ok_or_else(|| wrong("not a number", word))
 }
 
 fn one_byte(word: &OsString) -> Result<u8, Fault> {
     match *word.as_bytes() {
         [byte] => Ok(byte),
-        _ => Err(Fault(format!("not one byte: {}", word.to_string_lossy()))),
+        _ => Err(wrong("not one byte", word)),
     }
 }
 
@@ -157,7 +164,7 @@ fn name([file, kind, which]: &[OsString; 3], out: &mut dyn Write) -> Done {
     let declared = match kind.as_bytes() {
         b"signal" => Declared::Signal,
         b"table" => Declared::Table,
-        _ => return Err(Fault(format!("neither signal nor table: {}", kind.to_string_lossy()))),
+        _ => return Err(wrong("neither signal nor table", kind)),
     };
     let which = number(which)?;
     let text = text_of(file)?;

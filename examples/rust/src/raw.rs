@@ -35,7 +35,7 @@ extern "C" {
         count_room: usize,
     ) -> u64;
     pub fn lutemeteor_token(text: *const u8, length: usize, at: u64, numbers: *mut u64, room: usize) -> u64;
-    // The comparison asks for no line.
+    // The comparison declares this one beside its call, as a service that may be left out.
     #[allow(dead_code)]
     pub fn lutemeteor_line(text: *const u8, length: usize, place: u64, numbers: *mut u64, room: usize) -> u64;
     // The example hands over whole texts; the comparison calls these two.

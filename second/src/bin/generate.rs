@@ -3,7 +3,8 @@
 
 use second::generate::random::Random;
 use second::generate::{
-    contrived, crossing, flat, hexed, hurt, large, marked, nested, report, run, sized, text, CONTRIVED_KINDS, LARGE_KINDS, RUN_KINDS, SIZED_KINDS,
+    contrived, crossing, flat, hexed, hurt, large, marked, nested, report, run, sized, text, CONTRIVED_KINDS,
+    LARGE_KINDS, RUN_KINDS, SIZED_KINDS,
 };
 use second::Document;
 use std::io::{self, Write};

@@ -20,7 +20,10 @@ pub fn contrived(kind: &str, signals: usize) -> Option<Vec<u8>> {
         "words" => (macros(SHOWN, &words, 15), nested(5, &between("Macro k;", 300))),
         "calls" => (bodies("Procedures", "Call", SHOWN, &spelled, 30), nested(5, &between("Call k;", 300))),
         "still" => (macros(&still(), &format!("{}2; B = ", "1".repeat(200)), 30), nested(5, &between("Macro k;", 300))),
-        "many" => (format!("MacroDefs {{ {SHOWN} }}\n"), nested(5, &between(&format!("Macro m {{ A = {}2; }}", "1 ".repeat(20)), 700))),
+        "many" => (
+            format!("MacroDefs {{ {SHOWN} }}\n"),
+            nested(5, &between(&format!("Macro m {{ A = {}2; }}", "1 ".repeat(20)), 700)),
+        ),
         "tables" => (String::new(), choosing(7, &"V { }\n".repeat(9000))),
         "nested" => (entered(&nested(7, &"V { A = 1; }\n".repeat(4200))), "Macro m { A = 12; }".into()),
         _ => return None,
