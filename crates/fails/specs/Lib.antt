@@ -1,1 +1,4 @@
 pub mod Fails
+pub mod Once
+pub mod Judged
+pub mod Written
