@@ -2,11 +2,12 @@
 ghost use mathlib.Core.Path.{_≡_};
 ghost use mathlib.Core.Bool.{true, false};
 ghost use mathlib.Core.List.{List, _∷_, []};
-ghost use Prim.Native.Nat.{ℕ, _+_, _-_, _≤_};
+ghost use Prim.Native.Nat.{ℕ, _+_, _-_, _≤_, min};
 ghost use lib.ListN.{length};
 ghost use Rattle.meaning.specs.Bounds.{cyclesMost};
 ghost use Rattle.meaning.specs.Body.{Body};
 ghost use Rattle.meaning.specs.Statements.{Decls};
+ghost use Rattle.words.specs.Cursor.{span};
 ghost use Rattle.words.specs.Table.{names};
 ghost use Rattle.bursts.specs.Listed.{listedIn};
 ghost use Rattle.index.specs.Index.{linesFrom};
@@ -15,12 +16,22 @@ ghost use Rattle.labels.specs.Table.{Held};
 ghost use Rattle.references.specs.References.{pastBy};
 ghost use Rattle.references.specs.Filled.{noted};
 ghost use Rattle.reports.specs.Report.{Fail};
-ghost use Rattle.fails.specs.Fails.{linesNamed};
+ghost use Rattle.verdicts.specs.Found.{SomeFound};
+ghost use Rattle.fails.specs.Fails.{linesNamed, fails as failsOf};
 ghost use Rattle.fails.specs.Once.{Often, More};
 ghost use Rattle.fails.specs.Judged.{JudgesRecord, Judges, Roomed};
 ghost use Rattle.fails.specs.Written.{PutsOne, WritesOffsets, WritesRecord, Writes};
+ghost use Rattle.fails.specs.Referred.{SomePattern, Blank, Refers};
+ghost use Rattle.fails.specs.Service.{rowsOf, sparedTold, Reports, Answering};
+use heads::Known;
 use references::Before;
+use verdicts::NO_ROOM;
+use verdicts::NOT_PLAYABLE;
 use words::Cursor;
+
+const DEPTH: usize = 8;
+
+const NOT_IN_PATTERN: u8 = 24;
 
 const CYCLES_MOST: u64 = 1_099_511_627_776;
 
@@ -56,6 +67,15 @@ struct Verdict {
 struct Wrote {
     cursor: Cursor,
     at: usize,
+}
+
+pub enum Failures {
+    // how many answers were written
+    Answers(usize),
+    // the number of the refusal, and the place: the text's, or 19
+    Refused(u8, usize),
+    // the report's, with its place in the report
+    ReportRefused(u8, usize),
 }
 
 // ---- the pattern that a report names
@@ -400,4 +420,286 @@ fn write<'a>(
         cursor = w.cursor;
     }
     n
+}
+
+// ---- the references of a pattern
+
+// Labels from where the pattern of this name begins, and for each X of it how many cycles of the pattern come before it, to tables that are lent empty; how
+// many labels there are.
+fn refer<'a>(
+    text: &'a [u8],
+    places: &'a [usize],
+    lists: &'a [u16],
+    tplaces: &'a [usize],
+    book: &'a [usize],
+    rows: &'a [u16],
+    known: Known,
+    patterns: usize,
+    name: &'a [u8],
+    labels: &mut [u16],
+    chains: &mut [u16],
+    nexts: &mut [u16],
+    table: &mut [usize],
+) -> usize
+    requires { ⌜ SomePattern (now text) (now places) (now lists) (now tplaces) (now book) (now rows) known patterns (now name) × Blank (now text) (now labels) (now chains) (now nexts) (now table) ⌝ }
+    ensures { λ r. ⌜ Refers (now (text .entry)) (now (places .entry)) (now (lists .entry)) (now (tplaces .entry)) (now (book .entry)) (now (rows .entry)) known patterns (now (name .entry)) (now (labels .exit)) (now (chains .exit)) (now (nexts .exit)) (now (table .exit)) r ⌝ }
+{
+    let names = &book[measures::PATTERNS * 2..];
+    let i = words::find(text, name, names, patterns);
+    let start = measures::start_at(book, measures::PATTERNS + i);
+    let all = labels::gather(text, start, b"", labels, chains, nexts);
+    let count = all.count;
+    let c = words::cursor_at(text, start);
+    let mut args = [0usize; measures::ROW];
+    references::fill(
+        text,
+        c,
+        places,
+        lists,
+        tplaces,
+        book,
+        rows,
+        known,
+        labels,
+        chains,
+        nexts,
+        count,
+        DEPTH,
+        0,
+        &mut args,
+        table,
+    );
+    count
+}
+
+// ---- the service
+
+// The lesser of two numbers.
+fn lesser(a: usize, b: usize) -> usize
+    ensures { λ r. ⌜ r ≡ min a b ⌝ }
+{
+    if a <= b { a } else { b }
+}
+
+// A sound report, whose pattern is listed once: 24, 19, or its answers.
+fn answer<'a>(
+    text: &'a [u8],
+    places: &'a [usize],
+    lists: &'a [u16],
+    tplaces: &'a [usize],
+    book: &'a [usize],
+    rows: &'a [u16],
+    known: Known,
+    declared: usize,
+    patterns: usize,
+    report: &'a [u8],
+    at: usize,
+    end: usize,
+    from: usize,
+    first: usize,
+    count: usize,
+    spare: bool,
+    cycles: &mut [u64],
+    signals: &mut [u64],
+    letters: &mut [u8],
+) -> Failures
+    requires { ⌜ SomePattern (now text) (now places) (now lists) (now tplaces) (now book) (now rows) known patterns (span (now report) at «end») ⌝ }
+    ensures { λ r. ⌜ Answering (now (text .entry)) (now (places .entry)) (now (lists .entry)) (now (tplaces .entry)) (now (book .entry)) (now (rows .entry)) known declared patterns (now (report .entry)) at «end» «from» first count spare (now (cycles .entry)) (now (cycles .exit)) (now (signals .entry)) (now (signals .exit)) (now (letters .entry)) (now (letters .exit)) r ⌝ }
+{
+    let name = words::bytes_of(report, at, end);
+    let mut labels = [0u16; labels::PLACES];
+    let mut chains = [0u16; labels::HASHES];
+    let mut nexts = [0u16; labels::LABELS];
+    let mut table = [0usize; labels::LABELS];
+    let known_labels = refer(
+        text,
+        places,
+        lists,
+        tplaces,
+        book,
+        rows,
+        known,
+        patterns,
+        name,
+        &mut labels,
+        &mut chains,
+        &mut nexts,
+        &mut table,
+    );
+    let room = lesser(cycles.len(), lesser(signals.len(), letters.len()));
+    let v = judge(
+        report,
+        from,
+        text,
+        places,
+        declared,
+        name,
+        &labels,
+        &chains,
+        &nexts,
+        known_labels,
+        &table,
+        count,
+        room,
+    );
+    if v.outside {
+        return Failures::ReportRefused(NOT_IN_PATTERN, v.place);
+    }
+    if v.full | !spare {
+        return Failures::Refused(NO_ROOM, 0);
+    }
+    let n = write(
+        report,
+        from,
+        text,
+        places,
+        declared,
+        name,
+        &labels,
+        &chains,
+        &nexts,
+        known_labels,
+        &table,
+        first,
+        cycles,
+        signals,
+        letters,
+    );
+    Failures::Answers(n)
+}
+
+// A text that 1 to 16 leave: 17, the report's own faults, 24, 19, or the answers.
+fn answer_found<'a>(
+    text: &'a [u8],
+    places: &'a [usize],
+    lists: &'a [u16],
+    tplaces: &'a [usize],
+    waves: &'a [u8],
+    book: &'a [usize],
+    rows: &'a [u16],
+    list: &'a [usize],
+    used: &'a [u8],
+    v: texts::Verdict,
+    report: &'a [u8],
+    spare: bool,
+    cycles: &mut [u64],
+    signals: &mut [u64],
+    letters: &mut [u8],
+) -> Failures
+    requires { ⌜ SomeFound (now text) (now places) (now lists) (now tplaces) (now waves) (now book) (now rows) (now list) (now used) v ⌝ }
+    ensures { λ r. ⌜ Reports (sparedTold spare (failsOf (now (text .entry)) (now (report .entry)) (rowsOf (now (cycles .entry)) (now (signals .entry)) (now (letters .entry))))) (now (cycles .entry)) (now (cycles .exit)) (now (signals .entry)) (now (signals .exit)) (now (letters .entry)) (now (letters .exit)) r ⌝ }
+{
+    let parts = v.parts;
+    let f = verdicts::failing(
+        text,
+        places,
+        lists,
+        tplaces,
+        waves,
+        book,
+        rows,
+        list,
+        used,
+        v,
+    );
+    if f.failed {
+        return Failures::Refused(NOT_PLAYABLE, f.place);
+    }
+    match reports::reported(report, text, places, parts.signals) {
+        reports::Finding::Refused(n, p) => Failures::ReportRefused(n, p),
+        reports::Finding::Sound(at, end, from) => {
+            let name = words::bytes_of(report, at, end);
+            let t = times_listed(text, book, list, parts.listed, parts.patterns, name);
+            if t.times != 1 {
+                return Failures::ReportRefused(NOT_IN_PATTERN, at);
+            }
+            answer(
+                text,
+                places,
+                lists,
+                tplaces,
+                book,
+                rows,
+                parts.known,
+                parts.signals,
+                parts.patterns,
+                report,
+                at,
+                end,
+                from,
+                t.first,
+                t.cycles,
+                spare,
+                cycles,
+                signals,
+                letters,
+            )
+        }
+    }
+}
+
+// There is room for what else is handed out (`spare`), or that is 19 too.
+pub fn answer_report<'a>(
+    text: &'a [u8],
+    report: &'a [u8],
+    spare: bool,
+    cycles: &mut [u64],
+    signals: &mut [u64],
+    letters: &mut [u8],
+) -> Failures
+    ensures { λ r. ⌜ Reports (sparedTold spare (failsOf (now (text .entry)) (now (report .entry)) (rowsOf (now (cycles .entry)) (now (signals .entry)) (now (letters .entry))))) (now (cycles .entry)) (now (cycles .exit)) (now (signals .entry)) (now (signals .exit)) (now (letters .entry)) (now (letters .exit)) r ⌝ }
+{
+    let mut places = [0usize; signals::PLACES];
+    let mut lists = [0u16; signals::LISTS];
+    let mut tplaces = [0usize; timing::PLACES];
+    let mut waves = [0u8; timing::WAVES];
+    let mut book = [0usize; measures::BOOK];
+    let mut rows = [0u16; measures::ROWS];
+    let mut list = [0usize; bursts::LISTED];
+    let mut used = [0u8; noted::USED];
+    let v = texts::decide(
+        text,
+        &mut places,
+        &mut lists,
+        &mut tplaces,
+        &mut waves,
+        &mut book,
+        &mut rows,
+        &mut list,
+        verdicts::nowhere(),
+        &mut used,
+    );
+    if v.no != 0 {
+        return Failures::Refused(v.no, v.place);
+    }
+    answer_found(
+        text,
+        &places,
+        &lists,
+        &tplaces,
+        &waves,
+        &book,
+        &rows,
+        &list,
+        &used,
+        v,
+        report,
+        spare,
+        cycles,
+        signals,
+        letters,
+    )
+}
+
+// A fail report: for each offset, in the report's order, the run's cycle, the signal's number and the letter (0 for none) to the fronts of three rows.
+pub fn report<'a>(
+    text: &'a [u8],
+    report: &'a [u8],
+    cycles: &mut [u64],
+    signals: &mut [u64],
+    letters: &mut [u8],
+) -> Failures
+    ensures { λ r. ⌜ Reports (failsOf (now (text .entry)) (now (report .entry)) (rowsOf (now (cycles .entry)) (now (signals .entry)) (now (letters .entry)))) (now (cycles .entry)) (now (cycles .exit)) (now (signals .entry)) (now (signals .exit)) (now (letters .entry)) (now (letters .exit)) r ⌝ }
+{
+    answer_report(text, report, true, cycles, signals, letters)
 }
