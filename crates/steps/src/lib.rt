@@ -2,7 +2,7 @@
 // goes past a statement whose cycles all lie before the cycle, or into the one that has it, and spends what that costs; a statement that is passed is played
 // once, as a check without second turns plays it, so that pins and table are what its cycles would have left.
 ghost use mathlib.Core.Path.{_≡_};
-ghost use mathlib.Core.Bool.{true};
+ghost use mathlib.Core.Bool.{true, false};
 ghost use Prim.Native.Nat.{_-_, _<_, _≤_};
 ghost use lib.ListN.{length};
 ghost use Rattle.tokens.specs.Tokens.{toks};
@@ -11,11 +11,10 @@ ghost use Rattle.plays.specs.Plays.{ground, arrays};
 ghost use Rattle.plays.specs.declared.Frame.{Frame};
 ghost use Rattle.steps.specs.Walks.{onceOf, Alike, Copiable, Repeated, Stood, Promised, Stepped, LoopStood, Looped, TurnStood, Turned, ShiftStood, Shifted, UseStood, Entered, IntoStood, WentInto};
 use heads::Known;
+use measures::DEPTH;
 use plays::Frame;
 use rows::Walk;
 use words::Cursor;
-
-const DEPTH: usize = 8;
 
 // The cursor behind what was gone through, the table in force, and how far the window is; and was it the `}`?
 pub struct Walked {
@@ -599,6 +598,18 @@ fn enter<'a>(
     }
 }
 
+// A statement that was gone through, up to the cursor.
+fn gone(cursor: Cursor, table: usize, walk: Walk) -> Walked
+    ensures { λ r. ⌜ r ≡ record { cursor = cursor; table = table; walk = walk; ends = false } ⌝ }
+{
+    Walked {
+        cursor,
+        table,
+        walk,
+        ends: false,
+    }
+}
+
 // The statement at the cursor, or the `}` there.
 fn statement<'a>(
     text: &'a [u8],
@@ -649,28 +660,17 @@ fn statement<'a>(
         },
         heads::What::Vector(place) => {
             pins::put(text, &given, values, feeds, frame.level, signals);
-            Walked {
+            gone(
                 cursor,
                 table,
-                walk: rows::cycle(values, signals, table, walk, buffer),
-                ends: false,
-            }
+                rows::cycle(values, signals, table, walk, buffer),
+            )
         }
         heads::What::Assigns => {
             pins::put(text, &given, values, feeds, frame.level, signals);
-            Walked {
-                cursor,
-                table,
-                walk: rows::spend(walk, 1),
-                ends: false,
-            }
+            gone(cursor, table, rows::spend(walk, 1))
         }
-        heads::What::Chooses(k) => Walked {
-            cursor,
-            table: k,
-            walk: rows::spend(walk, 1),
-            ends: false,
-        },
+        heads::What::Chooses(k) => gone(cursor, k, rows::spend(walk, 1)),
         heads::What::Loops(n) => repeat(
             text,
             cursor,
@@ -732,13 +732,7 @@ fn statement<'a>(
                 args,
                 buffer,
             );
-            let w = r.walk;
-            Walked {
-                cursor,
-                table: r.table,
-                walk: w,
-                ends: false,
-            }
+            gone(cursor, r.table, r.walk)
         }
     }
 }

@@ -1,9 +1,7 @@
 -- The run is its listed patterns one after the other: before the rest of them, whoever goes through the rest has gone through all.
-use Prim.Native.Nat.{ℕ, _-_}
-use native.Mathlib.Nat.{sub-zero}
-use native.Mathlib.Omega.{arith}
-use mathlib.Core.Path.{_≡_, subst}
-use mathlib.Core.Bool.{Bool, true, false}
+use Prim.Native.Nat.{ℕ}
+use mathlib.Core.Path.{_≡_}
+use mathlib.Core.Bool.{true, false}
 use mathlib.Core.Option.{some}
 use mathlib.Core.List.{List, [], _∷_}
 use Rattle.tokens.specs.Tokens.{Tok}
@@ -14,22 +12,13 @@ use Rattle.meaning.specs.Run.{follow, entering, playing, play, visits, start}
 use Rattle.meaning.specs.Statements.{Decl, Decls, Env}
 use Rattle.held.specs.Held.{Stands, Listed}
 use Rattle.rows.specs.declared.Walk.{Walk}
-use Rattle.rows.specs.Went.{over, Going, spends, Went}
-use Rattle.rows.proofs.Going.{went-spent, went-both, went-over, going-on}
+use Rattle.rows.specs.Went.{over, Going, Went}
+use Rattle.rows.proofs.Going.{went-both, went-over, going-on}
 use Rattle.steps.specs.Walks.{Ready, Parted}
-use Rattle.steps.proofs.Parting.{part-inner, ready-rest, ready-only}
+use Rattle.steps.proofs.Parting.{part-inner, ready-rest, ready-only, went-none}
 use Rattle.windows.specs.Run.{way, entry}
 
 -- no cycle
-went-none : {n : ℕ} (w : Walk) (b : List ℕ) → over w ≡ false → Went n [] 0 w w b b
-went-none {n} w b more =
-    subst (λ (k : ℕ). Went n [] 0 w (record { pass = w .pass; row = w .row; show = w .show; budget = k; walking = w .walking; mark = w .mark }) b b)
-    (free (w .walking)) (went-spent w 0 b more (λ e. omega arith))
-  where
-    free : (k : Bool) → w .budget - spends k 0 ≡ w .budget
-    free true = sub-zero (w .budget)
-    free false = sub-zero (w .budget)
-
 -- a pattern, and then the rest of the run from the same state
 pub pattern-parted : (b r : Body) (n p : ℕ)
     → Parted 0 (inner way b r) (start n) p (play 0 (entry b) (start n) .1) (visits 0 (entry b) p) r (start n)

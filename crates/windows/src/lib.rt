@@ -5,10 +5,10 @@ ghost use Rattle.texts.specs.declared.Parts.{Parts};
 ghost use Rattle.plays.specs.Plays.{ground, arrays};
 ghost use Rattle.windows.specs.Run.{SomeListed, WentListed, SomeText, Accepts, Windows};
 use heads::Known;
+use measures::DEPTH;
 use plays::Frame;
 use rows::Walk;
 
-const DEPTH: usize = 8;
 // The budget of a walk: so many times the size of the run.
 const TIMES: usize = 10;
 

@@ -67,6 +67,7 @@ use Rattle.rows.proofs.cycle.Reads as cycle-reads
 use Rattle.rows.proofs.over.Reads as over-reads
 use Rattle.rows.proofs.past.Reads as past-reads
 use Rattle.rows.proofs.spend.Reads as spend-reads
+use Rattle.steps.proofs.gone.Reads as gone-reads
 use Rattle.steps.proofs.keep.Reads as keep-reads
 use Rattle.steps.proofs.once.Reads as once-reads
 use Rattle.steps.proofs.repeated.Reads as repeated-reads
@@ -167,7 +168,7 @@ abbrev repeat-calls : ℕ → repeat-lts.Claims
 repeat-calls t = (reach-below t, reach.Post, turns-below t, turns.Post)
 
 abbrev statement-calls : ℕ → statement-lts.Claims
-statement-calls t = (head-reads.Asked, head-reads.Learnt, put-reads.Asked, put-reads.Learnt, cycle-reads.Asked, cycle-reads.Learnt, spend-reads.Asked, spend-reads.Learnt, repeat-below t, repeat.Post, shift-reads.Asked, shift-reads.Learnt, supply-reads.Asked, supply-reads.Learnt, enter-below t, enter.Post)
+statement-calls t = (head-reads.Asked, head-reads.Learnt, put-reads.Asked, put-reads.Learnt, cycle-reads.Asked, cycle-reads.Learnt, gone-reads.Asked, gone-reads.Learnt, spend-reads.Asked, spend-reads.Learnt, repeat-below t, repeat.Post, shift-reads.Asked, shift-reads.Learnt, supply-reads.Asked, supply-reads.Learnt, enter-below t, enter.Post)
 
 abbrev statements-calls : ℕ → statements-lts.Claims
 statements-calls t = (statement-below t, statement′.Post, over-reads.Asked, over-reads.Learnt)
@@ -753,6 +754,9 @@ statement-cycle-requires t c κs =
     let pays = vector-pays st (pre′ .1 .0) _ _ _ (head′ .ensures .2 (stood .env) (st .holding .describes)) (stood .ready) _ (what′ .given .1) in
     (roomy .few, put′ .ensures .0 .values-long ∙ roomy .values-long, stood .going, pays)
 
+statement-gone-requires : (t : ℕ) → statement-lts.Need-gone-requires (statement-calls t) (statement-at t) statement′.Post
+statement-gone-requires t c κs = search needs
+
 statement-enum-told-2 : (t : ℕ) → statement-lts.Need-enum-told-2 (statement-calls t) (statement-at t) statement′.Post
 statement-enum-told-2 t c = c .match .keys3
 
@@ -774,6 +778,9 @@ statement-spend-requires t c κs =
     let st = stood .standing in
     assigns-pays st (pre′ .1 .0) _ _ _ (head′ .ensures .2 (stood .env) (st .holding .describes)) (stood .ready) (enum-told2′ .given .1)
 
+statement-gone-requires-2 : (t : ℕ) → statement-lts.Need-gone-requires-2 (statement-calls t) (statement-at t) statement′.Post
+statement-gone-requires-2 t c κs = search needs
+
 statement-enum-known-what-2 : (t : ℕ) → statement-lts.Need-enum-known-what-2 (statement-calls t) (statement-at t) statement′.Post
 statement-enum-known-what-2 t c = c .match .keys4
 
@@ -785,6 +792,9 @@ statement-spend-requires-2 t c κs =
     let stood = pre′ .1 .1 in
     let st = stood .standing in
     chooses-pays st (pre′ .1 .0) _ _ _ (head′ .ensures .2 (stood .env) (st .holding .describes)) (stood .ready) _ (what2′ .given .1)
+
+statement-gone-requires-3 : (t : ℕ) → statement-lts.Need-gone-requires-3 (statement-calls t) (statement-at t) statement′.Post
+statement-gone-requires-3 t c κs = search needs
 
 statement-enum-known-what-3 : (t : ℕ) → statement-lts.Need-enum-known-what-3 (statement-calls t) (statement-at t) statement′.Post
 statement-enum-known-what-3 t c = c .match .keys5
@@ -886,6 +896,9 @@ statement-enter-requires t c κs =
       },
     )
 
+statement-gone-requires-4 : (t : ℕ) → statement-lts.Need-gone-requires-4 (statement-calls t) (statement-at t) statement′.Post
+statement-gone-requires-4 t c κs = search needs
+
 statement-same-length : (t : ℕ) → statement-lts.Need-same-length (statement-calls t) (statement-at t) statement′.Post
 statement-same-length t c = search needs
 
@@ -906,25 +919,28 @@ statement-same-length-3 : (t : ℕ) → statement-lts.Need-same-length-3 (statem
 statement-same-length-3 t c = search needs
 
 statement-same-length-4 : (t : ℕ) → statement-lts.Need-same-length-4 (statement-calls t) (statement-at t) statement′.Post
-statement-same-length-4 t c = search needs
+statement-same-length-4 t c =
+    let pre′ = c .before .before .before .before .before .before .before .before .before .before .before .before .before .before .before .before .before .before .before .before .before .before .before .before .before .before .before .before .before .before .before .before .before .before .before .pre in
+    let head′ = c .before .before .before .before .before .before .before .before .before .before .before .before .before .before .before .before .before .before .before .before .before .head in
+    head′ .ensures .1 ∙ sym (pre′ .1 .1 .sized .args-long)
 
 statement-same-length-5 : (t : ℕ) → statement-lts.Need-same-length-5 (statement-calls t) (statement-at t) statement′.Post
 statement-same-length-5 t c = search needs
 
 statement-returns-2 : (t : ℕ) → statement-lts.Need-returns-2 (statement-calls t) (statement-at t) statement′.Post
 statement-returns-2 t c =
-    let pre′ = c .before .before .before .before .before .before .before .before .before .before .before .before .before .before .before .before .before .before .before .before .before .before .before .before .before .before .before .before .before .before .before .before .before .before .pre in
-    let head′ = c .before .before .before .before .before .before .before .before .before .before .before .before .before .before .before .before .before .before .before .before .head in
-    let what′ = c .before .before .before .before .before .before .before .before .before .before .before .before .before .before .what in
-    let put′ = c .before .before .before .before .before .before .before .before .before .put in
-    let cycle′ = c .before .before .cycle in
+    let pre′ = c .before .before .before .before .before .before .before .before .before .before .before .before .before .before .before .before .before .before .before .before .before .before .before .before .before .before .before .before .before .before .before .before .before .before .before .pre in
+    let head′ = c .before .before .before .before .before .before .before .before .before .before .before .before .before .before .before .before .before .before .before .before .before .head in
+    let what′ = c .before .before .before .before .before .before .before .before .before .before .before .before .before .before .before .what in
+    let put′ = c .before .before .before .before .before .before .before .before .before .before .put in
+    let cycle′ = c .before .before .before .cycle in
     let h = head′ .ensures in
     let v = put′ .ensures in
-    record {
+    rw (c .gone .ensures) (record {
       kept = kept-others (pre′ .1 .1 .sized) (v .0) (h .1);
       steps = λ E b us s st ready.
           vector-step st (pre′ .1 .0) _ _ _ (h .2 E (st .holding .describes)) (pre′ .1 .1 .going) _ (what′ .given .1) (v .1) (cycle′ .ensures);
-    }
+    })
 
 statement-same-length-6 : (t : ℕ) → statement-lts.Need-same-length-6 (statement-calls t) (statement-at t) statement′.Post
 statement-same-length-6 t c = search needs
@@ -937,38 +953,38 @@ statement-same-length-8 t c = search needs
 
 statement-returns-3 : (t : ℕ) → statement-lts.Need-returns-3 (statement-calls t) (statement-at t) statement′.Post
 statement-returns-3 t c =
-    let pre′ = c .before .before .before .before .before .before .before .before .before .before .before .before .before .before .before .before .before .before .before .before .before .before .before .before .before .before .before .before .before .pre in
-    let head′ = c .before .before .before .before .before .before .before .before .before .before .before .before .before .before .before .head in
-    let enum-told2′ = c .before .before .before .before .before .before .before .before .before .enum-told2 in
-    let put2′ = c .before .before .before .before .before .put2 in
-    let spend′ = c .spend in
+    let pre′ = c .before .before .before .before .before .before .before .before .before .before .before .before .before .before .before .before .before .before .before .before .before .before .before .before .before .before .before .before .before .before .pre in
+    let head′ = c .before .before .before .before .before .before .before .before .before .before .before .before .before .before .before .before .head in
+    let enum-told2′ = c .before .before .before .before .before .before .before .before .before .before .enum-told2 in
+    let put2′ = c .before .before .before .before .before .before .put2 in
+    let spend′ = c .before .spend in
     let h = head′ .ensures in
     let v = put2′ .ensures in
     let is = enum-told2′ .given .1 in
-    record {
+    rw (c .gone2 .ensures) (record {
       kept = kept-others (pre′ .1 .1 .sized) (v .0) (h .1);
       steps = λ E b us s st ready. (
           let m = h .2 E (st .holding .describes) in
           assigns-step st (pre′ .1 .0) _ _ _ m (pre′ .1 .1 .going) is (assigns-pays st (pre′ .1 .0) _ _ _ m ready is) (spend′ .ensures) (v .1));
-    }
+    })
 
 statement-same-length-9 : (t : ℕ) → statement-lts.Need-same-length-9 (statement-calls t) (statement-at t) statement′.Post
 statement-same-length-9 t c = search needs
 
 statement-returns-4 : (t : ℕ) → statement-lts.Need-returns-4 (statement-calls t) (statement-at t) statement′.Post
 statement-returns-4 t c =
-    let pre′ = c .before .before .before .before .before .before .before .before .before .before .before .before .before .before .before .before .before .before .before .before .before .before .pre in
-    let head′ = c .before .before .before .before .before .before .before .before .head in
-    let what2′ = c .before .before .what2 in
-    let spend2′ = c .spend2 in
+    let pre′ = c .before .before .before .before .before .before .before .before .before .before .before .before .before .before .before .before .before .before .before .before .before .before .before .pre in
+    let head′ = c .before .before .before .before .before .before .before .before .before .head in
+    let what2′ = c .before .before .before .what2 in
+    let spend2′ = c .before .spend2 in
     let h = head′ .ensures in
     let is = what2′ .given .1 in
-    record {
+    rw (c .gone3 .ensures) (record {
       kept = kept-args (pre′ .1 .1 .sized) (h .1);
       steps = λ E b us s st ready. (
           let m = h .2 E (st .holding .describes) in
           chooses-step st (pre′ .1 .0) _ _ _ m (pre′ .1 .1 .going) _ is (chooses-pays st (pre′ .1 .0) _ _ _ m ready _ is) (spend2′ .ensures) (st .shows));
-    }
+    })
 
 statement-same-length-10 : (t : ℕ) → statement-lts.Need-same-length-10 (statement-calls t) (statement-at t) statement′.Post
 statement-same-length-10 t c = search needs
@@ -1051,7 +1067,7 @@ statement-returns-7 t c =
     let f = supply′ .ensures in
     let v = enter′ .ensures in
     let is = what4′ .given .1 in
-    record {
+    rw (c .gone4 .ensures) (record {
       kept = kept-then (kept-supplied (pre′ .1 .1 .sized) (h .1) (f .0) (f .1)) (v .kept);
       steps = λ E b us s st ready. (
           let m = h .2 E (st .holding .describes) in
@@ -1059,7 +1075,7 @@ statement-returns-7 t c =
           let used = called-using st d (shows-supplied (st .shows) (f .1)) (f .2 _ _ (d .supplied)) in
           called-step d (enter′ .result) (st .holding)
           (v .tells E (d .body) (d .after) (d .arguments) s (called-use d used (called-measured d st (pre′ .1 .0) m is) ready)));
-    }
+    })
 
 abbrev statements-Inv-loop : statements-lts.InvT-loop
 statements-Inv-loop text places lists tplaces book rows waves known signals frame table values₀ feeds₀ args₀ buffer₀ cursor₀ chosen₀ w₀ values feeds args buffer cursor chosen w =
@@ -1493,12 +1509,15 @@ pub +body-of+enter+into+reach+repeat+statement+statements+turns-spec : {M : Type
     (statement-slice-aggregate-put t)
     (statement-put-requires t)
     (statement-cycle-requires t)
+    (statement-gone-requires t)
     (statement-enum-told-2 t)
     (statement-slice-aggregate-put-2 t)
     (statement-put-requires-2 t)
     (statement-spend-requires t)
+    (statement-gone-requires-2 t)
     (statement-enum-known-what-2 t)
     (statement-spend-requires-2 t)
+    (statement-gone-requires-3 t)
     (statement-enum-known-what-3 t)
     (statement-repeat-requires t)
     (statement-enum-told-3 t)
@@ -1508,6 +1527,7 @@ pub +body-of+enter+into+reach+repeat+statement+statements+turns-spec : {M : Type
     (statement-add-supply t)
     (statement-supply-requires t)
     (statement-enter-requires t)
+    (statement-gone-requires-4 t)
     (statement-same-length t)
     (statement-returns t)
     (statement-same-length-2 t)
