@@ -120,14 +120,7 @@ impl Comparison {
             let calls = Window::every(document);
             calls.iter().for_each(|call| self.window.compare(named, call, proved, second));
         }
-        for _ in 0..times(often.indexes) {
-            self.index.compare(named, &Index::draw(document, random), proved, second);
-            self.belongs.compare(named, &Belongs::draw(document, random), proved, second);
-            self.holds.compare(named, &Holds::draw(document, random), proved, second);
-        }
-        if let Some(document) = document.filter(|_| often.indexes > 0) {
-            Holds::edges(document).iter().for_each(|call| self.holds.compare(named, call, proved, second));
-        }
+        self.indexes(named, proved, second, times(often.indexes), random);
         for _ in 0..times(often.folds) {
             self.fold.compare(named, &Fold::draw(document, random), proved, second);
         }
@@ -139,6 +132,19 @@ impl Comparison {
         }
         self.places(named, proved, second, often, random);
         self.lines_of(named, proved, second, often, random);
+    }
+
+    /// The index, and what is asked of one, so often.
+    fn indexes(&mut self, named: &str, proved: &dyn Reader, second: &Second, often: usize, random: &mut Random) {
+        let document = second.document().ok();
+        for _ in 0..often {
+            self.index.compare(named, &Index::draw(document, random), proved, second);
+            self.belongs.compare(named, &Belongs::draw(document, random), proved, second);
+            self.holds.compare(named, &Holds::draw(document, random), proved, second);
+        }
+        if let Some(document) = document.filter(|_| often > 0) {
+            Holds::edges(document).iter().for_each(|call| self.holds.compare(named, call, proved, second));
+        }
     }
 
     /// The next token at places all over one text.
