@@ -9,8 +9,9 @@
  *
  *   0           The call has its answer, which stands at the front of the buffers that were lent. What stands
  *               behind it there is left as it was.
- *   any other   The call is refused, and all buffers are as they were (but see lutemeteor_waveforms). answer % 32 is the refusal's number, 1 to 19, or 21 to 23;
- *               answer / 32 is its place, a byte of the text counted from 0, or the text's length for its end.
+ *   any other   The call is refused, and all buffers are as they were (but see lutemeteor_waveforms). answer % 32 is the refusal's number, 1 to 19, or 21 to 24;
+ *               answer / 32 is its place, a byte of the text counted from 0, or the text's length for its end. Where
+ *               lutemeteor_report refuses a report, the answer is 2 to the 32nd more, and its place is one of the report.
  *
  * The intake, at the end of this file, is for a text that arrives in blocks: its state stands between the calls in
  * numbers of the caller's, also where it is refused. It has a refusal of its own, 20.
@@ -19,8 +20,8 @@
  * the text; then 15, 16, 17, 18, 21, 23, 22, 19. A text that lutemeteor_check accepts is refused by lutemeteor_name and
  * lutemeteor_waveform for 18 or 19 only, by lutemeteor_waveforms for 8 too, and by lutemeteor_window for 19,
  * or for 12 at 0 before that: its mark is none; by lutemeteor_index for 19 only, by lutemeteor_belongs for 21 only, and by
- * lutemeteor_holds for 21 or 19, and by lutemeteor_fold for 23, 22 or 19. lutemeteor_save refuses it for 19
- * only, and answers for many texts that lutemeteor_check refuses.
+ * lutemeteor_holds for 21 or 19, and by lutemeteor_fold for 23, 22 or 19; by lutemeteor_report for 19, or before that for
+ * a fault of the report. lutemeteor_save refuses it for 19 only, and answers for many texts that lutemeteor_check refuses.
  *
  * Pointers   Behind each pointer stands how many bytes or numbers are there; for a buffer, how many it has room
  *            for. All of them must be there during the call, numbers must be aligned as uint64_t is, and no buffer
@@ -31,7 +32,8 @@
  * Stack      A call keeps its tables on the stack, 1,230,000 bytes and more. The deepest text that was measured (8 bodies in
  *            each other) took 1,530,000, its caller with it. That is a measurement and no bound: have 2 MiB.
  *            lutemeteor_save keeps a copy of the text besides, 65,536 bytes; lutemeteor_fold two pages of as many, a window of
- *            262,144 bytes and the places of a table's waveforms, 524,288: have 3 MiB for it.
+ *            262,144 bytes and the places of a table's waveforms, 524,288: have 3 MiB for it. lutemeteor_report keeps tables of
+ *            labels besides, 466,944 bytes: have 3 MiB for it too.
  *            lutemeteor_token and lutemeteor_line take less than 1,000 bytes.
  */
 #ifndef LUTEMETEOR_STIL_H
@@ -55,7 +57,8 @@ enum {
     LUTEMETEOR_ROW_MOST = 258,   /* bytes of a row: a character for each signal, the table's digit, and LF */
     LUTEMETEOR_EVENTS_MOST = 16, /* events of one waveform */
     LUTEMETEOR_CHART_MOST = 64,  /* waveforms of one list */
-    LUTEMETEOR_INDEX_MOST = 1357 /* bytes of an index */
+    LUTEMETEOR_INDEX_MOST = 1357, /* bytes of an index */
+    LUTEMETEOR_FAILS_MOST = 32768 /* answers to one report */
 };
 
 /* The refusals; behind the semicolon, their place. */
@@ -89,7 +92,10 @@ enum {
                                         length */
     LUTEMETEOR_NOT_THE_INDEX = 21,   /* an index is not what a rebuild of it writes; 0 */
     LUTEMETEOR_MANY_PATTERNS = 22,   /* the folded text would have more than 16 Patterns; 0 */
-    LUTEMETEOR_MANY_CYCLES = 23      /* the run has more than 1,000,000 cycles, which are not folded; 0 */
+    LUTEMETEOR_MANY_CYCLES = 23,     /* the run has more than 1,000,000 cycles, which are not folded; 0 */
+    LUTEMETEOR_NOT_IN_PATTERN = 24   /* of a report: its pattern is not listed exactly once; its name. A reference is unknown;
+                                        the reference. A cycle falls outside the pattern; the offset, or the reference
+                                        where there is none */
 };
 
 /* Of an answer that is not 0: the refusal's number, and its place. */
@@ -100,7 +106,13 @@ static inline unsigned lutemeteor_refusal(uint64_t answer)
 
 static inline size_t lutemeteor_place(uint64_t answer)
 {
-    return (size_t)(answer / 32);
+    return (size_t)(answer % 4294967296u / 32);
+}
+
+/* Is its place one of the report that was handed to lutemeteor_report, and not of the text? */
+static inline int lutemeteor_of_report(uint64_t answer)
+{
+    return answer / 4294967296u != 0;
 }
 
 /*
@@ -250,6 +262,24 @@ uint64_t lutemeteor_save(uint8_t *text, size_t length, uint64_t *spans, size_t s
  */
 uint64_t lutemeteor_fold(const uint8_t *text, size_t length, uint8_t *folded, size_t folded_room, uint64_t *numbers,
                          size_t room);
+
+/*
+ * Report: what a tester's fail report (`PatternFailReport { Pattern NAME; FailData { .. } }`) says of the run. Its pattern is
+ * one that the text lists once; each record has a reference (that pattern, or an X name in it), a signal, and offsets, which
+ * count from the first cycle at or behind the reference, at its first execution. A record without offset stands for offset 0.
+ *
+ *   cycles       the run's cycle of each offset, counted from 0, in the report's order
+ *   signals      the signal's number, in the same places
+ *   letters      the state letter H, L, T or X, in the same places; 0 where the offset has none
+ *   numbers[0]   how many there are; half of the report's bytes are always enough
+ *
+ * Refused 1 to 17 by the text; then by the report, with places in it and with 2 to the 32nd added to the answer: its own
+ * faults, 1, 2, 3, then 4 to 9 from the left, and then the first 24. Last 19, at place 0 and nothing added, where one of the three
+ * rows has less room than there are offsets, or `room` is 0.
+ */
+uint64_t lutemeteor_report(const uint8_t *text, size_t length, const uint8_t *report, size_t report_length,
+                           uint64_t *cycles, size_t cycles_room, uint64_t *signals, size_t signals_room,
+                           uint8_t *letters, size_t letters_room, uint64_t *numbers, size_t room);
 
 /*
  * Token: the first token at or behind the place `at`, as if the text began there; blanks and comments are passed over.

@@ -7,3 +7,4 @@ mod Restoring
 pub mod Chained
 pub mod Theorems
 mod Flattening
+mod Telling

@@ -4,3 +4,4 @@ pub mod Intakes
 pub mod Indexes
 pub mod Saves
 pub mod Folds
+pub mod Reports

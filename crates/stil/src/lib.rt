@@ -1,4 +1,4 @@
-// The services, folding (`flats`), the next token, the line of a place and the intake for callers in C or Rust: the answer is 0, with what it holds at the front of buffers,
+// The services, folding (`flats`), fail reports (`fails`), the next token, the line of a place and the intake for callers in C or Rust: the answer is 0, with what it holds at the front of buffers,
 // or a refusal, and all buffers are as they were.
 ghost use mathlib.Core.Path.{_≡_};
 ghost use mathlib.Core.List.{_∷_, []};
@@ -15,6 +15,8 @@ ghost use Rattle.meaning.specs.Charts.{waveforms as waveformsOf};
 ghost use Rattle.texts.specs.Told.{packedRefusal};
 ghost use Rattle.index.specs.Index.{index as indexOf, belongs as belongsTo, holds as holdsIn};
 ghost use Rattle.folded.specs.Fold.{fold as foldOf};
+ghost use Rattle.fails.specs.Fails.{fails as failsOf};
+ghost use Rattle.fails.specs.Service.{rowsOf};
 ghost use Rattle.saving.specs.Saving.{save as saveOf};
 ghost use Rattle.verdicts.specs.Judged.{whichOf};
 ghost use Rattle.stil.specs.Interface.{Hands, packed, fronted, fiveOf, twoOf, threeOf, tokenOf, positionOf, Opens, Draws};
@@ -23,6 +25,7 @@ ghost use Rattle.stil.specs.Intakes.{stateLeast, byteOf, progressIs, Tel
 ghost use Rattle.stil.specs.Indexes.{Writes, holderTwo};
 ghost use Rattle.stil.specs.Saves.{Restores};
 ghost use Rattle.stil.specs.Folds.{Flattens};
+ghost use Rattle.stil.specs.Reports.{reportRefusal, Replies};
 use intake::Intake;
 use intake::Progress;
 use services::Belonging;
@@ -241,6 +244,39 @@ pub extern "C" fn lutemeteor_fold(text: &[u8], folded: &mut [u8], numbers: &mut 
         flats::Folded::Refused(n, p) => pack(n, p),
         flats::Folded::Text(length) => {
             numbers[0] = length as u64;
+            0
+        }
+    }
+}
+
+// What is added to a refusal of the report: 2 to the power of 32.
+const OF_REPORT: u64 = 4_294_967_296;
+
+// A refusal of a fail report as one number.
+fn pack_report(no: u8, place: usize) -> u64
+    ensures { λ r. ⌜ r ≡ reportRefusal no place ⌝ }
+{
+    OF_REPORT + pack(no, place)
+}
+
+// A fail report: for each offset the run's cycle, the signal's number and the letter, 0 for none; and how many there are. A buffer without room for its part is
+// 19.
+#[no_mangle]
+pub extern "C" fn lutemeteor_report<'a>(
+    text: &'a [u8],
+    report: &'a [u8],
+    cycles: &mut [u64],
+    signals: &mut [u64],
+    letters: &mut [u8],
+    numbers: &mut [u64],
+) -> u64
+    ensures { λ r. ⌜ Replies (failsOf (now (text .entry)) (now (report .entry)) (rowsOf (now (cycles .entry)) (now (signals .entry)) (now (letters .entry)))) (now (cycles .entry)) (now (cycles .exit)) (now (signals .entry)) (now (signals .exit)) (now (letters .entry)) (now (letters .exit)) (now (numbers .entry)) r (now (numbers .exit)) ⌝ }
+{
+    match fails::answer_report(text, report, 1 <= numbers.len(), cycles, signals, letters) {
+        fails::Failures::Refused(n, p) => pack(n, p),
+        fails::Failures::ReportRefused(n, p) => pack_report(n, p),
+        fails::Failures::Answers(n) => {
+            numbers[0] = n as u64;
             0
         }
     }
