@@ -2,13 +2,11 @@
 use Prim.Native.Nat.{ℕ}
 use native.Mathlib.Omega.{arith}
 use mathlib.Core.Path.{_≡_, refl, sym, ap, _∙_}
-use mathlib.Core.Bool.{Bool, true, false, not}
+use mathlib.Core.Bool.{Bool, true, false}
 use mathlib.Core.List.{List, []}
 use lib.Dec.{ltb}
-use Rattle.tokens.specs.Written.{same}
-use Rattle.tokens.specs.Refusals.{notHere}
-use Rattle.tokens.specs.Tokens.{Tok, Toks, tok, toks}
-use Rattle.meaning.specs.Reader.{ok, after, _>>=_, give, refuseIf, any, dueOf}
+use Rattle.tokens.specs.Tokens.{toks}
+use Rattle.meaning.specs.Reader.{after, _>>=_, any, dueOf}
 use Rattle.meaning.specs.Signals.{Names}
 use Rattle.meaning.specs.Body.{Args, Body}
 use Rattle.meaning.specs.Data.{argument, arguments}
@@ -19,6 +17,7 @@ use Rattle.words.specs.declared.Cursor.{Cursor}
 use Rattle.words.specs.Cursor.{stream, alive, Goes}
 use Rattle.words.proofs.Flow.{read, stream-on, stream-stop}
 use Rattle.data.proofs.Characters.{takes-data}
+use Rattle.timing.proofs.Places.{due-rest}
 
 -- ---- tokens are taken
 
@@ -36,21 +35,13 @@ takes-arguments ns b =
 
 -- ---- behind a token that is due
 
-due-rest : (w : List ℕ) (t : Tok) (ts us : Toks) (p : ℕ) → dueOf w (tok t ts) ≡ ok p us → us ≡ ts
-unfolding dueOf any refuseIf give after _>>=_
-due-rest w t ts us p e = by (same (t .word) w) e
-  where
-    by : (z : Bool) → after (refuseIf (not z) notHere (t .at) ts) (λ u. give (t .at)) ≡ ok p us → us ≡ ts
-    by true e = cc
-    by false e = let z : _≡_ {A = ℕ} 0 1 = cc in absurd (omega arith)
-
 -- the tokens there are those from the token's end on
 pub due-behind : {text : List ℕ} {c r : Cursor} (w : List ℕ) {p : ℕ} → Goes text c (dueOf w) r p → alive r ≡ true → stream text r ≡ toks text (c .end)
 unfolding dueOf any after _>>=_
 due-behind {text} {c} {r} w {p} g live = by (ltb (c .at) (c .end)) refl
   where
     by : (z : Bool) → ltb (c .at) (c .end) ≡ z → stream text r ≡ toks text (c .end)
-    by true e = due-rest w _ _ _ p (ap (dueOf w) (sym (stream-on text c e)) ∙ read g live .gave)
+    by true e = due-rest w _ _ (ap (dueOf w) (sym (stream-on text c e)) ∙ read g live .gave)
     by false e =
         let q = ap (dueOf w) (sym (stream-stop text c e)) ∙ read g live .gave in
         let z : _≡_ {A = ℕ} 0 1 = cc in

@@ -14,13 +14,11 @@ ghost use Rattle.timing.specs.Makes.{Makes};
 ghost use Rattle.assigns.specs.Given.{Ready, Gave};
 ghost use Rattle.measures.specs.Uses.{rowLength, Uses};
 ghost use Rattle.arguments.specs.Supplied.{Supplied, UsedRow, Fits, TurnsBy, blockSize, Idle, BlockFits, fitsAt};
+use assigns::BAD_DATA;
 use words::Cursor;
 
-// Refusal: a signal has an argument already, or too many characters.
-const BAD_DATA: u8 = 12;
-
 // Refusal: not one signal, or one without `#` in the body.
-const BAD_ARGUMENT: u8 = 13;
+pub const BAD_ARGUMENT: u8 = 13;
 
 // The most characters of an argument.
 const ARGUMENT_MOST: usize = 4_096;

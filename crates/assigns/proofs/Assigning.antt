@@ -32,7 +32,7 @@ use Rattle.assigns.proofs.Rows.{row-most}
 use Rattle.assigns.proofs.Table.{gave-more, placed-take}
 use Rattle.assigns.proofs.Read.{tidy-name}
 
-off-on : (c : Cursor) → alive c ≡ false → alive c ≡ true → ⊥
+pub off-on : (c : Cursor) → alive c ≡ false → alive c ≡ true → ⊥
 off-on c e f = let w : true ≡ false = sym f ∙ e in let z : _≡_ {A = ℕ} 0 1 = cc in omega arith
 
 -- ---- the name

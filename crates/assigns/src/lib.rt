@@ -12,7 +12,7 @@ ghost use Rattle.assigns.specs.Given.{Gave, Gives, placed, Row, Ready};
 use words::Cursor;
 
 // Refusal: a signal assigned twice, or not as many characters as signals.
-const BAD_DATA: u8 = 12;
+pub const BAD_DATA: u8 = 12;
 
 // How many signals the name of number i has.
 pub fn size(lists: &[u16], i: usize) -> usize

@@ -13,6 +13,7 @@ use Rattle.words.specs.declared.Cursor.{Cursor}
 use Rattle.words.specs.Cursor.{alive, stream, from, Goes}
 use Rattle.words.proofs.Flow.{from-on, from-stop, follows, alike}
 use Rattle.timing.specs.Makes.{Brings}
+use Rattle.timing.proofs.EntryReading.{assoc}
 use Rattle.measures.specs.Measures.{joined}
 use Rattle.measures.proofs.Joined.{joined-vec, joined-set, joined-inner}
 use Rattle.bodies.specs.Bodies.{rest}
@@ -26,14 +27,6 @@ from-alike {A} text c m k h = by (alive c) refl
     by : (z : Bool) → alive c ≡ z → from text c m ≡ from text c k
     by true e = from-on text c m e ∙ h (stream text c) ∙ sym (from-on text c k e)
     by false e = from-stop text c m e ∙ sym (from-stop text c k e)
-
-bind-bind : {A B C : Type 0} (m : Reader A) (f : A → Reader B) (g : B → Reader C) (ts : Toks) → ((m >>= f) >>= g) ts ≡ (m >>= λ a. f a >>= g) ts
-unfolding _>>=_ after
-bind-bind {A} {B} {C} m f g ts = by (m ts)
-  where
-    by : (r : Res A) → _≡_ {A = Res C} (after (after r f) g) (after r (λ a us. after (f a us) g))
-    by (ok a us) = refl
-    by (refuse n p) = refl
 
 give-give : {A B C : Type 0} (m : Reader A) (f : A → B) (g : B → C) (h : A → C) → ((a : A) → g (f a) ≡ h a) → (ts : Toks)
     → ((m >>= λ a. give (f a)) >>= λ b. give (g b)) ts ≡ (m >>= λ a. give (h a)) ts
@@ -53,7 +46,7 @@ module _ (text : List ℕ) (e : Env) (own : Bool) (d : ℕ) (seen : Bool) where
   unfolding rest _>>=_
   turn-on front ts =
       ap (λ (r : Res Body). after r (λ b. give (joined front b))) (statements-turn e d own seen ts)
-      ∙ bind-bind (head e own d seen) (behind (e .names) (deeper e d) (onward e own d (deeper e d)) seen) (λ r. give (joined front r)) ts
+      ∙ assoc (head e own d seen) (behind (e .names) (deeper e d) (onward e own d (deeper e d)) seen) (λ r. give (joined front r)) ts
 
   -- behind the head reading goes on with what is behind it
   module _ {c b : Cursor} {h : Head} (front : Body) (g : Goes text c (head e own d seen) b h) where
@@ -87,7 +80,7 @@ module _ (text : List ℕ) (e : Env) (own : Bool) (d : ℕ) (seen : Bool) where
           same =
               sym (from-alike text r _ _ (give-give (onward e own d (deeper e d) s) (tail body) (joined front) (joined front′) j))
               ∙ follows (λ b. (onward e own d (deeper e d) s >>= λ r. give (tail b r)) >>= λ r. give (joined front r)) f
-              ∙ sym (from-alike text b _ _ (bind-bind m (λ b. onward e own d (deeper e d) s >>= λ r. give (tail b r)) (λ r. give (joined front r))))
+              ∙ sym (from-alike text b _ _ (assoc m (λ b. onward e own d (deeper e d) s >>= λ r. give (tail b r)) (λ r. give (joined front r))))
               ∙ ap (λ (m : Reader Body). from text b (m >>= λ r. give (joined front r))) (sym q)
               ∙ headed;
         }

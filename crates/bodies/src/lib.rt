@@ -20,15 +20,14 @@ ghost use Rattle.noted.specs.Noted.{Grows};
 ghost use Rattle.heads.specs.Known.{Describes, Described};
 ghost use Rattle.bodies.specs.Bodies.{Notes, Counted, Summed, HeadIs, Held, went as wentOn, last as lastOf, Turned, Begun};
 ghost use Rattle.bodies.specs.Blocks.{oneMore, oneOf as oneDue, opening, blockOf, wordOf, Declares};
+use arguments::BAD_ARGUMENT;
 use heads::Known;
+use measures::DEPTH;
 use measures::Measure;
 use words::Cursor;
 
-const DEPTH: usize = 8;
-
-const TOO_MANY: u8 = 8;
-
-const BAD_ARGUMENT: u8 = 13;
+// Refusal: more of them than the bound.
+pub const TOO_MANY: u8 = 8;
 
 // The cursor behind statements, and their measure.
 pub struct Measured {

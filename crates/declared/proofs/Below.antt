@@ -13,7 +13,7 @@ use Rattle.signals.specs.Names.{namesOf, AllTidy, none, more, Fronted}
 use Rattle.signals.proofs.Tidy.{gave, declared-front}
 use Rattle.timing.specs.Marks.{Below, AllBelow}
 
-tidy-below : (most : ℕ) → most ≤ signalsMost → {l : List ℕ} → TidyBelow most l → Below l
+pub tidy-below : (most : ℕ) → most ≤ signalsMost → {l : List ℕ} → TidyBelow most l → Below l
 tidy-below most h bare i k = absurd (omega arith)
 tidy-below most h (next b u t) zero k = omega arith
 tidy-below most h (next b u t) (suc i) k = tidy-below most h t i (omega arith)

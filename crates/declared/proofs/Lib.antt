@@ -1,2 +1,2 @@
-mod Below
+pub mod Below
 pub mod Numbers

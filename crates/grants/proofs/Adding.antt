@@ -3,7 +3,7 @@ use Prim.Native.Nat.{ℕ, suc, _+_, _≤_}
 use native.Mathlib.Omega.{arith}
 use mathlib.Core.Path.{_≡_, refl, sym, ap, subst}
 use mathlib.Core.Bool.{Bool, true, false, _||_, _&&_}
-use mathlib.Core.List.{List, [], _∷_, _++_, append-nil}
+use mathlib.Core.List.{List, [], _∷_, append-nil}
 use lib.Dec.{eqb}
 use lib.ListN.{getD}
 use Rattle.meaning.specs.Lists.{count}
@@ -14,6 +14,7 @@ use Rattle.walks.proofs.Arguments.{or-false}
 use Rattle.measures.specs.Measures.{joined}
 use Rattle.measures.specs.Uses.{flag, Given}
 use Rattle.measures.proofs.Joined.{joined-done, joined-assoc}
+use Rattle.measures.proofs.Counting.{count-append}
 use Rattle.plays.specs.Plays.{Ground, SumOf, Summed}
 use Rattle.sums.specs.Sums.{Sum, Sums}
 use Rattle.sums.proofs.Exact.{no-more-than-once}
@@ -68,22 +69,13 @@ module _ {g : Ground} {E : Env} {r : ℕ} where
       right true e = refl
       right false e = e
 
-count-behind : (s : ℕ) (a b : List ℕ) → count s (a ++ b) ≡ count s a + count s b
-unfolding count
-count-behind s [] b = omega arith
-count-behind s (x ∷ a) b = by (eqb x s) (count-behind s a b)
-  where
-    by : (w : Bool) → count s (a ++ b) ≡ count s a + count s b → elim w [ true ↦ suc (count s (a ++ b)) | false ↦ count s (a ++ b) ] ≡ elim w [ true ↦ suc (count s a) | false ↦ count s a ] + count s b
-    by true ih = omega arith
-    by false ih = ih
-
 shifting-joined : (s : ℕ) (a b : Body) → count s (shifting (joined a b)) ≡ count s (shifting a) + count s (shifting b)
 unfolding joined shifting count
 shifting-joined s done b = omega arith
 shifting-joined s (vec p x r) b = shifting-joined s r b
 shifting-joined s (set′ x r) b = shifting-joined s r b
 shifting-joined s (inner w c r) b =
-    omega (arith, count-behind s (inShift w (outside c)) (shifting (joined r b)), count-behind s (inShift w (outside c)) (shifting r), shifting-joined s r b)
+    omega (arith, count-append s (inShift w (outside c)) (shifting (joined r b)), count-append s (inShift w (outside c)) (shifting r), shifting-joined s r b)
 
 -- two Shifts are found
 pub once-then : {x y twice more : Bool} {one two : Body} → Once x twice one → Once y more two → Once (x || y) ((twice || more) || (x && y)) (joined one two)

@@ -56,10 +56,6 @@ module _ {tabs : Tables} {n m : ℕ} {S U R : Sum} where
   }
 
 -- the first turn isn't spoilt where both aren't
-pub unspoilt : (x y : Bool) → (x ≡ true → y ≡ true) → y ≡ false → x ≡ false
-unspoilt true y f e = absurd (differ (sym (f refl) ∙ e))
-unspoilt false y f e = refl
-
 module _ {g : Ground} {E : Env} {us : Toks} {more r row : ℕ} {b : Body} {marks marks₂ sums sums₁ sums₂ : List ℕ} {x : Tallied} (is : row ≡ loopRow more) (some : 0 < more)
     (levels : more ≤ depthMost) (o : Open more marks r) (cleared : Only row sums sums₁) (nothing : (n : ℕ) → Nothing n (sumAt sums₁ row))
     (k : Kept (more - 1) row marks marks₂ sums₁ sums₂) (y : Gone g E us row marks marks₂ sums₁ sums₂ b x) (plain : Plain b) where

@@ -27,9 +27,9 @@ ghost use Rattle.sums.specs.Parts.{Assigned, Cycled, Looped as LoopedSum};
 ghost use Rattle.tallies.specs.Rows.{rowSize, sumAt, Only, Marked};
 ghost use Rattle.grants.specs.Grants.{Unknown, Sized, Stood, Promised, Stepped, LoopStood, Looped, ShiftStood, Shifted, UseStood, Used, BodyStood, Bodied, SomePattern, Patterned, ListedFirst, Marking};
 use heads::Known;
+use measures::DEPTH;
 use words::Cursor;
 
-const DEPTH: usize = 8;
 // Rows of sums: one for each macro and procedure, that of a listed pattern, and one for each Loop around a place.
 const PATTERN: usize = measures::BODIES;
 

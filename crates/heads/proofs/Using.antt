@@ -22,6 +22,7 @@ use Rattle.words.specs.declared.Cursor.{Cursor}
 use Rattle.words.proofs.Flow.{given as no-more, recast, stays, checked, passed, alive-before}
 use Rattle.timing.specs.Makes.{Makes}
 use Rattle.timing.proofs.Making.{made, makes-then, makes-bind}
+use Rattle.assigns.proofs.Assigning.{off-on}
 use Rattle.measures.specs.Uses.{rowLength, rowAt, Uses}
 use Rattle.measures.specs.Book.{bodies, measureAt, Used}
 use Rattle.measures.specs.declared.Measure.{Measure}
@@ -32,9 +33,6 @@ use Rattle.heads.specs.Heads.{Tells, OfKind, SomeKind}
 use Rattle.heads.specs.declared.Part.{Part}
 use Rattle.heads.specs.declared.What.the-variants.{Uses as UsesBody}
 use Rattle.heads.proofs.ByNumber.{fromFirst, decl, found, number-below, in-book}
-
-off-on : (c : Cursor) → alive c ≡ false → alive c ≡ true → ⊥
-off-on c e f = let w : true ≡ false = sym f ∙ e in let z : _≡_ {A = ℕ} 0 1 = cc in omega arith
 
 -- the part of the rows that the code takes
 abbrev pub taken : List ℕ → ℕ → List ℕ

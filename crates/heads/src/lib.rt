@@ -16,13 +16,11 @@ ghost use Rattle.assigns.specs.Given.{Gave, Ready};
 ghost use Rattle.measures.specs.Book.{bookLength, rowsLength};
 ghost use Rattle.heads.specs.Known.{Describes, Described};
 ghost use Rattle.heads.specs.Heads.{Tells, Plainly, OfKind, SomeKind, partOf, lastHeads, others};
+use arguments::BAD_ARGUMENT;
 use words::Cursor;
 
 // Refusal: a token that is not allowed here.
-const NOT_HERE: u8 = 4;
-
-// Refusal: arguments that do not fit the body.
-const BAD_ARGUMENT: u8 = 13;
+pub const NOT_HERE: u8 = 4;
 
 // Refusal: bodies in bodies beyond the levels that are left.
 const TOO_DEEP: u8 = 14;

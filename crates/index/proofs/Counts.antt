@@ -16,6 +16,7 @@ use Rattle.meaning.specs.Meaning.{given, runOf, firsts, Meaning, meaning}
 use Rattle.meaning.specs.Statements.{Decls}
 use Rattle.meaning.specs.Edited.{alone}
 use Rattle.meaning.proofs.Accepted.{accepted}
+use Rattle.words.proofs.Loops.{both}
 use Rattle.index.specs.Index.{keywords, blocks, Line, lineOf, linesFrom, linesOf, indexOf, holder}
 use Rattle.index.proofs.Left.{first-listed, block-of}
 
@@ -64,11 +65,6 @@ pub record Holding (n j k : ℕ) (xs : List Line) : Type 0 where
   pub number : j + length before ≡ k
   pub from : line .first ≤ n
   pub to : n < line .first + line .count
-
-both : (a b : Bool) → (a && b) ≡ true → (a ≡ true) × (b ≡ true)
-both true true e = (refl, refl)
-both true false e = let z : _≡_ {A = ℕ} 0 1 = cc in absurd (omega arith)
-both false b e = let z : _≡_ {A = ℕ} 0 1 = cc in absurd (omega arith)
 
 holding : (n j k : ℕ) (xs : List Line) → holder n j xs ≡ some k → Holding n j k xs
 unfolding holder

@@ -25,8 +25,9 @@ use Rattle.meaning.specs.Meaning.{given, runOf, firsts, fitting, Meaning, meani
 use Rattle.meaning.proofs.Gives.{Gives, gives-bind, gives-after, gives-give, gives-if, gives-until}
 use Rattle.meaning.proofs.Accepted.{accepted}
 use Rattle.held.proofs.Parts.{parts}
-use Rattle.arguments.proofs.Lists.{both}
 use Rattle.pages.specs.Pages.{digits, decimal, digitsMost}
+use Rattle.words.proofs.Loops.{both}
+use Rattle.timing.proofs.TableReading.{firsts-length}
 use Rattle.sections.specs.Listing.{countedOf, lines, Short}
 use Rattle.index.specs.Index.{standsAt, keywordBefore, keywords, Block, blocks, Line, lineOf, linesFrom, linesOf, Index, indexOf, lineWritten, linesWritten, written}
 use Rattle.index.proofs.Names.{tables-few, listed-few}
@@ -186,11 +187,6 @@ text-fits text e = by (leb (length text) textMost) refl e
     by true f e = leb-true (length text) textMost f
     by false f e = let z : _≡_ {A = ℕ} 0 1 = cc in absurd (omega arith)
 
-length-firsts : {A : Type 0} (l : List (Tok × A)) → length (firsts l) ≡ length l
-unfolding firsts
-length-firsts [] = refl
-length-firsts (x ∷ l) = ap suc (length-firsts l)
-
 tokens-below : (text : List ℕ) → length text ≤ textMost → Below textMost (toks text 0)
 unfolding toks
 tokens-below text h = lex-below textMost plain 0 (drop 0 text) (omega arith)
@@ -216,7 +212,7 @@ index-short text m e =
     let many : length xs ≡ length (a .doc .listed) = as-many (a .doc .patterns) ks (a .doc .listed) (m .run) (a .run) 0 in
     let long = lines-few (a .doc .patterns) ks keys (a .doc .listed) (listed-few .all _ _ _ (p .burst-read)) (m .run) (a .run) 0 (omega arith) in
     let named = names-few (firsts (a .doc .tables)) (tables-few _ .all _ _ _ (p .timing-read)) in
-    let n = length-firsts (a .doc .tables) in
+    let n = firsts-length (a .doc .tables) in
     let c = counted-few (bytes "PATTERNS") 1 (length xs) (omega arith) in
     let d = counted-few (bytes "TABLES") 0 (length (firsts (a .doc .tables))) (omega arith) in
     let is : linesOf (toks text 0) (document (toks text 0)) ≡ xs = rw (a .read) in

@@ -15,12 +15,11 @@ ghost use Rattle.pages.specs.Pages.{decimal};
 ghost use Rattle.sections.specs.Listing.{Short, Fronts, Adds};
 ghost use Rattle.index.specs.Index.{keywordBefore, keywords as keywordsOf, linesFrom, lineWritten, linesWritten, written, holder as holderOf};
 ghost use Rattle.index.specs.Lines.{numberMost, patternMost, indexMost, namesIn, Lists, SomeLists, blocksIn, SomeNamed, Shares, indexIn, heldOf};
+use texts::PATTERNS;
 use words::Cursor;
 
 // Room for an index, whatever the digits of its numbers.
 pub const INDEX: usize = 1_858;
-
-const PATTERNS: usize = 16;
 
 // The place of a Pattern keyword, and the cursor at the name behind it.
 struct Keyword {

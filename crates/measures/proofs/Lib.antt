@@ -2,7 +2,7 @@ mod Capped
 pub mod Joined
 mod Measured
 pub mod Within
-mod Counting
+pub mod Counting
 mod Changed
 mod Marked
 pub mod Uses

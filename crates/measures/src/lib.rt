@@ -11,16 +11,24 @@ ghost use Rattle.measures.specs.Uses.{rowLength, Uses, Given};
 ghost use Rattle.measures.specs.Book.{entries, bookLength, rowsLength, bodies as bodiesIn, startAt, measureAt, Kept, KeptRow};
 use words::Cursor;
 
-// One above the bounds.
-const DEPTH_CAP: usize = 9;
+// Bounds: bodies in bodies, the statements and the cycles of a run.
+pub const DEPTH: usize = 8;
 
-const SIZE_CAP: usize = 65_537;
+pub const SIZE_MOST: usize = 65_536;
 
-const CYCLES_CAP: usize = 1_099_511_627_777;
+pub const CYCLES_MOST: usize = 1_099_511_627_776;
+
+// One above them, and above the characters of an argument.
+const DEPTH_CAP: usize = DEPTH + 1;
+
+const SIZE_CAP: usize = SIZE_MOST + 1;
+
+const CYCLES_CAP: usize = CYCLES_MOST + 1;
 
 const USES_CAP: u16 = 4_097;
 
-const MARK: u8 = 35;
+// `#`, in place of a character.
+pub const MARK: u8 = 35;
 
 // The book: entries of macros, procedures, the burst and patterns.
 pub const PROCEDURES: usize = 32;

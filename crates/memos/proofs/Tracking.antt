@@ -26,7 +26,7 @@ contra false b h e = refl
 granted-fewer : {tabs : Tables} {a r i c : ℕ} → ((k : ℕ) → k ≤ assignedMark → isMarked a k ≡ true → isMarked r k ≡ true) → Granted tabs r i c → Granted tabs a i c
 granted-fewer h g = record { each = λ k l e. g .each k l (h k (omega arith) e) }
 
-follow-none : (x : Played) → follow x (λ z. (z, [])) ≡ x
+pub follow-none : (x : Played) → follow x (λ z. (z, [])) ≡ x
 unfolding follow
 follow-none x = ap (λ (l : List Cycle). (x .0, l)) (append-nil (x .1))
 

@@ -1,4 +1,4 @@
--- What is remembered of uses of bodies: rows of numbers, each of one use that was played and in which no cycle failed.
+-- What is remembered of uses, statements with a body in them: rows of numbers, each of one use that was played and in which no cycle failed.
 use Prim.Native.Nat.{ℕ, _+_, _*_, _%_, _<_, _≤_}
 use mathlib.Core.Path.{_≡_}
 use mathlib.Core.Bool.{true, false}

@@ -1,4 +1,5 @@
-// Uses of bodies that were played before, in which no cycle failed: rows of numbers, each of one use, from a table to a table and pins. While a use is played it is
+// Uses that were played before, in which no cycle failed: rows of numbers, each of one use, from a table to a table and pins. A use is a statement with a body in it: Macro,
+// Call, or Loop. While a use is played it is
 // tracked, for each signal, under which tables what stood there before is shown, and whether it is assigned: so a row holds for all pins that could be shown so.
 ghost use mathlib.Core.Path.{_≡_};
 ghost use mathlib.Core.Bool.{true, false};
@@ -9,7 +10,7 @@ ghost use Rattle.memos.specs.Tracks.{bitOf, isMarked, assignedMark, mark
 ghost use Rattle.memos.specs.Memo.{rowAt, memoRow, beforeAt, pictureSize, Short, Near, Notes, Points, Traces, Pictures, pinsOf, Restores, Writes, AtLevel, telling, Remembered, Finds, Brings};
 use words::Cursor;
 
-// A statement that uses a body, where it stands in the text, and how many second turns may be open in it.
+// A statement with a body in it, where it stands in the text, and how many second turns may be open in it.
 pub struct Use {
     pub seconds: usize,
     pub fault: usize,
@@ -59,7 +60,7 @@ const KEPT: usize = 65_536;
 // Tables, and none: each has a row of its own for a use.
 const STARTS: usize = 9;
 
-// Bytes of `Call`: a statement with a shorter word first uses no body, and is not looked for.
+// Bytes of `Call` and `Loop`: a statement with a shorter word first has no body in it, and is not looked for.
 const SHORTEST: usize = 4;
 
 // ---- numbers

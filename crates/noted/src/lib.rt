@@ -12,11 +12,8 @@ ghost use Rattle.timing.specs.Held.{Held};
 ghost use Rattle.measures.specs.Uses.{Given};
 ghost use Rattle.arguments.specs.Supplied.{Supplied, DataAt};
 ghost use Rattle.noted.specs.Noted.{Grows, CharNoted, CharsNoted, Gives, Supplies, Covered, Fine};
-
-// `#`, in place of a character.
-const MARK: u8 = 35;
-
-const CHARS: usize = 128;
+use measures::MARK;
+use timing::CHARS;
 
 // How long the marks are.
 pub const USED: usize = sets::MOST * CHARS;

@@ -16,17 +16,14 @@ ghost use Rattle.measures.specs.Uses.{Given};
 ghost use Rattle.arguments.specs.Supplied.{Supplied};
 ghost use Rattle.pins.specs.Shown.{Shows, Roomy, Playable, Others, Idle, eight, Feeding, Fills, Told, Skips, HasMark, Having, Ahead, Advances, Leaves, Returns, vector, feedAt, valuesLength, feedsLength, levels};
 use feeds::Feed;
-
-const MARK: u8 = 35;
-
-const TABLES: usize = 8;
-
-const CHARS: usize = 128;
+use measures::MARK;
+use timing::CHARS;
+use timing::TABLES;
 
 const EIGHT: usize = 8;
 
 // Rows of values: the pins in force, and one for each level.
-pub const LEVELS: usize = 9;
+pub const LEVELS: usize = measures::DEPTH + 1;
 
 pub const VALUES: usize = (LEVELS + 1) * sets::MOST;
 

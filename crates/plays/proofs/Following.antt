@@ -51,3 +51,11 @@ failing-plays {g} {tabs} {level} {y} {us} {r} {p} e h =
   where
     never : r .failed ≡ false → ⊥
     never q = let z : true ≡ false = sym e ∙ q in let w : _≡_ {A = ℕ} 0 1 = cc in omega arith
+
+-- where none does, no place is told
+pub sound-plays : {g : Ground} {tabs : Tables} {level : ℕ} {y : Arrays} {us : Toks} {r : Result} {p : Played} {place : ℕ} {ends : Bool} → r .failed ≡ false
+    → Plays g tabs level y us r p → Plays g tabs level y us (record { cursor = r .cursor; failed = false; place = place; table = r .table; ends = ends }) p
+sound-plays e h = record {
+  told = record { fails = λ q. (let z : _≡_ {A = ℕ} 0 1 = cc in absurd (omega arith)); sound = λ q. h .told .sound e; shows = λ q. h .told .shows e };
+  behind = λ q. h .behind e;
+}

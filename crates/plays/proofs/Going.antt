@@ -119,10 +119,10 @@ again-standing table′ st n = record {
 -- from c₀ to c, whatever body is held at c₀, some of its statements were played
 pub record Going (g : Ground) (marks sums memo₀ memo : List ℕ) (more level k t : ℕ) (c₀ : Cursor) (table₀ : ℕ) (x₀ : Arrays) (c : Cursor) (table : ℕ) (x : Arrays) : Type 0 where
   pub kept : Kept level x₀ x
-  pub resumes : (E : Env) (b : Body) (us : Toks) (s : State) → Standing g (stream (g .text) c₀) more level table₀ x₀ E b us s → Resumed g more level x E us (s .args) c
+  pub resumes : (E : Env) (b : Body) (us : Toks) (s : State) → Standing g (stream (g .text) c₀) more level table₀ x₀ E b us s → Heads g memo₀ E → Resumed g more level x E us (s .args) c
   pub onward : (E : Env) (b : Body) (us : Toks) (s : State) → Standing g (stream (g .text) c₀) more level table₀ x₀ E b us s → Knows g marks sums memo₀ E
       → Onward g memo₀ memo more level table x E us k t b s c
   pub memo-long : length memo ≡ length memo₀
   pub below : Below (nestOf more) memo₀ memo
-  pub heads : Heads g memo
+  pub heads : (E : Env) (b : Body) (us : Toks) (s : State) → Standing g (stream (g .text) c₀) more level table₀ x₀ E b us s → Heads g memo₀ E → Heads g memo E
   pub learnt : (E : Env) (b : Body) (us : Toks) (s : State) → Standing g (stream (g .text) c₀) more level table₀ x₀ E b us s → Knows g marks sums memo₀ E → Knows g marks sums memo E

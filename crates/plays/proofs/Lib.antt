@@ -4,6 +4,7 @@ pub mod Following
 pub mod Heading
 pub mod Keeping
 pub mod Tracks
+mod Alone
 pub mod Stepping
 pub mod Shifting
 pub mod Turning

@@ -16,15 +16,13 @@ use borrow.Author.Tests.{lt-ltb, eqb-true}
 use Rattle.tokens.specs.Tokens.{Toks, toks, left}
 use Rattle.meaning.specs.Lists.{has, inside, count}
 use Rattle.meaning.specs.Timing.{Tables}
-use Rattle.meaning.specs.Body.{Assigns, Args, assigning, choosing, Kind, Way, looped, shifted, entered, Body, done, vec, inner, marked, outside, shifting, supplied}
+use Rattle.meaning.specs.Body.{Assigns, Args, assigning, choosing, Way, looped, shifted, entered, Body, done, vec, inner, marked, outside, shifting, supplied}
 use Rattle.meaning.specs.Data.{assigned}
 use Rattle.meaning.specs.Run.{shiftOf, State, Played as Play, puts, changed, follow, again, entering}
 use Rattle.meaning.specs.Meaning.{firstFailing}
 use Rattle.meaning.specs.Statements.{Decl, Env, Head, ends, vecs, sets, loops, shifts, uses}
 use Rattle.meaning.proofs.Turns.{Plain, Good}
 use Rattle.held.specs.Held.{freeHead, HeadAt, Holds}
-use Rattle.held.proofs.Only.{split}
-use Rattle.held.proofs.Turn.{takes-head}
 use Rattle.turns.specs.Few.{loopFew, playingFew, playFew}
 use Rattle.words.specs.Cursor.{alive, stream}
 use Rattle.words.specs.declared.Cursor.{Cursor}
@@ -40,7 +38,7 @@ use Rattle.heads.specs.declared.What.the-variants.{Ends, Vector, Assigns as Ass
 use Rattle.heads.specs.Heads.{kindOf, Tells}
 use Rattle.pins.specs.Shown.{tableOf, Feeding, Shows, Playable, Told, vector}
 use Rattle.plays.specs.declared.Played.{Played}
-use Rattle.plays.specs.Plays.{Ground, Holding, Behind, Summed, Single, Fits, Arrays, arrays, Showing, Standing, Telling, Plays, Ended, nestOf, Steps, Moves, Using, Invoking, Calling}
+use Rattle.plays.specs.Plays.{Ground, Holding, alone, Past, Passes, Summed, Single, Fits, Arrays, arrays, Showing, Standing, Telling, Plays, Ended, nestOf, Steps, Moves, Using, Invoking, Calling}
 use Rattle.plays.proofs.Supply.{same-puts, same-changed, same-playing, same-play}
 use Rattle.plays.proofs.Fitting.{inside-parts, fits-again, fits-behind-vec, fits-behind-set, fits-behind-inner, fits-some, fits-looped, fits-shifted, fits-entered}
 use Rattle.plays.proofs.Following.{first-fails, second-alike, alike-same, alike-then}
@@ -334,50 +332,41 @@ inside-moves i more-comes h = record {
       (record { rest = i .rest; on = q .on; holds = rw (q .there) (i .behind); fits = fits-behind-inner refl (i .fits); fed = q .fed }, rw (q .there) (i .less)));
 }
 
--- ---- a use that is read no more
+-- ---- a statement that is read no more
 
--- the statement at c uses a body, and behind it, at r, statements go on
-pub record Reused (g : Ground) (c r : Cursor) (more level : ℕ) (E : Env) (b : Body) (us : Toks) (s : State) : Type 0 where
-  pub kind : Kind
-  pub decl : Decl
-  pub turns : ℕ
-  pub arguments : Args
-  pub rest : Body
-  pub read : HeadAt E (stream (g .text) c) (uses kind decl turns arguments) (stream (g .text) r)
-  pub is : b ≡ inner (entered kind turns arguments) (decl .body) rest
-  pub fits : Fits more level (s .args) (inner (entered kind turns arguments) (decl .body) rest)
-  pub behind : Holds E (stream (g .text) r) rest us
-
+-- at c a statement has a body in it, and behind it, at r, statements go on
 module _ {g : Ground} {c r : Cursor} {more level table : ℕ} {x : Arrays} {E : Env} {b : Body} {us : Toks} {s : State} (st : Standing g (stream (g .text) c) more level table x E b us s)
-    (on : alive r ≡ true) (h : Behind g c r) where
-  pub reused : Reused g c r more level E b us s
-  reused =
-      let u = h .each E (st .holding .describes) in
-      let d = split E (stream (g .text) c) b us (st .holds) (uses (u .0) (u .1) (u .2) (u .3)) (stream (g .text) r) (u .4) in
-      record { kind = u .0; decl = u .1; turns = u .2; arguments = u .3; rest = d .0; read = u .4; is = d .1; fits = rw (d .1) at (st .fits); behind = d .3 }
+    (on : alive r ≡ true) (h : Passes g E c r) where
+  pub reused : Past E (stream (g .text) c) (stream (g .text) r) b us
+  reused = h .each b us (st .holds)
 
-  reused-less : left (stream (g .text) r) < left (stream (g .text) c)
-  reused-less = takes-head E _ _ _ .falls _ _ _ (reused .read)
+  pub reused-holds : Holds E (stream (g .text) c) (inner (reused .way) (reused .body) (reused .rest)) us
+  reused-holds = rw (reused .is) at (st .holds)
+
+  reused-fits : Fits more level (s .args) (inner (reused .way) (reused .body) (reused .rest))
+  reused-fits = rw (reused .is) at (st .fits)
 
   pub reused-moves : {y : Arrays} (z : Played) → z .cursor ≡ r → z .ends ≡ false → Feeding (g .text) (y .feeds) level (s .args) → Moves g (stream (g .text) c) more level y E us (s .args) z
   reused-moves z there more-comes fed =
-      let u = reused in
+      let p = reused in
       record {
         ended = λ e f. true-false f more-comes;
-        goes = λ e f. rw there (record { rest = u .rest; on = on; holds = u .behind; fits = fits-behind-inner refl (u .fits); fed = record { rest = s .args; same = refl; feeding = fed } }, reused-less);
+        goes = λ e f. rw there (
+          record { rest = p .rest; on = on; holds = p .behind; fits = fits-behind-inner refl reused-fits; fed = record { rest = s .args; same = refl; feeding = fed } },
+          p .less,
+        );
       }
 
-  pub reused-step : {memo memo′ : List ℕ} {y : Arrays} (z : Played) (k t : ℕ) → z .cursor ≡ r → z .ends ≡ false
-      → Telling g (E .tables) level y z (entering (reused .kind) (reused .arguments) (playFew k (reused .turns) (reused .decl .body)) s)
-      → (z .failed ≡ false → Tracking (E .tables) (g .signals) (nestOf more) memo memo′ s (entering (reused .kind) (reused .arguments) (playFew k (reused .turns) (reused .decl .body))))
+  pub reused-step : {memo memo′ : List ℕ} {y : Arrays} (z : Played) (k t : ℕ) → z .cursor ≡ r → z .ends ≡ false → Telling g (E .tables) level y z (alone k t (reused .way) (reused .body) s)
+      → (z .failed ≡ false → Tracking (E .tables) (g .signals) (nestOf more) memo memo′ s (alone k t (reused .way) (reused .body)))
       → Steps g memo memo′ (stream (g .text) c) more level y E us k t b s z
-  unfolding playFew playingFew shiftOf
-  reused-step z k t there more-comes p tracked =
-      let u = reused in
-      let w = entered (u .kind) (u .turns) (u .arguments) in
-      steps-on (entering (u .kind) (u .arguments) (playFew k (u .turns) (u .decl .body))) (u .rest) (λ z. ap (λ (q : Body). playFew k t q z) (u .is)) (st .holding)
-      (fits-behind-inner (same-playing k t w (λ j. playFew j (u .turns) (u .decl .body)) (λ j. same-play j (u .turns) (u .decl .body)) s) (u .fits)) more-comes p tracked
-      λ h. rw there (on, u .behind, reused-less)
+  unfolding playFew
+  reused-step z k t there more-comes told tracked =
+      let p = reused in
+      let play : ℕ → State → Play = λ j. playFew j (shiftOf t (p .way)) (p .body) in
+      steps-on (alone k t (p .way) (p .body)) (p .rest) (λ z. ap (λ (q : Body). playFew k t q z) (p .is)) (st .holding)
+      (fits-behind-inner (same-playing k t (p .way) play (λ j. same-play j (shiftOf t (p .way)) (p .body)) s) reused-fits) more-comes told tracked
+      λ h. rw there (on, p .behind, p .less)
 
 -- where the sums are known, a used body may be passed
 pub invoked-calling : {g : Ground} {c : Cursor} {i t more level table : ℕ} {marks sums given : List ℕ} {x : Arrays} {E : Env} {b : Body} {us : Toks} {a : Args} {s : State}

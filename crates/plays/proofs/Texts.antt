@@ -26,10 +26,10 @@ use Rattle.heads.specs.declared.Known.{Known}
 use Rattle.texts.specs.declared.Parts.{Parts}
 use Rattle.texts.proofs.Runs.{listFrom, list-cut, list-end}
 use Rattle.plays.specs.declared.Played.{Played}
-use Rattle.plays.specs.Plays.{Ground, ground, Holding, Summed, Knows, Arrays, arrays, Sized}
+use Rattle.plays.specs.Plays.{Ground, ground, Holding, Summed, Heads, Knows, Arrays, arrays, Sized}
 use Rattle.plays.specs.Run.{ListedAt, PlaysListed, Runs, SomeRun, Decides}
 use Rattle.plays.proofs.Patterns.{Playing, patterns-fit}
-use Rattle.plays.proofs.Recalling.{knows-sums}
+use Rattle.plays.proofs.Recalling.{heads-none, knows-sums}
 use Rattle.plays.proofs.Running.{Left, left-all, left-none, Next, next, next-fails, next-left, opening-long, good-listed}
 
 -- ---- the answer
@@ -150,10 +150,12 @@ module _ (text places lists tplaces waves book rows list : List ℕ) (known : Kn
   -- from the listed name of number k on, whatever text the tables hold and whose sums are known, its patterns are left
   pub record Unplayed (marks sums memo : List ℕ) (k : ℕ) (x : Arrays) : Type 0 where
     pub sized : Sized all 0 x
+    pub heads : (p : Parts) (d : Read) (run : Body) (h : Runs text places lists tplaces waves book rows list known signals listed patterns p d run)
+        → Heads all memo (h .tabled .parts .env)
     pub left : (p : Parts) (d : Read) (run : Body) (h : Runs text places lists tplaces waves book rows list known signals listed patterns p d run)
         → Summed all marks sums (h .tabled .parts .env)
         → Left (h .tabled .parts .env .tables) signals (h .tabled .parts .env) (d .patterns) run (listFrom text list listed k) × Knows all marks sums memo (h .tabled .parts .env)
 
   pub unplayed : {marks sums memo : List ℕ} → SomeRun text places lists tplaces waves book rows list known signals listed patterns → ((i : ℕ) → getD memo i 0 ≡ 0)
       → Unplayed marks sums memo 0 (arrays (replicate valuesLength 0) (replicate feedsLength 0) (replicate (signalsMost * 2) 0))
-  unplayed s blank = record { sized = opening-sized s; left = λ p d run h m. (run-begins h, knows-sums m blank) }
+  unplayed s blank = record { sized = opening-sized s; heads = λ p d run h. heads-none blank; left = λ p d run h m. (run-begins h, knows-sums m blank) }

@@ -9,13 +9,13 @@ use Rattle.tokens.specs.Tokens.{Toks, toks, left}
 use Rattle.meaning.specs.Bounds.{signalsMost, tablesMost, depthMost}
 use Rattle.meaning.specs.Lists.{inside, count}
 use Rattle.meaning.specs.Timing.{Tables}
-use Rattle.meaning.specs.Body.{Assigns, Args, Kind, Way, looped, shifted, entered, Body, done, vec, set′, inner, depth, outside, shifting, supplied}
-use Rattle.meaning.specs.Run.{State, Played as Play, follow, again, entering}
+use Rattle.meaning.specs.Body.{Assigns, Args, Way, looped, shifted, entered, Body, done, vec, set′, inner, depth, outside, shifting, supplied}
+use Rattle.meaning.specs.Run.{shiftOf, State, Played as Play, follow, again, entering}
 use Rattle.meaning.specs.Meaning.{firstFailing}
-use Rattle.meaning.specs.Statements.{Decl, Env, uses}
+use Rattle.meaning.specs.Statements.{Decl, Env, loops, uses}
 use Rattle.meaning.proofs.Turns.{Plain, Good}
 use Rattle.held.specs.Held.{HeadAt, Holds}
-use Rattle.turns.specs.Few.{playFew}
+use Rattle.turns.specs.Few.{playingFew, playFew}
 use Rattle.words.specs.Cursor.{alive, stream}
 use Rattle.words.specs.declared.Cursor.{Cursor}
 use Rattle.signals.specs.Names.{AllTidy}
@@ -82,11 +82,15 @@ pub record Summed (g : Ground) (marks sums : List ℕ) (E : Env) : Type 0 where
   pub each : (i : ℕ) → i < bodies → getD marks i 0 ≡ isSummed → SumOf g E sums i 0
   pub shifted-each : (i : ℕ) → i < bodies → getD marks i 0 ≡ isShifted → SumOf g E sums i 1
 
--- ---- uses that are remembered
+-- ---- uses and Loops that are remembered
 
 -- the statement at the cursor c, in which so many second turns may be open
 abbrev pub useAt : ℕ → Cursor → Use
 useAt k c = record { seconds = k; fault = c .fault; at = c .at; end = c .end }
+
+-- a statement with a body in it, alone, where the Shift of the body around it plays t times
+abbrev pub alone : (k t : ℕ) → Way → Body → State → Play
+alone k t w b = playingFew k t w (λ j. playFew j (shiftOf t w) b)
 
 -- p, which was played from the state s over n signals, has no cycle that fails; it leaves this table, and these pins where they were assigned
 pub record Comes (tabs : Tables) (n : ℕ) (m : ℕ → ℕ) (table : ℕ) (pins : ℕ → ℕ) (s : State) (p : Play) : Type 0 where
@@ -97,26 +101,43 @@ pub record Comes (tabs : Tables) (n : ℕ) (m : ℕ → ℕ) (table : ℕ) (pins
   pub table-is : p .0 .table ≡ tableOf table
   pub args-same : p .0 .args ≡ s .args
 
--- so does the use at the cursor c, whatever body is used there, from every state with this table whose pins are granted, and with fewer second turns too
+-- so does the statement at the cursor c, whatever body is in it, from every state with this table whose pins are granted, and with fewer second turns too
 pub record Outcome (g : Ground) (E : Env) (k : ℕ) (c : Cursor) (table : ℕ) (m : ℕ → ℕ) (table′ : ℕ) (pins : ℕ → ℕ) : Type 0 where
-  pub each : (j : ℕ) → j ≤ k → (kind : Kind) (d : Decl) (t : ℕ) (a : Args) (us : Toks) → HeadAt E (stream (g .text) c) (uses kind d t a) us
+  pub each : (j : ℕ) → j ≤ k → (w : Way) (b rest : Body) (us : Toks) → Holds E (stream (g .text) c) (inner w b rest) us → (t : ℕ)
       → (s : State) → length (s .pins) ≡ g .signals → s .table ≡ tableOf table → ((i : ℕ) → i < g .signals → Granted (E .tables) (m i) i (getD (s .pins) i 0))
-      → Comes (E .tables) (g .signals) m table′ pins s (entering kind a (playFew j t (d .body)) s)
+      → Comes (E .tables) (g .signals) m table′ pins s (alone j t w b s)
 
 -- what a row tells is so
 pub record Remembers (g : Ground) (memo : List ℕ) (E : Env) : Type 0 where
   pub each : (j k : ℕ) (c b : Cursor) (table : ℕ) (m : ℕ → ℕ) (table′ : ℕ) (pins : ℕ → ℕ)
       → Row memo (g .signals) j (telling (useAt k c) b table m table′ pins) → Outcome g E k c table m table′ pins
 
--- at the cursor c a statement uses a body, and b is behind it, whatever is declared
-pub record Behind (g : Ground) (c b : Cursor) : Type 0 where
-  pub each : (E : Env) → Describes (g .text) (g .places) (g .lists) (g .tplaces) (g .book) (g .rows) (g .known) E
-      → (kind : Kind) × (d : Decl) × (t : ℕ) × (a : Args) × HeadAt E (stream (g .text) c) (uses kind d t a) (stream (g .text) b)
+-- the body b, which is held from ts on up to us, begins with a statement that has a body in it; from vs on the rest is held
+pub record Past (E : Env) (ts vs : Toks) (b : Body) (us : Toks) : Type 0 where
+  pub way : Way
+  pub body : Body
+  pub rest : Body
+  pub is : b ≡ inner way body rest
+  pub behind : Holds E vs rest us
+  pub less : left vs < left ts
 
--- each row has the cursor behind its use
-pub record Heads (g : Ground) (memo : List ℕ) : Type 0 where
+-- at the cursor c a statement has a body in it, and b is behind it
+pub record Passes (g : Ground) (E : Env) (c b : Cursor) : Type 0 where
+  pub each : (body : Body) (us : Toks) → Holds E (stream (g .text) c) body us → Past E (stream (g .text) c) (stream (g .text) b) body us
+
+-- the same, whatever is declared
+pub record Behind (g : Ground) (c b : Cursor) : Type 0 where
+  pub each : (E : Env) → Describes (g .text) (g .places) (g .lists) (g .tplaces) (g .book) (g .rows) (g .known) E → Passes g E c b
+
+-- at the cursor c a Loop of n turns begins, and b is behind its head, whatever is declared
+pub record LoopAt (g : Ground) (c b : Cursor) (n : ℕ) : Type 0 where
+  pub each : (E : Env) → Describes (g .text) (g .places) (g .lists) (g .tplaces) (g .book) (g .rows) (g .known) E
+      → HeadAt E (stream (g .text) c) (loops n) (stream (g .text) b)
+
+-- each row has the cursor behind its statement
+pub record Heads (g : Ground) (memo : List ℕ) (E : Env) : Type 0 where
   pub each : (j k : ℕ) (c b : Cursor) (table : ℕ) (m : ℕ → ℕ) (table′ : ℕ) (pins : ℕ → ℕ)
-      → Row memo (g .signals) j (telling (useAt k c) b table m table′ pins) → Behind g c b
+      → Row memo (g .signals) j (telling (useAt k c) b table m table′ pins) → Passes g E c b
 
 -- the row that is found is for the use u, and holds for these pins
 pub record Recalls (waves memo : List ℕ) (n : ℕ) (u : Use) (table : ℕ) (values : List ℕ) (r : Found) : Type 0 where
@@ -131,9 +152,10 @@ nestOf more = depthMost - more
 pub record Below (nest : ℕ) (memo memo′ : List ℕ) : Type 0 where
   pub each : (i : ℕ) → i < nest * signalsMost → getD memo′ i 0 ≡ getD memo i 0
 
--- what is known of the bodies that a text uses
+-- what is known of the bodies that a text uses, and of statements that were played
 pub record Knows (g : Ground) (marks sums memo : List ℕ) (E : Env) : Type 0 where
   pub summed : Summed g marks sums E
+  pub heads : Heads g memo E
   pub remembers : Remembers g memo E
 
 -- ---- bodies that can be played
@@ -235,12 +257,12 @@ pub record Promised (g : Ground) (marks sums : List ℕ) (ts : Toks) (more level
 -- the same, of each body that is fine, where what is remembered is so; and it is so behind it
 pub record PromisedWhere (fine : Body → Type 0) (g : Ground) (marks sums memo memo′ : List ℕ) (ts : Toks) (more level nest table : ℕ) (x y : Arrays) (f : Body → State → Play) (r : Played) : Type 0 where
   pub kept : Kept level x y
-  pub ended : (E : Env) (b : Body) (us : Toks) (s : State) → Standing g ts more level table x E b us s → r .failed ≡ false → Ended g level y us (s .args) (r .cursor)
+  pub ended : (E : Env) (b : Body) (us : Toks) (s : State) → Standing g ts more level table x E b us s → Heads g memo E → r .failed ≡ false → Ended g level y us (s .args) (r .cursor)
   pub plays : (E : Env) (b : Body) (us : Toks) (s : State) → Standing g ts more level table x E b us s → Knows g marks sums memo E → fine b → Plays g (E .tables) level y us r (f b s)
   pub memo-long : length memo′ ≡ length memo
   pub below : Below nest memo memo′
-  pub heads : Heads g memo′
-  pub learnt : (E : Env) (b : Body) (us : Toks) (s : State) → Standing g ts more level table x E b us s → Knows g marks sums memo E → Knows g marks sums memo′ E
+  pub heads : (E : Env) (b : Body) (us : Toks) (s : State) → Standing g ts more level table x E b us s → Heads g memo E → Heads g memo′ E
+  pub learnt : (E : Env) (b : Body) (us : Toks) (s : State) → Standing g ts more level table x E b us s → Knows g marks sums memo E → fine b → Knows g marks sums memo′ E
   pub tracks : (E : Env) (b : Body) (us : Toks) (s : State) → Standing g ts more level table x E b us s → Knows g marks sums memo E → fine b → r .failed ≡ false
       → Tracking (E .tables) (g .signals) nest memo memo′ s (f b)
 
@@ -298,12 +320,12 @@ pub record Moves (g : Ground) (ts : Toks) (more level : ℕ) (y : Arrays) (E : E
 
 pub record Stepped (g : Ground) (marks sums memo memo′ : List ℕ) (ts : Toks) (more level table : ℕ) (x y : Arrays) (k t : ℕ) (r : Played) : Type 0 where
   pub kept : Kept level x y
-  pub moves : (E : Env) (b : Body) (us : Toks) (s : State) → Standing g ts more level table x E b us s → Moves g ts more level y E us (s .args) r
+  pub moves : (E : Env) (b : Body) (us : Toks) (s : State) → Standing g ts more level table x E b us s → Heads g memo E → Moves g ts more level y E us (s .args) r
   pub steps : (E : Env) (b : Body) (us : Toks) (s : State) → Standing g ts more level table x E b us s → Knows g marks sums memo E
       → Steps g memo memo′ ts more level y E us k t b s r
   pub memo-long : length memo′ ≡ length memo
   pub below : Below (nestOf more) memo memo′
-  pub heads : Heads g memo′
+  pub heads : (E : Env) (b : Body) (us : Toks) (s : State) → Standing g ts more level table x E b us s → Heads g memo E → Heads g memo′ E
   pub learnt : (E : Env) (b : Body) (us : Toks) (s : State) → Standing g ts more level table x E b us s → Knows g marks sums memo E → Knows g marks sums memo′ E
 
 -- whatever V a Shift holds from ts on, it was played t times
@@ -357,7 +379,7 @@ pub record Performed (g : Ground) (marks sums memo memo′ : List ℕ) (i more l
       → Telling g (E .tables) level y r (entering (kindOf i) a (playFew k t b) s)
   pub memo-long : length memo′ ≡ length memo
   pub below : Below (nestOf (more - 1)) memo memo′
-  pub heads : Heads g memo′
+  pub heads : (E : Env) (b : Body) (us : Toks) (a : Args) (s : State) → Using g i more level table x E b us a s → Heads g memo E → Heads g memo′ E
   pub learnt : (E : Env) (b : Body) (us : Toks) (a : Args) (s : State) → Using g i more level table x E b us a s → Knows g marks sums memo E → Knows g marks sums memo′ E
   -- where nothing was tracked so deep, it is
   pub tracks : (E : Env) (b : Body) (us : Toks) (a : Args) (s : State) → Using g i more level table x E b us a s → Knows g marks sums memo E → r .failed ≡ false
@@ -394,7 +416,7 @@ pub record Served (g : Ground) (marks sums memo memo′ : List ℕ) (c : Cursor)
       → Telling g (E .tables) level y r (entering (kindOf i) a (playFew k t b) s)
   pub memo-long : length memo′ ≡ length memo
   pub below : Below (nestOf more) memo memo′
-  pub heads : Heads g memo′
+  pub heads : (E : Env) (b : Body) (us : Toks) (a : Args) (s : State) → Invoking g c i t more level table given x E b us a s → Heads g memo E → Heads g memo′ E
   pub learnt : (E : Env) (b : Body) (us : Toks) (a : Args) (s : State) → Invoking g c i t more level table given x E b us a s → Knows g marks sums memo E
       → Knows g marks sums memo′ E
   pub tracks : (E : Env) (b : Body) (us : Toks) (a : Args) (s : State) → Invoking g c i t more level table given x E b us a s → Knows g marks sums memo E → r .failed ≡ false

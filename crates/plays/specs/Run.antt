@@ -50,7 +50,7 @@ pub record PlaysListed (g : Ground) (marks sums memo memo′ : List ℕ) (list :
   pub sound : (E : Env) (ps : Decls) (d : Decl) → ListedAt g list patterns k E ps d → Knows g marks sums memo E → (s : State) → length (s .pins) ≡ g .signals → r .failed ≡ false
       → firstFailing (E .tables) (entering listed [] (playFew openMost 0 (d .body)) s .1) ≡ none
   pub memo-long : length memo′ ≡ length memo
-  pub heads : Heads g memo′
+  pub heads : (E : Env) (ps : Decls) (d : Decl) → ListedAt g list patterns k E ps d → Heads g memo E → Heads g memo′ E
   pub learnt : (E : Env) (ps : Decls) (d : Decl) → ListedAt g list patterns k E ps d → Knows g marks sums memo E → Knows g marks sums memo′ E
 
 -- ---- the whole run

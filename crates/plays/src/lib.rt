@@ -1,7 +1,7 @@
 // Playing bodies where the text holds them, to find the first cycle that fails: one without a table, or with an assigned character that has no waveform
 // in it. A used body whose sum is known (`marks`, `sums`) and granted is passed; only one that may fail is entered, and once for each table, as long as that is remembered:
-// what it shows of the pins before it and what it assigns is tracked (`memos`), so that it is known for which other pins it would play as well. Every Loop plays its first
-// turn, which is tracked so too, and its second where fewer than two second turns are open and the first would not play as well from what it left.
+// what it shows of the pins before it and what it assigns is tracked (`memos`), so that it is known for which other pins it would play as well. A Loop is remembered as a use
+// is; it plays its first turn, which is tracked so too, and its second where fewer than two second turns are open and the first would not play as well from what it left.
 ghost use mathlib.Core.Path.{_≡_};
 ghost use mathlib.Core.Bool.{true, false};
 ghost use Rattle.pins.specs.Shown.{tableOf};
@@ -22,7 +22,7 @@ ghost use Rattle.pins.specs.Shown.{valuesLength};
 ghost use Rattle.heads.specs.declared.Known.{Known};
 ghost use Rattle.texts.specs.declared.Parts.{Parts};
 ghost use Rattle.plays.specs.Run.{SomeListed, PlaysListed, SomeRun, Runs, Decides};
-ghost use Rattle.plays.specs.Plays.{ground, arrays, Heads, Behind, Stood, Used, Promised, nestOf, Looping, PromisedWhere, Begins, Stepped, Shifted, ShiftedOn, Entered, Performed, SomeInvoked, Served, Summed, useAt, Settles, Passing, Recalls, SumMarks, PassedMarks};
+ghost use Rattle.plays.specs.Plays.{ground, arrays, Heads, Behind, LoopAt, Stood, Used, Promised, nestOf, Looping, PromisedWhere, Begins, Stepped, Shifted, ShiftedOn, Entered, Performed, SomeInvoked, Served, Summed, useAt, Settles, Passing, Recalls, SumMarks, PassedMarks};
 ghost use Rattle.tallies.specs.Rows.{rowSize, sumAt, Marked};
 ghost use Rattle.timing.specs.Held.{Held};
 ghost use Rattle.meaning.specs.Timing.{Tables};
@@ -233,7 +233,7 @@ fn needed_turns<'a>(
     args: &mut [usize],
     memo: &mut [u16],
 ) -> Played
-    requires { ⌜ (alive c ≡ true) × (0 < n) × (0 < frame .depth) × Stood (ground (now text) (now places) (now lists) (now tplaces) (now book) (now rows) (now waves) known signals) (stream (now text) c) (frame .depth - 1) (frame .level) table (arrays (now values) (now feeds) (now args)) × Heads (ground (now text) (now places) (now lists) (now tplaces) (now book) (now rows) (now waves) known signals) (now memo) ⌝ }
+    requires { ⌜ ((alive c ≡ true) × (0 < n) × (0 < frame .depth) × (h : Stood (ground (now text) (now places) (now lists) (now tplaces) (now book) (now rows) (now waves) known signals) (stream (now text) c) (frame .depth - 1) (frame .level) table (arrays (now values) (now feeds) (now args))) × Heads (ground (now text) (now places) (now lists) (now tplaces) (now book) (now rows) (now waves) known signals) (now memo) (h .env)) ⌝ }
     ensures { λ r. ⌜ PromisedWhere (Looping signals (nestOf (frame .depth - 1)) (now (memo .entry))) (ground (now (text .entry)) (now (places .entry)) (now (lists .entry)) (now (tplaces .entry)) (now (book .entry)) (now (rows .entry)) (now (waves .entry)) known signals) (now (marks .entry)) (now (sums .entry)) (now (memo .entry)) (now (memo .exit)) (stream (now (text .entry)) c) (frame .depth - 1) (frame .level) (nestOf (frame .depth - 1)) table (arrays (now (values .entry)) (now (feeds .entry)) (now (args .entry))) (arrays (now (values .exit)) (now (feeds .exit)) (now (args .exit))) (λ b. loopFew n (frame .seconds) (λ j. playFew j (frame .turns) b)) r ⌝ }
 {
     let first = Frame {
@@ -305,9 +305,11 @@ fn needed_turns<'a>(
     )
 }
 
-// Loop N { .. }: what its turns show and assign is tracked in the nest of its own, and then in the one around it.
+// Loop N { .. } at the cursor head, its body at c: what its turns show and assign is tracked in the nest of its own, and then in the one around it; it is remembered where no
+// cycle fails.
 fn looped<'a>(
     text: &'a [u8],
+    head: Cursor,
     c: Cursor,
     places: &'a [usize],
     lists: &'a [u16],
@@ -327,12 +329,12 @@ fn looped<'a>(
     args: &mut [usize],
     memo: &mut [u16],
 ) -> Played
-    requires { ⌜ (alive c ≡ true) × (0 < n) × (0 < frame .depth) × (frame .depth ≤ depthMost) × Stood (ground (now text) (now places) (now lists) (now tplaces) (now book) (now rows) (now waves) known signals) (stream (now text) c) (frame .depth - 1) (frame .level) table (arrays (now values) (now feeds) (now args)) × Heads (ground (now text) (now places) (now lists) (now tplaces) (now book) (now rows) (now waves) known signals) (now memo) ⌝ }
+    requires { ⌜ ((alive c ≡ true) × (0 < n) × (0 < frame .depth) × (frame .depth ≤ depthMost) × (h : Stood (ground (now text) (now places) (now lists) (now tplaces) (now book) (now rows) (now waves) known signals) (stream (now text) c) (frame .depth - 1) (frame .level) table (arrays (now values) (now feeds) (now args))) × Heads (ground (now text) (now places) (now lists) (now tplaces) (now book) (now rows) (now waves) known signals) (now memo) (h .env) × LoopAt (ground (now text) (now places) (now lists) (now tplaces) (now book) (now rows) (now waves) known signals) head c n) ⌝ }
     ensures { λ r. ⌜ (r .ends ≡ false) × PromisedWhere Plain (ground (now (text .entry)) (now (places .entry)) (now (lists .entry)) (now (tplaces .entry)) (now (book .entry)) (now (rows .entry)) (now (waves .entry)) known signals) (now (marks .entry)) (now (sums .entry)) (now (memo .entry)) (now (memo .exit)) (stream (now (text .entry)) c) (frame .depth - 1) (frame .level) (nestOf (frame .depth)) table (arrays (now (values .entry)) (now (feeds .entry)) (now (args .entry))) (arrays (now (values .exit)) (now (feeds .exit)) (now (args .exit))) (λ b. loopFew n (frame .seconds) (λ j. playFew j (frame .turns) b)) r ⌝ }
 {
-    let around = DEPTH - frame.depth;
-    memos::fresh(memo, DEPTH - (frame.depth - 1), signals);
-    let r = needed_turns(
+    let inside = DEPTH - (frame.depth - 1);
+    memos::fresh(memo, inside, signals);
+    let turned = needed_turns(
         text,
         c,
         places,
@@ -353,15 +355,30 @@ fn looped<'a>(
         args,
         memo,
     );
-    memos::rise(memo, around, signals);
-    let behind = r.cursor;
-    Played {
-        cursor: behind,
-        failed: r.failed,
-        place: r.place,
-        table: r.table,
-        ends: false,
+    let behind = turned.cursor;
+    if turned.failed {
+        return Played {
+            cursor: behind,
+            failed: true,
+            place: turned.place,
+            table: turned.table,
+            ends: false,
+        };
     }
+    let u = use_at(frame.seconds, head);
+    memos::remember(
+        memo,
+        u,
+        behind,
+        inside,
+        table,
+        turned.table,
+        values,
+        signals,
+    );
+    let around = DEPTH - frame.depth;
+    memos::rise(memo, around, signals);
+    goes_on(behind, turned.table)
 }
 
 // Loop N { .. }, whatever its body: its first turn, and its second where there is one and a second turn may be open.
@@ -435,7 +452,7 @@ fn play_body<'a>(
     args: &mut [usize],
     memo: &mut [u16],
 ) -> Played
-    requires { ⌜ Used (ground (now text) (now places) (now lists) (now tplaces) (now book) (now rows) (now waves) known signals) i (frame .depth) (frame .level) table (arrays (now values) (now feeds) (now args)) × Heads (ground (now text) (now places) (now lists) (now tplaces) (now book) (now rows) (now waves) known signals) (now memo) ⌝ }
+    requires { ⌜ ((h : Used (ground (now text) (now places) (now lists) (now tplaces) (now book) (now rows) (now waves) known signals) i (frame .depth) (frame .level) table (arrays (now values) (now feeds) (now args))) × Heads (ground (now text) (now places) (now lists) (now tplaces) (now book) (now rows) (now waves) known signals) (now memo) (h .env)) ⌝ }
     ensures { λ r. ⌜ Performed (ground (now (text .entry)) (now (places .entry)) (now (lists .entry)) (now (tplaces .entry)) (now (book .entry)) (now (rows .entry)) (now (waves .entry)) known signals) (now (marks .entry)) (now (sums .entry)) (now (memo .entry)) (now (memo .exit)) i (frame .depth) (frame .level) table (arrays (now (values .entry)) (now (feeds .entry)) (now (args .entry))) (arrays (now (values .exit)) (now (feeds .exit)) (now (args .exit))) (frame .seconds) t r ⌝ }
 {
     let inner = Frame {
@@ -665,7 +682,7 @@ fn mark_passed(memo: &mut [u16], level: usize, sums: &[u8], i: usize, table: usi
     }
 }
 
-// ---- uses that were played before
+// ---- uses and Loops that were played before
 
 // Can the character be shown on a signal under the table t, if that is the first of these marks?
 fn mark_granted(waves: &[u8], m: u16, t: usize, s: usize, x: u8) -> bool
@@ -732,7 +749,7 @@ fn begins_again(
     pins_granted(memo, nest * sets::MOST, waves, values, signals)
 }
 
-// The row of a use from this table, if it is remembered and holds for these pins.
+// The row of a statement from this table, if it is remembered and holds for these pins.
 fn recall(memo: &[u16], waves: &[u8], u: Use, table: usize, values: &[u8], signals: usize) -> Found
     requires { ⌜ (length (now waves) ≡ tablesMost * tableSize) × (signals ≤ signalsMost) × (signals ≤ length (now values)) ⌝ }
     ensures { λ r. ⌜ Recalls (now (waves .entry)) (now (memo .entry)) signals u table (now (values .entry)) r ⌝ }
@@ -772,7 +789,7 @@ fn used<'a>(
     args: &mut [usize],
     memo: &mut [u16],
 ) -> Played
-    requires { ⌜ SomeInvoked (ground (now text) (now places) (now lists) (now tplaces) (now book) (now rows) (now waves) known signals) c i t (frame .depth) (frame .level) table (now given) (arrays (now values) (now feeds) (now args)) × Heads (ground (now text) (now places) (now lists) (now tplaces) (now book) (now rows) (now waves) known signals) (now memo) × Behind (ground (now text) (now places) (now lists) (now tplaces) (now book) (now rows) (now waves) known signals) c behind ⌝ }
+    requires { ⌜ ((h : SomeInvoked (ground (now text) (now places) (now lists) (now tplaces) (now book) (now rows) (now waves) known signals) c i t (frame .depth) (frame .level) table (now given) (arrays (now values) (now feeds) (now args))) × Heads (ground (now text) (now places) (now lists) (now tplaces) (now book) (now rows) (now waves) known signals) (now memo) (h .env) × Behind (ground (now text) (now places) (now lists) (now tplaces) (now book) (now rows) (now waves) known signals) c behind) ⌝ }
     ensures { λ r. ⌜ Served (ground (now (text .entry)) (now (places .entry)) (now (lists .entry)) (now (tplaces .entry)) (now (book .entry)) (now (rows .entry)) (now (waves .entry)) known signals) (now (marks .entry)) (now (sums .entry)) (now (memo .entry)) (now (memo .exit)) c i t (frame .depth) (frame .level) table (now (given .entry)) (arrays (now (values .entry)) (now (feeds .entry)) (now (args .entry))) (arrays (now (values .exit)) (now (feeds .exit)) (now (args .exit))) (frame .seconds) r ⌝ }
 {
     let within = DEPTH - (frame.depth - 1);
@@ -833,7 +850,7 @@ fn uses<'a>(
     args: &mut [usize],
     memo: &mut [u16],
 ) -> Played
-    requires { ⌜ SomeInvoked (ground (now text) (now places) (now lists) (now tplaces) (now book) (now rows) (now waves) known signals) c i t (frame .depth) (frame .level) table (now given) (arrays (now values) (now feeds) (now args)) × Heads (ground (now text) (now places) (now lists) (now tplaces) (now book) (now rows) (now waves) known signals) (now memo) × Behind (ground (now text) (now places) (now lists) (now tplaces) (now book) (now rows) (now waves) known signals) c past ⌝ }
+    requires { ⌜ ((h : SomeInvoked (ground (now text) (now places) (now lists) (now tplaces) (now book) (now rows) (now waves) known signals) c i t (frame .depth) (frame .level) table (now given) (arrays (now values) (now feeds) (now args))) × Heads (ground (now text) (now places) (now lists) (now tplaces) (now book) (now rows) (now waves) known signals) (now memo) (h .env) × Behind (ground (now text) (now places) (now lists) (now tplaces) (now book) (now rows) (now waves) known signals) c past) ⌝ }
     ensures { λ r. ⌜ (r .cursor ≡ past) × (r .ends ≡ false) × Served (ground (now (text .entry)) (now (places .entry)) (now (lists .entry)) (now (tplaces .entry)) (now (book .entry)) (now (rows .entry)) (now (waves .entry)) known signals) (now (marks .entry)) (now (sums .entry)) (now (memo .entry)) (now (memo .exit)) c i t (frame .depth) (frame .level) table (now (given .entry)) (arrays (now (values .entry)) (now (feeds .entry)) (now (args .entry))) (arrays (now (values .exit)) (now (feeds .exit)) (now (args .exit))) (frame .seconds) r ⌝ }
 {
     let p = pass(
@@ -886,7 +903,7 @@ fn uses<'a>(
     }
 }
 
-// A use whose row begins at o was played before: what it assigned is left, and what it shows and assigns is tracked.
+// A statement whose row begins at o was played before: what it assigned is left, and what it shows and assigns is tracked.
 fn repeated(memo: &mut [u16], nest: usize, o: usize, values: &mut [u8], signals: usize) -> Played
     requires { ⌜ (nest ≤ depthMost) × (signals ≤ signalsMost) × (signals ≤ length (now values)) × (tracksLength ≤ o) × (o + memoRow ≤ length (now memo)) ⌝ }
     ensures { λ r. ⌜ (r .failed ≡ false) × (r .ends ≡ false) × Brings (now (memo .entry)) signals o (now (values .entry)) (now (values .exit)) (record { table = r .table; cursor = r .cursor }) × AtLevel (now (memo .entry)) (now (memo .exit)) nest × (0 < nest → (s : ℕ) → s < signals → Joins (marksAt (now (memo .entry)) nest s) (marksFrom (now (memo .entry)) (o + beforeAt + 1) s) (marksAt (now (memo .exit)) nest s)) ⌝ }
@@ -897,8 +914,8 @@ fn repeated(memo: &mut [u16], nest: usize, o: usize, values: &mut [u8], signals:
     goes_on(past, q.table)
 }
 
-// The statement at the cursor, or the `}` there. A use that was played from this table before, with pins that these could stand for, is not read again: what it
-// assigned is left.
+// The statement at the cursor, or the `}` there. A use or a Loop that was played from this table before, with pins that these could stand for, is not read again: what
+// it assigned is left.
 fn statement<'a>(
     text: &'a [u8],
     c: Cursor,
@@ -919,7 +936,7 @@ fn statement<'a>(
     args: &mut [usize],
     memo: &mut [u16],
 ) -> Played
-    requires { ⌜ (alive c ≡ true) × Stood (ground (now text) (now places) (now lists) (now tplaces) (now book) (now rows) (now waves) known signals) (stream (now text) c) (frame .depth) (frame .level) table (arrays (now values) (now feeds) (now args)) × Heads (ground (now text) (now places) (now lists) (now tplaces) (now book) (now rows) (now waves) known signals) (now memo) ⌝ }
+    requires { ⌜ ((alive c ≡ true) × (h : Stood (ground (now text) (now places) (now lists) (now tplaces) (now book) (now rows) (now waves) known signals) (stream (now text) c) (frame .depth) (frame .level) table (arrays (now values) (now feeds) (now args))) × Heads (ground (now text) (now places) (now lists) (now tplaces) (now book) (now rows) (now waves) known signals) (now memo) (h .env)) ⌝ }
     ensures { λ r. ⌜ Stepped (ground (now (text .entry)) (now (places .entry)) (now (lists .entry)) (now (tplaces .entry)) (now (book .entry)) (now (rows .entry)) (now (waves .entry)) known signals) (now (marks .entry)) (now (sums .entry)) (now (memo .entry)) (now (memo .exit)) (stream (now (text .entry)) c) (frame .depth) (frame .level) table (arrays (now (values .entry)) (now (feeds .entry)) (now (args .entry))) (arrays (now (values .exit)) (now (feeds .exit)) (now (args .exit))) (frame .seconds) (frame .turns) r ⌝ }
 {
     let u = use_at(frame.seconds, c);
@@ -982,6 +999,7 @@ fn statement<'a>(
         heads::What::Chooses(k) => goes_on(cursor, k),
         heads::What::Loops(n) => looped(
             text,
+            c,
             cursor,
             places,
             lists,
@@ -1069,7 +1087,7 @@ fn statements<'a>(
     args: &mut [usize],
     memo: &mut [u16],
 ) -> Played
-    requires { ⌜ (alive c ≡ true) × Stood (ground (now text) (now places) (now lists) (now tplaces) (now book) (now rows) (now waves) known signals) (stream (now text) c) (frame .depth) (frame .level) table (arrays (now values) (now feeds) (now args)) × Heads (ground (now text) (now places) (now lists) (now tplaces) (now book) (now rows) (now waves) known signals) (now memo) ⌝ }
+    requires { ⌜ ((alive c ≡ true) × (h : Stood (ground (now text) (now places) (now lists) (now tplaces) (now book) (now rows) (now waves) known signals) (stream (now text) c) (frame .depth) (frame .level) table (arrays (now values) (now feeds) (now args))) × Heads (ground (now text) (now places) (now lists) (now tplaces) (now book) (now rows) (now waves) known signals) (now memo) (h .env)) ⌝ }
     ensures { λ r. ⌜ PromisedWhere (λ b. Unit {0}) (ground (now (text .entry)) (now (places .entry)) (now (lists .entry)) (now (tplaces .entry)) (now (book .entry)) (now (rows .entry)) (now (waves .entry)) known signals) (now (marks .entry)) (now (sums .entry)) (now (memo .entry)) (now (memo .exit)) (stream (now (text .entry)) c) (frame .depth) (frame .level) (nestOf (frame .depth)) table (arrays (now (values .entry)) (now (feeds .entry)) (now (args .entry))) (arrays (now (values .exit)) (now (feeds .exit)) (now (args .exit))) (playFew (frame .seconds) (frame .turns)) r ⌝ }
 {
     let mut cursor = c;
@@ -1124,7 +1142,7 @@ fn body_of<'a>(
     args: &mut [usize],
     memo: &mut [u16],
 ) -> Played
-    requires { ⌜ (length (now body) ≤ length (now text)) × Stood (ground (now text) (now places) (now lists) (now tplaces) (now book) (now rows) (now waves) known signals) (toks (now text) (length (now text) - length (now body))) (frame .depth) (frame .level) table (arrays (now values) (now feeds) (now args)) × Heads (ground (now text) (now places) (now lists) (now tplaces) (now book) (now rows) (now waves) known signals) (now memo) ⌝ }
+    requires { ⌜ ((length (now body) ≤ length (now text)) × (h : Stood (ground (now text) (now places) (now lists) (now tplaces) (now book) (now rows) (now waves) known signals) (toks (now text) (length (now text) - length (now body))) (frame .depth) (frame .level) table (arrays (now values) (now feeds) (now args))) × Heads (ground (now text) (now places) (now lists) (now tplaces) (now book) (now rows) (now waves) known signals) (now memo) (h .env)) ⌝ }
     ensures { λ r. ⌜ PromisedWhere (λ b. Unit {0}) (ground (now (text .entry)) (now (places .entry)) (now (lists .entry)) (now (tplaces .entry)) (now (book .entry)) (now (rows .entry)) (now (waves .entry)) known signals) (now (marks .entry)) (now (sums .entry)) (now (memo .entry)) (now (memo .exit)) (toks (now (text .entry)) (length (now (text .entry)) - length (now (body .entry)))) (frame .depth) (frame .level) (nestOf (frame .depth)) table (arrays (now (values .entry)) (now (feeds .entry)) (now (args .entry))) (arrays (now (values .exit)) (now (feeds .exit)) (now (args .exit))) (playFew (frame .seconds) (frame .turns)) r ⌝ }
 {
     let c = words::cursor_at(text, text.len() - body.len());
@@ -1173,7 +1191,7 @@ fn pattern<'a>(
     args: &mut [usize],
     memo: &mut [u16],
 ) -> Played
-    requires { ⌜ SomeListed (ground (now text) (now places) (now lists) (now tplaces) (now book) (now rows) (now waves) known signals) (now list) patterns k (arrays (now values) (now feeds) (now args)) × Heads (ground (now text) (now places) (now lists) (now tplaces) (now book) (now rows) (now waves) known signals) (now memo) ⌝ }
+    requires { ⌜ ((h : SomeListed (ground (now text) (now places) (now lists) (now tplaces) (now book) (now rows) (now waves) known signals) (now list) patterns k (arrays (now values) (now feeds) (now args))) × Heads (ground (now text) (now places) (now lists) (now tplaces) (now book) (now rows) (now waves) known signals) (now memo) (h .env)) ⌝ }
     ensures { λ r. ⌜ PlaysListed (ground (now (text .entry)) (now (places .entry)) (now (lists .entry)) (now (tplaces .entry)) (now (book .entry)) (now (rows .entry)) (now (waves .entry)) known signals) (now (marks .entry)) (now (sums .entry)) (now (memo .entry)) (now (memo .exit)) (now (list .entry)) patterns k (arrays (now (values .exit)) (now (feeds .exit)) (now (args .exit))) r ⌝ }
 {
     let names = &book[measures::PATTERNS * 2..];

@@ -106,13 +106,13 @@ module _ (w : List ℕ) where
       let n = neither (same (t .word) w) (taken vs w) (i .0) in
       (n .1, (n .0, i .1))
 
--- THE LAW: behind the pass over a text in which no name is used twice, each X name of a body that is held in it is in the table
+-- THE LAW: behind a pass over the tokens in which no name is used twice, each X name of a body that is held where it began is in the table
 pub names-labelled : {text : List ℕ} {from : ℕ} {burst places heads nexts : List ℕ} {r : Gathered} → Gathers text from burst places heads nexts r → r .again ≡ false
-    → (e : Env) (ts : Toks) (b : Body) (us : Toks) (n : ℕ) → Parted ts (toks text from) → Holds e ts b us → Labelled text places (r .count) (referred e ts n b)
+    → (e : Env) (ts : Toks) (b : Body) (us : Toks) (n : ℕ) → toks text from ≡ ts → Holds e ts b us → Labelled text places (r .count) (referred e ts n b)
 unfolding labels isSome
 names-labelled {text} {from} {burst} {places} {heads} {nexts} {r} g once e ts b us n p x = record {
   only = λ w q. (
       let free : taken (wordsOf text places (r .count)) w ≡ false = taken-number (wordsOf text places (r .count)) w ∙ ap isSome q in
       let all = none-used w [] (labels (toks text from)) (ap (λ (vs : List (List ℕ)). taken vs w) (sym (g .words once)) ∙ free) in
-      names-none w e ts b us n x (none-behind w p begins (all .1)));
+      names-none w e ts b us n x (subst (λ (vs : Toks). NoneIs w (labelsFrom begins vs)) p (all .1)));
 }

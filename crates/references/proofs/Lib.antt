@@ -5,4 +5,5 @@ mod Going
 pub mod Whole
 pub mod Parted
 pub mod Labelled
+pub mod Apart
 mod Samples

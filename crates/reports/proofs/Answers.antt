@@ -33,7 +33,7 @@ pub record Both {A B C : Type 0} (x : Answer A) (y : Answer B) (f : A → B → 
   pub is-two : y ≡ given two
   pub joined : f one two ≡ c
 
-both : {A B C : Type 0} (x : Answer A) (y : Answer B) (f : A → B → C) {c : C} → answering x (λ a. answering y λ b. given (f a b)) ≡ given c → Both x y f c
+pub both : {A B C : Type 0} (x : Answer A) (y : Answer B) (f : A → B → C) {c : C} → answering x (λ a. answering y λ b. given (f a b)) ≡ given c → Both x y f c
 unfolding answering
 both (given a) (given b) f e = record { one = a; two = b; is-one = refl; is-two = refl; joined = cc }
 both (given a) (refused n p) f e = let z : _≡_ {A = ℕ} 0 1 = cc in absurd (omega arith)

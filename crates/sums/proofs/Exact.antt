@@ -7,18 +7,16 @@ use mathlib.Core.Bool.{Bool, true, false}
 use mathlib.Core.List.{List, [], _∷_}
 use lib.ListN.{length}
 use lib.Dec.{eqb}
-use borrow.Author.Tests.{eqb-true, eqb-false, not-true, not-false}
+use borrow.Author.Tests.{eqb-true, eqb-false, not-true}
 use Rattle.meaning.specs.Lists.{has, count, repeats}
 use Rattle.meaning.specs.Body.{Args, Body, outside, shifting, argOf, supplied, turns, lengthDue, fits}
 use Rattle.walks.proofs.Arguments.{or-false}
+use Rattle.measures.proofs.Counting.{not-counted}
 use Rattle.arguments.specs.Supplied.{fitsAt}
 use Rattle.arguments.proofs.Lists.{has-append, has-count}
 use Rattle.arguments.proofs.Fits.{arg-none, fits-given, fits-none, turns-due, fits-each}
 use Rattle.sums.specs.Sums.{due}
 use Rattle.sums.specs.Parts.{Exact}
-
-not-there : (i : ℕ) (l : List ℕ) → has i l ≡ false → count i l ≡ 0
-not-there i l e = eqb-true (count i l) 0 (not-false _ (sym (has-count i l) ∙ e))
 
 there : (i : ℕ) (l : List ℕ) → has i l ≡ true → count i l ≡ 0 → ⊥
 there i l e = eqb-false (count i l) 0 (not-true _ (sym (has-count i l) ∙ e))
@@ -29,7 +27,7 @@ no-more-than-once i [] h = omega arith
 no-more-than-once i (x ∷ l) h = let e = or-false (has x l) (repeats l) h in by (eqb x i) refl (e .0) (no-more-than-once i l (e .1))
   where
     by : (w : Bool) → eqb x i ≡ w → has x l ≡ false → count i l ≤ 1 → elim w [ true ↦ suc (count i l) | false ↦ count i l ] ≤ 1
-    by true e g ih = omega (arith, not-there i l (subst (λ (k : ℕ). has k l ≡ false) (eqb-true x i e) g))
+    by true e g ih = omega (arith, not-counted i l (subst (λ (k : ℕ). has k l ≡ false) (eqb-true x i e) g))
     by false e g ih = ih
 
 module _ (b : Body) (a : Args) (once : (i : ℕ) → count i (shifting b) ≤ 1) where
@@ -42,7 +40,7 @@ module _ (b : Body) (a : Args) (once : (i : ℕ) → count i (shifting b) ≤ 1)
       by true e =
           let one : count i (shifting b) ≡ 1 = omega (arith, once i, there i (shifting b) e) in
           rw (e, lengthDue, one) (omega (arith, mul-one t))
-      by false e = rw (e, lengthDue, not-there i (shifting b) e) (omega (arith, mul-zero t))
+      by false e = rw (e, lengthDue, not-counted i (shifting b) e) (omega (arith, mul-zero t))
 
   pub fits-exact : fits b a ≡ true → Exact (turns b a) b a
   unfolding due
@@ -59,4 +57,4 @@ module _ (b : Body) (a : Args) (once : (i : ℕ) → count i (shifting b) ≤ 1)
       by i false e =
           let none = sym (has-append i (outside b) (shifting b)) ∙ not-true _ (sym (fits-none b a t i e) ∙ at i) in
           let no = or-false (has i (outside b)) (has i (shifting b)) none in
-          ap length (arg-none i a e) ∙ rw (not-there i (outside b) (no .0), not-there i (shifting b) (no .1)) (omega (arith, mul-zero t))
+          ap length (arg-none i a e) ∙ rw (not-counted i (outside b) (no .0), not-counted i (shifting b) (no .1)) (omega (arith, mul-zero t))

@@ -18,13 +18,13 @@ module _ (A : Args) where
   Blind f = (s : State) → f (feeding A s) ≡ feeding A (f s)
 
   -- the same of a play
-  abbrev fed : Played → Played
+  abbrev pub fed : Played → Played
   fed y = (feeding A (y .0), y .1)
 
-  abbrev Free : (State → Played) → Type 0
+  abbrev pub Free : (State → Played) → Type 0
   Free f = (s : State) → f (feeding A s) ≡ fed (f s)
 
-  blind-puts : (a : Assigns) → marked a ≡ [] → Blind (puts a)
+  pub blind-puts : (a : Assigns) → marked a ≡ [] → Blind (puts a)
   unfolding puts marked put
   blind-puts [] e s = refl
   blind-puts (x ∷ a) e s = by (eqb (x .1) mark) refl e (blind-puts a)
@@ -36,16 +36,16 @@ module _ (A : Args) where
           let one : put x (feeding A s) ≡ feeding A (put x s) = simp (q, put) in
           ap (puts a) one ∙ ih e (put x s)
 
-  blind-changed : (x : Setting) → Unmarked x → Blind (changed x)
+  pub blind-changed : (x : Setting) → Unmarked x → Blind (changed x)
   unfolding changed
   blind-changed (assigning a) h = blind-puts a h
   blind-changed (choosing k) h = λ s. refl
 
-  free-follow : (x : Played) (f : State → Played) → Free f → follow (fed x) f ≡ fed (follow x f)
+  pub free-follow : (x : Played) (f : State → Played) → Free f → follow (fed x) f ≡ fed (follow x f)
   unfolding follow
   free-follow x f h = ap (λ (y : Played). (y .0, x .1 ++ y .1)) (h (x .0))
 
-  free-then : (f g : State → Played) → Free f → Free g → Free (λ s. follow (f s) g)
+  pub free-then : (f g : State → Played) → Free f → Free g → Free (λ s. follow (f s) g)
   free-then f g h k s = ap (λ (x : Played). follow x g) (h s) ∙ free-follow (f s) g k
 
   free-again : (n : ℕ) (f : State → Played) → Free f → Free (again n f)

@@ -14,9 +14,10 @@ use Rattle.meaning.specs.Body.{Assigns, Args, mark, marked, argOf}
 use Rattle.meaning.specs.Run.{State, next, put, puts}
 use Rattle.turns.proofs.Shows.{moving-puts}
 use Rattle.walks.proofs.Shifts.{puts-table}
+use Rattle.measures.proofs.Counting.{count-append}
 use Rattle.sums.specs.Sums.{Shown, before, argument, char, Sum, orTable, Stands, Leaves}
 use Rattle.sums.specs.Parts.{shownOne, shownBy, lastOf, behind}
-use Rattle.sums.proofs.Taken.{arg-puts, count-append}
+use Rattle.sums.proofs.Taken.{arg-puts}
 use Rattle.sums.proofs.Asked.{or-assoc}
 
 -- ---- one signal

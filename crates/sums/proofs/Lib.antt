@@ -4,7 +4,7 @@ pub mod Left
 pub mod Cycles
 pub mod Exact
 pub mod Adds
-mod Free
+pub mod Free
 pub mod Statements
 pub mod Bodies
 pub mod Runs

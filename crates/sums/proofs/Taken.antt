@@ -17,6 +17,7 @@ use Rattle.walks.proofs.Arguments.{arg-kept, arg-skipped}
 use Rattle.walks.proofs.Shifts.{puts-args}
 use Rattle.measures.specs.Measures.{joined}
 use Rattle.measures.proofs.Uses.{outside-joined, shifting-joined}
+use Rattle.measures.proofs.Counting.{count-append}
 use Rattle.sums.specs.Sums.{due}
 
 -- ---- assignments
@@ -47,17 +48,6 @@ module _ (i : ℕ) where
       arg-turns p a t (puts a s) ∙ ap (drop (t * m)) (arg-puts a s) ∙ drop-drop (t * m) m (argOf i (s .args)) ∙ ap (λ (k : ℕ). drop k (argOf i (s .args))) n
 
 -- ---- statements behind statements
-
-pub count-append : (i : ℕ) (l m : List ℕ) → count i (l ++ m) ≡ count i l + count i m
-unfolding count
-count-append i [] m = omega arith
-count-append i (y ∷ l) m = by (eqb y i) (count-append i l m)
-  where
-    by : (w : Bool) → count i (l ++ m) ≡ count i l + count i m
-        → _≡_ {A = ℕ} (elim w [ true ↦ suc (count i (l ++ m)) | false ↦ count i (l ++ m) ])
-        (elim w [ true ↦ suc (count i l) | false ↦ count i l ] + count i m)
-    by true ih = omega arith
-    by false ih = ih
 
 pub play-joined : (t : ℕ) (a b : Body) (s : State) → play t (joined a b) s ≡ follow (play t a s) (play t b)
 unfolding play joined follow

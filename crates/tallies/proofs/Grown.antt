@@ -9,7 +9,8 @@ use lib.Dec.{ltb}
 use borrow.Author.Tests.{ltb-true, lt-ltb}
 use Rattle.meaning.specs.Bounds.{signalsMost, tablesMost}
 use Rattle.meaning.specs.Timing.{Tables}
-use Rattle.arguments.proofs.Lists.{both, differ}
+use Rattle.words.proofs.Loops.{both}
+use Rattle.arguments.proofs.Lists.{differ}
 use Rattle.pins.specs.Shown.{tableOf}
 use Rattle.sums.specs.Sums.{Shown, before, Sum}
 use Rattle.sums.specs.Parts.{Kept, Shows}
@@ -39,7 +40,7 @@ slot-place i t h =
 and-kept : (x y z : Bool) → (x ≡ true → y ≡ true → z ≡ true) → (x && y) ≡ true → (x && z) ≡ true
 and-kept x y z f h = let b = both x y h in rw (b .0) (f (b .0) (b .1))
 
-carried : (x y : Bool) → (x ≡ true → y ≡ true) → y ≡ false → x ≡ false
+pub carried : (x y : Bool) → (x ≡ true → y ≡ true) → y ≡ false → x ≡ false
 carried true y f e = absurd (differ (sym (f refl) ∙ e))
 carried false y f e = refl
 

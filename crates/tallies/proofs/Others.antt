@@ -23,7 +23,7 @@ pub record Alike (S R : Sum) : Type 0 where
   pub pin : (i : ℕ) → R .pin i ≡ S .pin i
   pub table : R .table ≡ S .table
 
-and-alike : (x y z : Bool) → (x ≡ true → y ≡ z) → (x && y) ≡ (x && z)
+pub and-alike : (x y z : Bool) → (x ≡ true → y ≡ z) → (x && y) ≡ (x && z)
 and-alike true y z f = f refl
 and-alike false y z f = refl
 

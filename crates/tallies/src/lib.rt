@@ -19,10 +19,8 @@ ghost use Rattle.sums.specs.Parts.{Nothing, Assigned, Chosen, Shows, Cycled, In
 ghost use Rattle.pins.specs.Shown.{tableOf};
 ghost use Rattle.sums.specs.Sums.{before, okAt, orTable};
 ghost use Rattle.tallies.specs.Rows.{slots, rowSize, byteAt, flagAt, shownOf, sumAt, Only, Stored, More, Marked, Inherits, Needed, Tabled, Asked, ShownWhere, FedWhere, Passed, OnSignal, Retabled, isSummed, isShifted, Grants, Holds, FitsWhere, FedFits, OnPin, Suits, bytes, SeenWord, ShownFed, FitsFed};
-
-const MARK: u8 = 35;
-
-const CHARS: usize = 128;
+use measures::MARK;
+use timing::CHARS;
 
 const BYTES: usize = 256;
 // The text's tables, and the one before.

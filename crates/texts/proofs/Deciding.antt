@@ -10,11 +10,13 @@ use lib.ListN.{length}
 use borrow.Author.Tests.{eqb-true, eqb-false, leb-true, leb-false}
 use Rattle.tokens.specs.Refusals.{textMost}
 use Rattle.tokens.specs.Tokens.{faultOf}
+use Rattle.tokens.proofs.Faults.{fault-too-long}
 use Rattle.meaning.specs.Bounds.{sizeMost, cyclesMost}
 use Rattle.meaning.specs.Body.{Body}
 use Rattle.meaning.specs.Run.{size, cycles}
 use Rattle.meaning.specs.Document.{Read}
 use Rattle.meaning.specs.Meaning.{Answer, given, refused, answering, fitting, tableAt}
+use Rattle.words.proofs.Loops.{both}
 use Rattle.signals.proofs.Tables.{names-length}
 use Rattle.timing.specs.Watch.{Watched}
 use Rattle.timing.specs.declared.Watch.{Watch}
@@ -22,7 +24,6 @@ use Rattle.timing.proofs.TableReading.{held-count}
 use Rattle.measures.specs.declared.Measure.{Measure}
 use Rattle.measures.specs.Measures.{Measures}
 use Rattle.measures.proofs.Within.{size-within, cycles-within}
-use Rattle.arguments.proofs.Lists.{both}
 use Rattle.bursts.proofs.Entries.{listed-length}
 use Rattle.texts.specs.Texts.{Sound, sound, countsOf}
 use Rattle.texts.specs.Tables.{Tabled, Reads, NotesRead, Found, Decides, NotesSound}
@@ -30,7 +31,6 @@ use Rattle.texts.specs.Run.{Tells, soundOf, ReadAs}
 use Rattle.texts.specs.declared.Parts.{Parts}
 use Rattle.texts.specs.declared.Total.{Total}
 use Rattle.texts.specs.declared.Verdict.{Verdict}
-use Rattle.texts.proofs.Ends.{fault-long}
 use Rattle.texts.proofs.Sounds.{sound-fault, sound-refused, sound-runs}
 
 -- a text that 1 to 16 leave is not too long
@@ -40,7 +40,7 @@ short-sound text e = by (leb (length text) textMost) refl
     by : (b : Bool) → leb (length text) textMost ≡ b → length text ≤ textMost
     by true f = leb-true (length text) textMost f
     by false f =
-        let q = sym e ∙ sound-fault text (fault-long text (leb-false (length text) textMost f)) in
+        let q = sym e ∙ sound-fault text (fault-too-long text (leb-false (length text) textMost f)) in
         let z : _≡_ {A = ℕ} 0 1 = cc in
         absurd (omega arith)
 

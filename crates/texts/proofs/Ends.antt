@@ -8,7 +8,7 @@ use mathlib.Core.List.{List, []}
 use mathlib.Core.Logic.{⊎-elim}
 use lib.ListN.{length}
 use lib.Dec.{eqb, leb, ltb}
-use borrow.Author.Tests.{eq-eqb, ne-eqb, le-leb, lt-leb, not-false}
+use borrow.Author.Tests.{eq-eqb, ne-eqb, le-leb, not-false}
 use Rattle.tokens.specs.Refusals.{textMost, tooLong, notHere}
 use Rattle.tokens.specs.Tokens.{Tok, Toks, stop, tok, toks, left, faultIn, faultOf}
 use Rattle.tokens.proofs.Laws.{stops, fault-real}
@@ -109,10 +109,6 @@ fault-rest (behind r) = fault-rest r
 last : (ts : Toks) → (n : ℕ) × (p : ℕ) × Rest (stop n p) ts
 last (stop n p) = (n, p, all)
 last (tok t ts) = let x = last ts in (x .0, x .1, behind (x .2))
-
-pub fault-long : (text : List ℕ) → textMost < length text → faultOf text ≡ some (tooLong, 0)
-unfolding faultOf
-fault-long text h = rw (lt-leb (length text) textMost h, faultOf)
 
 -- it is never 0
 pub fault-some : (text : List ℕ) (n p : ℕ) → faultOf text ≡ some (n, p) → n ≡ 0 → ⊥

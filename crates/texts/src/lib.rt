@@ -24,27 +24,23 @@ ghost use Rattle.texts.specs.Patterns.{Patterned, Begun, ending as endin
 ghost use Rattle.texts.specs.Tables.{stoppedAt, Reads, NotesRead, Decides, NotesSound};
 ghost use Rattle.texts.specs.Run.{Refuses, Tells, soundOf, Recorded, ReadAs};
 ghost use Rattle.texts.specs.Told.{decidedOf, Packs};
+use bodies::TOO_MANY;
 use heads::Known;
+use heads::NOT_HERE;
+use measures::CYCLES_MOST;
+use measures::DEPTH;
 use measures::Measure;
+use measures::SIZE_MOST;
 use timing::Watch;
 use words::Cursor;
 
-const DEPTH: usize = 8;
+// Bounds: the patterns and the bytes of a text.
+pub const PATTERNS: usize = 16;
 
-const PATTERNS: usize = 16;
-
-const TEXT_MOST: usize = 65_536;
-
-const SIZE_MOST: usize = 65_536;
-
-const CYCLES_MOST: usize = 1_099_511_627_776;
+pub const TEXT_MOST: usize = 65_536;
 
 // Refusals.
-const TOO_LONG: u8 = 1;
-
-const NOT_HERE: u8 = 4;
-
-const TOO_MANY: u8 = 8;
+pub const TOO_LONG: u8 = 1;
 
 const NOT_DEFINED: u8 = 15;
 

@@ -86,7 +86,7 @@ abbrev rest : List ℕ → List Wave → Tok → Reader (List Wave)
 rest sigs ws t =
     due "{" >>= λ p. event (length (t .word)) (blanks (t .word), 0) >>= λ e. until "}" (event (length (t .word))) e >>= λ es. give (ws ++ wavesFor sigs (t .word) (es .0))
 
-assoc : {A B C : Type 0} (m : Reader A) (f : A → Reader B) (g : B → Reader C) (ts : Toks) → ((m >>= f) >>= g) ts ≡ (m >>= λ x. f x >>= g) ts
+pub assoc : {A B C : Type 0} (m : Reader A) (f : A → Reader B) (g : B → Reader C) (ts : Toks) → ((m >>= f) >>= g) ts ≡ (m >>= λ x. f x >>= g) ts
 unfolding _>>=_ after
 assoc {A} {B} {C} m f g ts = by (m ts)
   where

@@ -15,6 +15,7 @@ use Rattle.meaning.specs.Lists.{has, repeats}
 use Rattle.meaning.specs.Timing.{Event, Wave, waveChar, allChars, taken, wavesOf, wavesFor}
 use Rattle.meaning.specs.Meaning.{hasWave}
 use Rattle.words.proofs.Words.{cut}
+use Rattle.words.proofs.Loops.{both}
 use Rattle.timing.specs.Marks.{charsMost, tableSize, mark, Marks, any, markAmong, Marked, Below}
 
 -- ---- loops over characters and signals
@@ -46,10 +47,6 @@ module _ (w : List ℕ) (i : ℕ) where
   repeats-end h = rw (drop-of-length-le w h)
 
 -- ---- letters and digits can have a mark
-
-both : (x y : Bool) → (x && y) ≡ true → (x ≡ true) × (y ≡ true)
-both true y h = (refl, h)
-both false y h = let z : _≡_ {A = ℕ} 0 1 = cc in absurd (omega arith)
 
 char-below : (b : ℕ) → waveChar b ≡ true → b < charsMost
 unfolding waveChar letter digit between
@@ -132,7 +129,7 @@ has-more x (z ∷ xs) y = ap (λ (b : Bool). eqb z x || b) (has-more x xs y) ∙
     by true = refl
     by false = refl
 
-has-taken : (x : ℕ) (xs : List ℕ) (i : ℕ) → i < length xs → has x (take (i + 1) xs) ≡ (has x (take i xs) || eqb (getD xs i 0) x)
+pub has-taken : (x : ℕ) (xs : List ℕ) (i : ℕ) → i < length xs → has x (take (i + 1) xs) ≡ (has x (take i xs) || eqb (getD xs i 0) x)
 has-taken x xs i h = rw (add-one, take-suc xs i 0 h) (has-more x (take i xs) (getD xs i 0))
 
 or-none : (x y : Bool) → x ≡ (x || y && false)

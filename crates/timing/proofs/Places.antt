@@ -79,7 +79,7 @@ token-there text at e = first-there text plain at (drop at text) refl e
 
 -- ---- behind a token that was due
 
-due-rest : (w : List ℕ) (t : Tok) (us : Toks) {p : ℕ} {vs : Toks} → dueOf w (tok t us) ≡ ok p vs → vs ≡ us
+pub due-rest : (w : List ℕ) (t : Tok) (us : Toks) {p : ℕ} {vs : Toks} → dueOf w (tok t us) ≡ ok p vs → vs ≡ us
 unfolding dueOf any _>>=_ after refuseIf give
 due-rest w t us {p} {vs} e = by (same (t .word) w) e
   where

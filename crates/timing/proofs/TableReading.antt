@@ -37,7 +37,7 @@ use Rattle.timing.proofs.Watching.{watched-none}
 
 -- ---- names
 
-firsts-length : {A : Type 0} (xs : List (Tok × A)) → length (firsts xs) ≡ length xs
+pub firsts-length : {A : Type 0} (xs : List (Tok × A)) → length (firsts xs) ≡ length xs
 unfolding firsts
 firsts-length [] = refl
 firsts-length (x ∷ xs) = ap suc (firsts-length xs)

@@ -265,7 +265,7 @@ fn repeats(w: &[u8]) -> bool
 // ---- marks
 
 // Characters that can have a mark, and the marks of one table.
-const CHARS: usize = 128;
+pub const CHARS: usize = 128;
 
 const TABLE: usize = sets::MOST * CHARS;
 

@@ -51,7 +51,10 @@ fn answer(words: &[&str]) -> Result<(), String> {
         ["contrived", kind, signals] => {
             let made = contrived(kind, number(signals)? as usize);
             write_out(&made.ok_or_else(|| {
-                format!("no such kind, or not 2 to 64 signals (nested: 256); there are {}", CONTRIVED_KINDS.join(" "))
+                format!(
+                    "no such kind, or not 2 to 64 signals (nested, tables, eight, crowd: 256); there are {}",
+                    CONTRIVED_KINDS.join(" ")
+                )
             })?)
         }
         ["nested", seed] => write_out(&nested(number(seed)?)),

@@ -14,17 +14,18 @@ use Rattle.words.specs.Cursor.{stream}
 use Rattle.assigns.proofs.Table.{gave-zeros}
 use Rattle.plays.specs.Plays.{ground, arrays, nestOf}
 use Rattle.plays.proofs.Fitting.{fits-some}
+use Rattle.plays.proofs.Following.{failing-plays, sound-plays}
 use Rattle.memos.proofs.Rows.{recalled-row}
 use Rattle.memos.proofs.Marking.{true-false}
 use Rattle.memos.proofs.Tracking.{tracking-same, tracking-then, tracking-joined, tracked-body}
 use Rattle.plays.proofs.Tracks.{pins-roomy, nest-fits, nest-less, nest-next, nest-some, nest-deep, invoked-next, as-long, few-below, roomy-values, macro-tracked, procedure-tracked}
 use Rattle.plays.proofs.Heading.{begins-within}
 use Rattle.plays.proofs.Keeping.{kept-none, kept-then, kept-others, kept-args, kept-passed, kept-used, sized-kept, sized-at, shows-supplied}
-use Rattle.plays.proofs.Stepping.{steps-moves, ends-step, vector-step, assigns-step, chooses-step, in-loop, in-shift, called, reused, reused-moves, reused-step, loop-standing, loop-plain, loop-step, shift-standing, shift-step, inside-moves, called-moves, invoked-calling, called-invoking, called-step}
+use Rattle.plays.proofs.Stepping.{steps-moves, ends-step, vector-step, assigns-step, chooses-step, in-loop, in-shift, called, reused, reused-holds, reused-moves, reused-step, loop-standing, loop-plain, loop-step, shift-standing, shift-step, inside-moves, called-moves, invoked-calling, called-invoking, called-step}
 use Rattle.plays.proofs.Turning.{turned-once, turned-twice, turned-standing, twice, loop-once, second-open, second-due, first-sound}
 use Rattle.plays.proofs.Seconds.{turned-plays, turned-tracks}
 use Rattle.plays.proofs.Going.{going, going-on, gone, gone-tracked, ended-then, resumed, resumed-standing, resumed-on, resumed-less, resumed-end, again-standing, Going}
-use Rattle.plays.proofs.Recalling.{recalled-told, recalled-tracked, invoked-using, invoking-untouched, knows-tracked, remembered-knows, risen, remembered-joins, behind-head, heads-more, heads-tracked, below-tracked, below-remembered, below-none, below-then, below-around}
+use Rattle.plays.proofs.Recalling.{recalled-told, recalled-tracked, invoked-using, invoking-untouched, knows-tracked, used-knows, looped-heads, looped-knows, risen, remembered-joins, behind-head, loop-head, heads-more, heads-tracked, below-tracked, below-remembered, below-none, below-then, below-around}
 use Rattle.plays.proofs.Entering.{kind-macro, kind-procedure, kept-below, kept-returned, sized-left, macro-standing, procedure-standing, macro-told, procedure-told, served-fed, part-within, part-begins}
 use Prim.Native.Nat.{ℕ, _<_}
 use borrow.Fn.Kinds.{In}
@@ -84,7 +85,7 @@ abbrev μ-body-of : Measures 5 body-of-kinds.ps ℕ
 μ-body-of κs a = 8 * a .1 .1 .1 .1 .1 .1 .1 .1 .1 .1 .1 .1 .0 .depth + 6
 
 abbrev μ-looped : Measures 5 looped-kinds.ps ℕ
-μ-looped κs a = 8 * a .1 .1 .1 .1 .1 .1 .1 .1 .1 .1 .1 .1 .0 .depth + 3
+μ-looped κs a = 8 * a .1 .1 .1 .1 .1 .1 .1 .1 .1 .1 .1 .1 .1 .0 .depth + 3
 
 abbrev μ-needed-turns : Measures 5 needed-turns-kinds.ps ℕ
 μ-needed-turns κs a = 8 * a .1 .1 .1 .1 .1 .1 .1 .1 .1 .1 .1 .1 .0 .depth + 2
@@ -166,7 +167,7 @@ abbrev body-of-calls : ℕ → body-of-lts.Claims
 body-of-calls t = (cursor-at-reads.Asked, cursor-at-reads.Learnt, statements-below t, statements.Post)
 
 abbrev looped-calls : ℕ → looped-lts.Claims
-looped-calls t = (fresh-reads.Asked, fresh-reads.Learnt, needed-turns-below t, needed-turns.Post, rise-reads.Asked, rise-reads.Learnt)
+looped-calls t = (fresh-reads.Asked, fresh-reads.Learnt, needed-turns-below t, needed-turns.Post, use-at-reads.Asked, use-at-reads.Learnt, remember-reads.Asked, remember-reads.Learnt, rise-reads.Asked, rise-reads.Learnt, goes-on-reads.Asked, goes-on-reads.Learnt)
 
 abbrev needed-turns-calls : ℕ → needed-turns-lts.Claims
 needed-turns-calls t = (statements-below t, statements.Post, begins-again-reads.Asked, begins-again-reads.Learnt)
@@ -195,7 +196,7 @@ body-of-statements-requires : (t : ℕ) → body-of-lts.Need-statements-requires
 body-of-statements-requires t c κs =
     let pre′ = c .before .before .before .before .before .before .before .before .before .before .before .before .before .before .before .before .before .before .before .pre in
     let cursor-at′ = c .before .before .before .before .cursor-at in
-    (omega (arith, pre′ .0), (eq-eqb _ 0 (cursor-at′ .ensures .on), rw (cursor-at′ .ensures .there) (pre′ .1 .1), pre′ .1 .2))
+    (omega (arith, pre′ .0), rw (cursor-at′ .ensures .there) (eq-eqb _ 0 (cursor-at′ .ensures .on), pre′ .1 .1, pre′ .1 .2))
 
 body-of-same-length : (t : ℕ) → body-of-lts.Need-same-length (body-of-calls t) (body-of-at t) body-of.Post
 body-of-same-length t c = search needs
@@ -215,26 +216,20 @@ body-of-returns t c =
     let statements′ = c .before .before .before .before .before .before .before .before .statements in
     rw (cursor-at′ .ensures .there) at (statements′ .ensures)
 
-looped-sub-around : (t : ℕ) → looped-lts.Need-sub-around (looped-calls t) (looped-at t) looped.Post
-looped-sub-around t c = omega (arith, c .before .before .before .before .before .before .before .before .before .before .before .before .before .before .pre .1 .3)
+looped-sub-inside : (t : ℕ) → looped-lts.Need-sub-inside (looped-calls t) (looped-at t) looped.Post
+looped-sub-inside t c = omega (arith, c .before .before .before .before .before .before .before .before .before .before .before .before .before .before .pre .1 .2)
 
-looped-sub-fresh : (t : ℕ) → looped-lts.Need-sub-fresh (looped-calls t) (looped-at t) looped.Post
-looped-sub-fresh t c = omega (arith, c .before .before .before .before .before .before .before .before .before .before .before .before .before .before .before .before .pre .1 .2)
-
-looped-sub-fresh-2 : (t : ℕ) → looped-lts.Need-sub-fresh-2 (looped-calls t) (looped-at t) looped.Post
-looped-sub-fresh-2 t c = omega (arith, c .before .before .before .before .before .before .before .before .before .before .before .before .before .before .before .before .pre .1 .3)
+looped-sub-inside-2 : (t : ℕ) → looped-lts.Need-sub-inside-2 (looped-calls t) (looped-at t) looped.Post
+looped-sub-inside-2 t c = omega (arith, c .before .before .before .before .before .before .before .before .before .before .before .before .before .before .pre .1 .3)
 
 looped-fresh-requires : (t : ℕ) → looped-lts.Need-fresh-requires (looped-calls t) (looped-at t) looped.Post
-looped-fresh-requires t c κs = (nest-fits _, c .before .before .before .before .before .before .before .before .before .before .before .before .before .before .before .before .pre .1 .4 .sized .roomy .few)
+looped-fresh-requires t c κs = (nest-fits _, c .before .before .before .before .before .before .before .before .before .before .before .before .before .before .before .pre .1 .4 .sized .roomy .few)
 
 looped-needed-turns-requires : (t : ℕ) → looped-lts.Need-needed-turns-requires (looped-calls t) (looped-at t) looped.Post
 looped-needed-turns-requires t c κs =
-    let start = c .before .before .before .before .before .before .before .before .before .before .before .before .before .before .before .before .before .before .before .before .before .before .before .pre in
+    let start = c .before .before .before .before .before .before .before .before .before .before .before .before .before .before .before .before .before .before .before .before .before .before .pre in
     let p = start .1 in
-    (omega (arith, start .0), (p .0, p .1, p .2, p .4, heads-tracked (nestOf (c .before .before .before .before .before .before .before .before .before .before .before .before .before .before .before .before .before .before .before .before .before .before .before .args .frame .depth - 1)) (p .5) (p .4 .sized .roomy .few) (nest-fits _) (c .before .before .before .before .before .before .fresh .ensures .0)))
-
-looped-rise-requires : (t : ℕ) → looped-lts.Need-rise-requires (looped-calls t) (looped-at t) looped.Post
-looped-rise-requires t c κs = (omega (arith, c .before .before .before .before .before .before .before .before .before .before .before .before .before .before .before .before .before .before .before .before .before .before .before .before .before .before .before .before .before .before .before .before .before .pre .1 .2), omega (arith, c .before .before .before .before .before .before .before .before .before .before .before .before .before .before .before .before .before .before .before .before .before .before .before .before .before .before .before .before .before .before .before .before .before .pre .1 .4 .sized .roomy .few))
+    (omega (arith, start .0), (p .0, p .1, p .2, p .4, heads-tracked (nestOf (c .before .before .before .before .before .before .before .before .before .before .before .before .before .before .before .before .before .before .before .before .before .before .args .frame .depth - 1)) (p .5) (p .4 .sized .roomy .few) (nest-fits _) (c .before .before .before .before .before .before .fresh .ensures .0)))
 
 looped-same-length : (t : ℕ) → looped-lts.Need-same-length (looped-calls t) (looped-at t) looped.Post
 looped-same-length t c = search needs
@@ -250,30 +245,90 @@ looped-same-length-4 t c = search needs
 
 looped-returns : (t : ℕ) → looped-lts.Need-returns (looped-calls t) (looped-at t) looped.Post
 looped-returns t c =
-    let start = c .before .before .before .before .before .before .before .before .before .before .before .before .before .before .before .before .before .before .before .before .before .before .before .before .before .before .before .before .before .before .before .before .before .before .before .before .before .pre .1 in
-    let depth = c .before .before .before .before .before .before .before .before .before .before .before .before .before .before .before .before .before .before .before .before .before .before .before .before .before .before .before .before .before .before .before .before .before .before .before .before .before .args .frame .depth in
+    let start = c .before .before .before .before .before .before .before .before .before .before .before .before .before .before .before .before .before .before .before .before .before .before .before .before .before .before .before .before .before .before .before .before .before .pre .1 in
+    let depth = c .before .before .before .before .before .before .before .before .before .before .before .before .before .before .before .before .before .before .before .before .before .before .before .before .before .before .before .before .before .before .before .before .before .args .frame .depth in
     let roomy = start .4 .sized .roomy in
-    let w = c .before .before .before .before .before .before .before .before .before .before .before .before .before .before .before .before .before .before .before .before .fresh .ensures in
-    let v = c .before .before .before .before .before .before .before .before .before .before .before .before .before .needed-turns .ensures in
-    let z = c .before .before .before .rise .ensures in
+    let w = c .before .before .before .before .before .before .before .before .before .before .before .before .before .before .before .before .before .fresh .ensures in
+    let v = c .before .before .before .before .before .before .before .before .before .before .needed-turns .ensures in
     let next = nest-next (start .2) (start .3) in (
       refl,
       record {
         kept = v .kept;
-        ended = v .ended;
+        ended = λ E b us s st hs e. true-false refl e;
         plays = λ E b us s st m f. (
             let p = v .plays E b us s st (knows-tracked m (nestOf (depth - 1)) (roomy .few) (nest-fits (depth - 1)) (w .0)) (λ room. (f, w .1 (as-long (sym (w .0 .long)) room))) in
-            record { told = p .told; behind = p .behind });
-        memo-long = z .0 .long ∙ v .memo-long ∙ w .0 .long;
-        below = below-then (below-around (nestOf depth) next (below-then (below-tracked (nestOf (depth - 1)) (w .0)) (v .below))) (below-tracked (nestOf depth) (z .0));
-        heads = heads-tracked (nestOf depth) (v .heads) (roomy .few) (nest-fits depth) (z .0);
-        learnt = λ E b us s st m.
-            knows-tracked (v .learnt E b us s st (knows-tracked m (nestOf (depth - 1)) (roomy .few) (nest-fits (depth - 1)) (w .0))) (nestOf depth) (roomy .few) (nest-fits depth) (z .0);
+            failing-plays refl (p .told .fails (c .if1 .taken)));
+        memo-long = v .memo-long ∙ w .0 .long;
+        below = below-around (nestOf depth) next (below-then (below-tracked (nestOf (depth - 1)) (w .0)) (v .below));
+        heads = λ E b us s st hs. v .heads E b us s st (heads-tracked (nestOf (depth - 1)) hs (roomy .few) (nest-fits (depth - 1)) (w .0));
+        learnt = λ E b us s st m f.
+            v .learnt E b us s st (knows-tracked m (nestOf (depth - 1)) (roomy .few) (nest-fits (depth - 1)) (w .0)) (λ room. (f, w .1 (as-long (sym (w .0 .long)) room)));
+        tracks = λ E b us s st m f e. true-false refl e;
+      },
+    )
+
+looped-use-at-requires : (t : ℕ) → looped-lts.Need-use-at-requires (looped-calls t) (looped-at t) looped.Post
+looped-use-at-requires t c κs = search needs
+
+looped-remember-requires : (t : ℕ) → looped-lts.Need-remember-requires (looped-calls t) (looped-at t) looped.Post
+looped-remember-requires t c κs =
+    let roomy = c .before .before .before .before .before .before .before .before .before .before .before .before .before .before .before .before .before .before .before .before .before .before .before .before .before .before .before .before .before .before .before .before .before .before .before .before .pre .1 .4 .sized .roomy in
+    (nest-fits _, roomy .few, roomy-values (roomy .few) (roomy .values-long) (c .before .before .before .before .before .before .before .before .before .before .before .before .before .needed-turns .ensures .kept .values-long))
+
+looped-sub-around : (t : ℕ) → looped-lts.Need-sub-around (looped-calls t) (looped-at t) looped.Post
+looped-sub-around t c = omega (arith, c .before .before .before .before .before .before .before .before .before .before .before .before .before .before .before .before .before .before .before .before .before .before .before .before .before .before .before .before .before .before .before .before .before .before .before .before .before .before .before .before .pre .1 .3)
+
+looped-rise-requires : (t : ℕ) → looped-lts.Need-rise-requires (looped-calls t) (looped-at t) looped.Post
+looped-rise-requires t c κs = (omega (arith, c .before .before .before .before .before .before .before .before .before .before .before .before .before .before .before .before .before .before .before .before .before .before .before .before .before .before .before .before .before .before .before .before .before .before .before .before .before .before .before .before .before .pre .1 .2), omega (arith, c .before .before .before .before .before .before .before .before .before .before .before .before .before .before .before .before .before .before .before .before .before .before .before .before .before .before .before .before .before .before .before .before .before .before .before .before .before .before .before .before .before .pre .1 .4 .sized .roomy .few))
+
+looped-goes-on-requires : (t : ℕ) → looped-lts.Need-goes-on-requires (looped-calls t) (looped-at t) looped.Post
+looped-goes-on-requires t c κs = search needs
+
+looped-same-length-5 : (t : ℕ) → looped-lts.Need-same-length-5 (looped-calls t) (looped-at t) looped.Post
+looped-same-length-5 t c = c .before .before .before .before .before .before .before .before .before .before .before .before .before .before .before .before .before .before .before .before .before .before .needed-turns .ensures .kept .values-long
+
+looped-same-length-6 : (t : ℕ) → looped-lts.Need-same-length-6 (looped-calls t) (looped-at t) looped.Post
+looped-same-length-6 t c = c .before .before .before .before .before .before .before .before .before .before .before .before .before .before .before .before .before .before .before .before .before .before .needed-turns .ensures .kept .feeds-long
+
+looped-same-length-7 : (t : ℕ) → looped-lts.Need-same-length-7 (looped-calls t) (looped-at t) looped.Post
+looped-same-length-7 t c = search needs
+
+looped-same-length-8 : (t : ℕ) → looped-lts.Need-same-length-8 (looped-calls t) (looped-at t) looped.Post
+looped-same-length-8 t c = c .before .before .before .rise .ensures .0 .long ∙ c .before .before .before .before .before .before .before .before .remember .ensures .long ∙ c .before .before .before .before .before .before .before .before .before .before .before .before .before .before .before .before .before .before .before .before .before .before .needed-turns .ensures .memo-long ∙ c .before .before .before .before .before .before .before .before .before .before .before .before .before .before .before .before .before .before .before .before .before .before .before .before .before .before .before .before .before .fresh .ensures .0 .long
+
+looped-returns-2 : (t : ℕ) → looped-lts.Need-returns-2 (looped-calls t) (looped-at t) looped.Post
+looped-returns-2 t c =
+    let start = c .before .before .before .before .before .before .before .before .before .before .before .before .before .before .before .before .before .before .before .before .before .before .before .before .before .before .before .before .before .before .before .before .before .before .before .before .before .before .before .before .before .before .before .before .before .pre .1 in
+    let depth = c .before .before .before .before .before .before .before .before .before .before .before .before .before .before .before .before .before .before .before .before .before .before .before .before .before .before .before .before .before .before .before .before .before .before .before .before .before .before .before .before .before .before .before .before .before .args .frame .depth in
+    let roomy = start .4 .sized .roomy in
+    let w = c .before .before .before .before .before .before .before .before .before .before .before .before .before .before .before .before .before .before .before .before .before .before .before .before .before .before .before .before .before .fresh .ensures in
+    let v = c .before .before .before .before .before .before .before .before .before .before .before .before .before .before .before .before .before .before .before .before .before .before .needed-turns .ensures in
+    let sound = c .before .before .before .before .before .before .before .before .before .before .before .before .if1 .left in
+    let r = rw (c .before .before .before .before .before .before .before .before .before .before .before .use-at .ensures) at (c .before .before .before .before .before .before .before .before .remember .ensures) in
+    let z = c .before .before .before .rise .ensures in
+    let next = nest-next (start .2) (start .3) in
+    rw (c .goes-on .ensures) (
+      refl,
+      record {
+        kept = v .kept;
+        ended = λ E b us s st hs e. v .ended E b us s st (heads-tracked (nestOf (depth - 1)) hs (roomy .few) (nest-fits (depth - 1)) (w .0)) sound;
+        plays = λ E b us s st m f. (
+            let p = v .plays E b us s st (knows-tracked m (nestOf (depth - 1)) (roomy .few) (nest-fits (depth - 1)) (w .0)) (λ room. (f, w .1 (as-long (sym (w .0 .long)) room))) in
+            sound-plays sound p);
+        memo-long = z .0 .long ∙ r .long ∙ v .memo-long ∙ w .0 .long;
+        below = below-then (below-then (below-around (nestOf depth) next (below-then (below-tracked (nestOf (depth - 1)) (w .0)) (v .below))) (below-remembered (nestOf depth) (nest-fits depth) r)) (below-tracked (nestOf depth) (z .0));
+        heads = λ E b us s st hs.
+            heads-tracked (nestOf depth) (looped-heads (start .6) st _ v sound r (heads-tracked (nestOf (depth - 1)) hs (roomy .few) (nest-fits (depth - 1)) (w .0))) (roomy .few) (nest-fits depth) (z .0);
+        learnt = λ E b us s st m f. (
+            let m′ = knows-tracked m (nestOf (depth - 1)) (roomy .few) (nest-fits (depth - 1)) (w .0) in
+            knows-tracked (looped-knows (start .6) st _ v sound r (pins-roomy (st .shows) (roomy .few) (roomy .values-long)) (nest-some (nestOf depth) next) m′ f (λ room. (f, w .1 (as-long (sym (w .0 .long)) room)))) (nestOf depth) (roomy .few) (nest-fits depth) (z .0));
         tracks = λ E b us s st m f e. tracking-joined (λ some room. (
           tracked-body (pins-roomy (st .shows) (roomy .few) (roomy .values-long)) (nest-some (nestOf depth) next) (as-long (w .0 .long) room) (w .1 room)
-              (v .tracks E b us s st (knows-tracked m (nestOf (depth - 1)) (roomy .few) (nest-fits (depth - 1)) (w .0)) (λ room. (f, w .1 (as-long (sym (w .0 .long)) room))) e),
-          λ j l. risen (nestOf depth) j next (w .0) (v .below) (nest-less (start .2)) (few-below (roomy .few) l)
-              (z .1 some (as-long (v .memo-long ∙ w .0 .long) room) j l),
+              (v .tracks E b us s st (knows-tracked m (nestOf (depth - 1)) (roomy .few) (nest-fits (depth - 1)) (w .0)) (λ room. (f, w .1 (as-long (sym (w .0 .long)) room))) sound),
+          λ j l. (
+              let less = nest-less (start .2) in
+              let below = few-below (roomy .few) l in
+              risen (nestOf depth) j next (w .0) (v .below) less below (remembered-joins (nestOf depth) j r less below (z .1 some (as-long (r .long ∙ v .memo-long ∙ w .0 .long) room) j l))),
         ));
       },
     )
@@ -312,7 +367,7 @@ needed-turns-returns t c =
       memo-long = a .memo-long;
       below = a .below;
       heads = a .heads;
-      learnt = a .learnt;
+      learnt = λ E b us s st m f. a .learnt E b us s st m tt;
       tracks = λ E b us s st m f e. tracking-same (λ z. sym (loop-once _ _ (λ j. playFew j _ b) z _ (start .1) taken e)) (a .tracks E b us s st m tt e);
     }
 
@@ -355,7 +410,7 @@ needed-turns-returns-2 t c =
       memo-long = a .memo-long;
       below = a .below;
       heads = a .heads;
-      learnt = a .learnt;
+      learnt = λ E b us s st m f. a .learnt E b us s st m tt;
       tracks = λ E b us s st m f e. turned-tracks _ _ _ _ st wide wide′ (a .memo-long) f h n k (a .plays E b us s st m tt) left (a .tracks E b us s st m tt sound);
     }
 
@@ -388,10 +443,10 @@ needed-turns-statements-requires-2 t c κs =
           body = stood .body;
           rest = stood .rest;
           state = _;
-          standing = again-standing _ (stood .standing) (a .ended (stood .env) (stood .body) (stood .rest) (stood .state) (stood .standing) sound);
+          standing = again-standing _ (stood .standing) (a .ended (stood .env) (stood .body) (stood .rest) (stood .state) (stood .standing) (pre′ .1 .4) sound);
           sized = sized-kept (stood .sized) (a .kept);
         },
-        a .heads,
+        a .heads (stood .env) (stood .body) (stood .rest) (stood .state) (stood .standing) (pre′ .1 .4),
       ),
     )
 
@@ -429,16 +484,16 @@ needed-turns-returns-3 t c =
     let sound = first-sound n k (c .before .before .before .before .before .before .before .before .before .before .before .before .before .before .before .before .before .before .before .before .before .before .before .before .before .before .before .before .before .before .before .statements .result .failed) left in
     record {
       kept = kept-then (a .kept) (z .kept);
-      ended = λ E b us s st e. (let n = a .ended E b us s st sound in ended-then (n .fed .same) (z .ended E b us _ (again-standing _ st n) e));
+      ended = λ E b us s st h e. (let n = a .ended E b us s st h sound in ended-then (n .fed .same) (z .ended E b us _ (again-standing _ st n) (a .heads E b us s st h) e));
       plays = λ E b us s st m f. (
           let p = a .plays E b us s st m tt in
-          turned-twice _ _ (λ j. playFew j _ b) p left (z .plays E b us _ (turned-standing _ _ st p sound) (a .learnt E b us s st m) tt));
+          turned-twice _ _ (λ j. playFew j _ b) p left (z .plays E b us _ (turned-standing _ _ st p sound) (a .learnt E b us s st m tt) tt));
       memo-long = z .memo-long ∙ a .memo-long;
       below = below-then (a .below) (z .below);
-      heads = z .heads;
-      learnt = λ E b us s st m. z .learnt E b us _ (turned-standing _ _ st (a .plays E b us s st m tt) sound) (a .learnt E b us s st m);
+      heads = λ E b us s st h. z .heads E b us _ (again-standing _ st (a .ended E b us s st h sound)) (a .heads E b us s st h);
+      learnt = λ E b us s st m f. z .learnt E b us _ (turned-standing _ _ st (a .plays E b us s st m tt) sound) (a .learnt E b us s st m tt) tt;
       tracks = λ E b us s st m f e. tracking-same (λ y. sym (twice n k (λ j. playFew j _ b) y (second-due n k (c .before .before .before .before .before .before .before .before .before .before .before .before .before .before .before .before .before .before .before .before .before .before .before .before .before .before .before .before .before .before .before .statements .result .failed) left) (second-open n k (c .before .before .before .before .before .before .before .before .before .before .before .before .before .before .before .before .before .before .before .before .before .before .before .before .before .before .before .before .before .before .before .statements .result .failed) left)))
-          (tracking-then (a .tracks E b us s st m tt sound) (a .memo-long) (z .tracks E b us _ (turned-standing _ _ st (a .plays E b us s st m tt) sound) (a .learnt E b us s st m) tt e));
+          (tracking-then (a .tracks E b us s st m tt sound) (a .memo-long) (z .tracks E b us _ (turned-standing _ _ st (a .plays E b us s st m tt) sound) (a .learnt E b us s st m tt) tt e));
     }
 
 play-body-sub-body : (t : ℕ) → play-body-lts.Need-sub-body (play-body-calls t) (play-body-at t) play-body.Post
@@ -477,16 +532,16 @@ play-body-body-of-requires t c κs =
     let at = start-at′ .ensures (omega (arith, u .declared)) in
     let within = begins-within _ _ _ _ _ (u .holds) in (
       omega (arith, pre′ .0, u .some-more),
-      (
+      rw (part-begins (args′ .text .now) (start-at′ .result) _ at within) (
         part-within (args′ .text .now) (start-at′ .result) _ at within,
-        rw (part-begins (args′ .text .now) (start-at′ .result) _ at within) (record {
+        record {
           env = used .env;
           body = used .body;
           rest = used .rest;
           state = record { pins = used .state .pins; table = used .state .table; args = used .arguments };
           standing = macro-standing u;
           sized = sized-at (used .sized) _ (omega (arith, u .fits .levels));
-        }),
+        },
         pre′ .1 .1,
       ),
     )
@@ -515,8 +570,8 @@ play-body-returns t c =
       told = λ E b us a s v m. macro-told v _ _ (kind-macro _ (c .before .before .before .before .before .before .before .before .before .before .before .before .before .if1 .taken)) (p .kept) (p .plays E b us _ (macro-standing v) m tt);
       memo-long = p .memo-long;
       below = p .below;
-      heads = p .heads;
-      learnt = λ E b us a s v m. p .learnt E b us _ (macro-standing v) m;
+      heads = λ E b us a s v m. p .heads E b us _ (macro-standing v) m;
+      learnt = λ E b us a s v m. p .learnt E b us _ (macro-standing v) m tt;
       tracks = λ E b us a s v m e long fresh. rw (kind-macro _ (c .before .before .before .before .before .before .before .before .before .before .before .before .before .if1 .taken))
           (macro-tracked a _ (tracked-body (pins-roomy (v .shows) (roomy .few) (roomy .values-long)) (nest-deep _ (v .fits)) long fresh (p .tracks E b us _ (macro-standing v) m tt e)));
     }
@@ -538,16 +593,16 @@ play-body-body-of-requires-2 t c κs =
     let at = start-at′ .ensures (omega (arith, u .declared)) in
     let within = begins-within _ _ _ _ _ (u .holds) in (
       omega (arith, pre′ .0, u .some-more),
-      (
+      rw (part-begins (args′ .text .now) (start-at′ .result) _ at within) (
         part-within (args′ .text .now) (start-at′ .result) _ at within,
-        rw (part-begins (args′ .text .now) (start-at′ .result) _ at within) (record {
+        record {
           env = used .env;
           body = used .body;
           rest = used .rest;
           state = record { pins = bare (used .state .pins); table = used .state .table; args = used .arguments };
           standing = procedure-standing u (used .sized) (leave′ .ensures);
           sized = sized-at (sized-left (used .sized) (leave′ .ensures)) _ (omega (arith, u .fits .levels));
-        }),
+        },
         pre′ .1 .1,
       ),
     )
@@ -594,8 +649,8 @@ play-body-returns-2 t c =
           procedure-told v _ _ (kind-procedure _ (c .before .before .before .before .before .before .before .before .before .before .before .before .before .before .before .before .before .before .before .before .before .before .before .before .before .before .before .if1 .left)) sized l (p .kept) back (p .plays E b us _ (procedure-standing v sized l) m tt);
       memo-long = w .0 .long ∙ p .memo-long;
       below = below-then (p .below) (below-tracked (nestOf (c .before .before .before .before .before .before .before .before .before .before .before .before .before .before .before .before .before .before .before .before .before .before .before .before .before .before .before .before .before .before .before .before .before .before .before .before .before .before .before .before .before .before .before .before .before .args .frame .depth - 1)) (w .0));
-      heads = heads-tracked (nestOf (c .before .before .before .before .before .before .before .before .before .before .before .before .before .before .before .before .before .before .before .before .before .before .before .before .before .before .before .before .before .before .before .before .before .before .before .before .before .before .before .before .before .before .before .before .before .args .frame .depth - 1)) (p .heads) (sized .roomy .few) (nest-fits _) (w .0);
-      learnt = λ E b us a s v m. knows-tracked (p .learnt E b us _ (procedure-standing v sized l) m) (nestOf (c .before .before .before .before .before .before .before .before .before .before .before .before .before .before .before .before .before .before .before .before .before .before .before .before .before .before .before .before .before .before .before .before .before .before .before .before .before .before .before .before .before .before .before .before .before .args .frame .depth - 1)) (sized .roomy .few) (nest-fits _) (w .0);
+      heads = λ E b us a s v m. heads-tracked (nestOf (c .before .before .before .before .before .before .before .before .before .before .before .before .before .before .before .before .before .before .before .before .before .before .before .before .before .before .before .before .before .before .before .before .before .before .before .before .before .before .before .before .before .before .before .before .before .args .frame .depth - 1)) (p .heads E b us _ (procedure-standing v sized l) m) (sized .roomy .few) (nest-fits _) (w .0);
+      learnt = λ E b us a s v m. knows-tracked (p .learnt E b us _ (procedure-standing v sized l) m tt) (nestOf (c .before .before .before .before .before .before .before .before .before .before .before .before .before .before .before .before .before .before .before .before .before .before .before .before .before .before .before .before .before .before .before .before .before .before .before .before .before .before .before .before .before .before .before .before .before .args .frame .depth - 1)) (sized .roomy .few) (nest-fits _) (w .0);
       tracks = λ E b us a s v m e long fresh. (
           let told = procedure-told v _ _ (kind-procedure _ (c .before .before .before .before .before .before .before .before .before .before .before .before .before .before .before .before .before .before .before .before .before .before .before .before .before .before .before .if1 .left)) sized l (p .kept) back (p .plays E b us _ (procedure-standing v sized l) m tt) in
           rw (kind-procedure _ (c .before .before .before .before .before .before .before .before .before .before .before .before .before .before .before .before .before .before .before .before .before .before .before .before .before .before .before .if1 .left)) (procedure-tracked a _ (pins-roomy (v .shows) (sized .roomy .few) (sized .roomy .values-long)) (w .1 (as-long (p .memo-long) long))
@@ -638,20 +693,21 @@ statement-returns t c =
     let wide = roomy-values (roomy .few) (roomy .values-long) refl in
     let row = recalled-row (f .finds) taken q in
     let on = eq-eqb _ 0 (q .pointed .on) in
-    let behind = start .2 .each (row .0) _ _ _ _ _ _ _ (row .1) in
     record {
       kept = kept-passed sized (sized .args-long) (q .restores .long) (λ i h. q .restores .rows i (omega (arith, roomy .few)));
-      moves = λ E b us s st. reused-moves st on behind (c .before .before .before .before .repeated .result) refl (v .1) (st .shows .args-are);
+      moves = λ E b us s st hs. reused-moves st on (hs .each (row .0) _ _ _ _ _ _ _ (row .1)) (c .before .before .before .before .repeated .result) refl (v .1) (st .shows .args-are);
       steps = λ E b us s st m. (
+          let behind = m .heads .each (row .0) _ _ _ _ _ _ _ (row .1) in
           let u = reused st on behind in
+          let held = reused-holds st on behind in
           let o = m .remembers .each (row .0) _ _ _ _ _ _ _ (row .1) in
           let granted = f .granted taken (E .tables) (_, _, _, st .holding .held) in
           reused-step st on behind (c .before .before .before .before .repeated .result) _ _ refl (v .1)
-          (rw (v .0) (recalled-told _ (u .kind) (u .decl) (u .turns) (u .arguments) _ o (u .read) (st .shows) wide granted (q .restores .long) (q .restores .put) (q .restores .kept)))
-          (λ e. tracking-joined (λ some room. (recalled-tracked _ (u .kind) (u .decl) (u .turns) (u .arguments) _ o (u .read) (st .shows) wide granted, v .4 some))));
+          (rw (v .0) (recalled-told _ _ (u .way) (u .body) (u .rest) us o held (st .shows) wide granted (q .restores .long) (q .restores .put) (q .restores .kept)))
+          (λ e. tracking-joined (λ some room. (recalled-tracked _ _ (u .way) (u .body) (u .rest) us o held (st .shows) wide granted, v .4 some))));
       memo-long = v .3 .long;
       below = below-tracked (nestOf depth) (v .3);
-      heads = heads-tracked (nestOf depth) (start .2) (roomy .few) (nest-fits depth) (v .3);
+      heads = λ E b us s st hs. heads-tracked (nestOf depth) hs (roomy .few) (nest-fits depth) (v .3);
       learnt = λ E b us s st m. knows-tracked m (nestOf depth) (roomy .few) (nest-fits depth) (v .3);
     }
 
@@ -728,7 +784,8 @@ statement-looped-requires t c κs =
     let h = c .before .before .before .before .before .before .before .before .before .before .before .head .ensures in
     let stood = start .1 .1 in
     let st = stood .standing in
-    let i = in-loop st (start .1 .0) _ _ _ (h .2 (stood .env) (st .holding .describes)) _ (c .before .before .before .before .before .what3 .given .1) in (
+    let is = c .before .before .before .before .before .what3 .given .1 in
+    let i = in-loop st (start .1 .0) _ _ _ (h .2 (stood .env) (st .holding .describes)) _ is in (
       omega (arith, start .0),
       (
         i .1 .on,
@@ -744,6 +801,7 @@ statement-looped-requires t c κs =
           sized = sized-kept (stood .sized) (kept-args (stood .sized) (h .1));
         },
         start .1 .2,
+        loop-head _ _ _ (start .1 .0) (i .1 .on) (h .2) _ is,
       ),
     )
 
@@ -794,7 +852,7 @@ statement-uses-requires t c κs =
           given-long = h .0;
         },
         start .1 .2,
-        behind-head _ _ _ _ _ (start .1 .0) (d .on) is (h .2),
+        behind-head _ _ _ (start .1 .0) (d .on) (h .2) _ _ is,
       ),
     )
 
@@ -813,11 +871,11 @@ statement-returns-2 t c =
     let h = c .before .before .before .before .before .before .head .ensures in
     record {
       kept = kept-args (start .1 .sized) (h .1);
-      moves = λ E b us s st. steps-moves {memo = []} {memo′ = []} {k = 0} {t = 0} (ends-step st (start .0) _ _ _ (h .2 E (st .holding .describes)) (c .enum-told .given .1) (st .shows));
+      moves = λ E b us s st hs. steps-moves {memo = []} {memo′ = []} {k = 0} {t = 0} (ends-step st (start .0) _ _ _ (h .2 E (st .holding .describes)) (c .enum-told .given .1) (st .shows));
       steps = λ E b us s st m. ends-step st (start .0) _ _ _ (h .2 E (st .holding .describes)) (c .enum-told .given .1) (st .shows);
       memo-long = refl;
       below = below-none;
-      heads = start .2;
+      heads = λ E b us s st hs. hs;
       learnt = λ E b us s st m. m;
     }
 
@@ -842,11 +900,11 @@ statement-returns-3 t c =
     let w = c .before .before .before .before .before .before .before .before .before .before .mark .ensures in
     record {
       kept = kept-others (start .1 .sized) (v .0) (h .1);
-      moves = λ E b us s st. steps-moves {memo = []} {memo′ = []} {k = 0} {t = 0} (vector-step st (start .0) _ _ _ (h .2 E (st .holding .describes)) (roomy .few) (omega (arith, roomy .few, roomy .values-long)) _ (c .before .before .before .before .before .before .before .before .before .before .before .before .before .before .before .what .given .1) (λ deep room. absurd (omega (arith, room))) (v .1));
+      moves = λ E b us s st hs. steps-moves {memo = []} {memo′ = []} {k = 0} {t = 0} (vector-step st (start .0) _ _ _ (h .2 E (st .holding .describes)) (roomy .few) (omega (arith, roomy .few, roomy .values-long)) _ (c .before .before .before .before .before .before .before .before .before .before .before .before .before .before .before .what .given .1) (λ deep room. absurd (omega (arith, room))) (v .1));
       steps = λ E b us s st m. vector-step st (start .0) _ _ _ (h .2 E (st .holding .describes)) (roomy .few) (omega (arith, roomy .few, roomy .values-long)) _ (c .before .before .before .before .before .before .before .before .before .before .before .before .before .before .before .what .given .1) (w .1) (v .1);
       memo-long = w .0 .long;
       below = below-tracked (nestOf (c .before .before .before .before .before .before .before .before .before .before .before .before .before .before .before .before .before .before .before .before .before .before .before .before .before .before .before .before .before .before .before .before .before .before .before .before .before .before .before .before .before .before .args .frame .depth)) (w .0);
-      heads = heads-tracked (nestOf (c .before .before .before .before .before .before .before .before .before .before .before .before .before .before .before .before .before .before .before .before .before .before .before .before .before .before .before .before .before .before .before .before .before .before .before .before .before .before .before .before .before .before .args .frame .depth)) (start .2) (roomy .few) (nest-fits _) (w .0);
+      heads = λ E b us s st hs. heads-tracked (nestOf (c .before .before .before .before .before .before .before .before .before .before .before .before .before .before .before .before .before .before .before .before .before .before .before .before .before .before .before .before .before .before .before .before .before .before .before .before .before .before .before .before .before .before .args .frame .depth)) hs (roomy .few) (nest-fits _) (w .0);
       learnt = λ E b us s st m. knows-tracked m (nestOf (c .before .before .before .before .before .before .before .before .before .before .before .before .before .before .before .before .before .before .before .before .before .before .before .before .before .before .before .before .before .before .before .before .before .before .before .before .before .before .before .before .before .before .args .frame .depth)) (roomy .few) (nest-fits _) (w .0);
     }
 
@@ -871,11 +929,11 @@ statement-returns-4 t c =
     let w = c .before .before .before .before .before .before .before .before .before .before .before .mark2 .ensures in
     rw (c .goes-on .ensures) (record {
       kept = kept-others (start .1 .sized) (v .0) (h .1);
-      moves = λ E b us s st. steps-moves {memo = []} {memo′ = []} {k = 0} {t = 0} (assigns-step st (start .0) _ _ _ (h .2 E (st .holding .describes)) (roomy .few) (omega (arith, roomy .few, roomy .values-long)) (c .before .before .before .before .before .before .before .before .before .before .before .before .before .before .before .enum-told2 .given .1) (λ deep room. absurd (omega (arith, room))) (v .1));
+      moves = λ E b us s st hs. steps-moves {memo = []} {memo′ = []} {k = 0} {t = 0} (assigns-step st (start .0) _ _ _ (h .2 E (st .holding .describes)) (roomy .few) (omega (arith, roomy .few, roomy .values-long)) (c .before .before .before .before .before .before .before .before .before .before .before .before .before .before .before .enum-told2 .given .1) (λ deep room. absurd (omega (arith, room))) (v .1));
       steps = λ E b us s st m. assigns-step st (start .0) _ _ _ (h .2 E (st .holding .describes)) (roomy .few) (omega (arith, roomy .few, roomy .values-long)) (c .before .before .before .before .before .before .before .before .before .before .before .before .before .before .before .enum-told2 .given .1) (w .1) (v .1);
       memo-long = w .0 .long;
       below = below-tracked (nestOf (c .before .before .before .before .before .before .before .before .before .before .before .before .before .before .before .before .before .before .before .before .before .before .before .before .before .before .before .before .before .before .before .before .before .before .before .before .before .before .before .before .before .before .args .frame .depth)) (w .0);
-      heads = heads-tracked (nestOf (c .before .before .before .before .before .before .before .before .before .before .before .before .before .before .before .before .before .before .before .before .before .before .before .before .before .before .before .before .before .before .before .before .before .before .before .before .before .before .before .before .before .before .args .frame .depth)) (start .2) (roomy .few) (nest-fits _) (w .0);
+      heads = λ E b us s st hs. heads-tracked (nestOf (c .before .before .before .before .before .before .before .before .before .before .before .before .before .before .before .before .before .before .before .before .before .before .before .before .before .before .before .before .before .before .before .before .before .before .before .before .before .before .before .before .before .before .args .frame .depth)) hs (roomy .few) (nest-fits _) (w .0);
       learnt = λ E b us s st m. knows-tracked m (nestOf (c .before .before .before .before .before .before .before .before .before .before .before .before .before .before .before .before .before .before .before .before .before .before .before .before .before .before .before .before .before .before .before .before .before .before .before .before .before .before .before .before .before .before .args .frame .depth)) (roomy .few) (nest-fits _) (w .0);
     })
 
@@ -894,11 +952,11 @@ statement-returns-5 t c =
     let h = c .before .before .before .before .before .before .before .before .head .ensures in
     rw (c .goes-on2 .ensures) (record {
       kept = kept-args (start .1 .sized) (h .1);
-      moves = λ E b us s st. steps-moves {memo = []} {memo′ = []} {k = 0} {t = 0} (chooses-step st (start .0) _ _ _ (h .2 E (st .holding .describes)) _ (c .before .before .what2 .given .1) (st .shows));
+      moves = λ E b us s st hs. steps-moves {memo = []} {memo′ = []} {k = 0} {t = 0} (chooses-step st (start .0) _ _ _ (h .2 E (st .holding .describes)) _ (c .before .before .what2 .given .1) (st .shows));
       steps = λ E b us s st m. chooses-step st (start .0) _ _ _ (h .2 E (st .holding .describes)) _ (c .before .before .what2 .given .1) (st .shows);
       memo-long = refl;
       below = below-none;
-      heads = start .2;
+      heads = λ E b us s st hs. hs;
       learnt = λ E b us s st m. m;
     })
 
@@ -922,19 +980,21 @@ statement-returns-6 t c =
     let is = c .before .before .before .before .before .before .before .before .before .before .before .before .before .before .what3 .given .1 in
     record {
       kept = kept-then (kept-args (start .1 .sized) (h .1)) (v .1 .kept);
-      moves = λ E b us s st. (
+      moves = λ E b us s st hs. (
           let i = in-loop st (start .0) _ _ _ (h .2 E (st .holding .describes)) _ is in
-          inside-moves (i .1) (v .0) (v .1 .ended E (i .1 .body) (i .1 .between) s (loop-standing st (i .1) (st .shows))));
+          inside-moves (i .1) (v .0) (v .1 .ended E (i .1 .body) (i .1 .between) s (loop-standing st (i .1) (st .shows)) hs));
       steps = λ E b us s st m. (
           let i = in-loop st (start .0) _ _ _ (h .2 E (st .holding .describes)) _ is in
           loop-step st (i .1) _ _ (v .0) (v .1 .plays E (i .1 .body) (i .1 .between) s (loop-standing st (i .1) (st .shows)) m (loop-plain (i .1)))
           (v .1 .tracks E (i .1 .body) (i .1 .between) s (loop-standing st (i .1) (st .shows)) m (loop-plain (i .1))));
       memo-long = v .1 .memo-long;
       below = v .1 .below;
-      heads = v .1 .heads;
+      heads = λ E b us s st hs. (
+          let i = in-loop st (start .0) _ _ _ (h .2 E (st .holding .describes)) _ is in
+          v .1 .heads E (i .1 .body) (i .1 .between) s (loop-standing st (i .1) (st .shows)) hs);
       learnt = λ E b us s st m. (
           let i = in-loop st (start .0) _ _ _ (h .2 E (st .holding .describes)) _ is in
-          v .1 .learnt E (i .1 .body) (i .1 .between) s (loop-standing st (i .1) (st .shows)) m);
+          v .1 .learnt E (i .1 .body) (i .1 .between) s (loop-standing st (i .1) (st .shows)) m (loop-plain (i .1)));
     }
 
 statement-same-length-21 : (t : ℕ) → statement-lts.Need-same-length-21 (statement-calls t) (statement-at t) statement′.Post
@@ -957,7 +1017,7 @@ statement-returns-7 t c =
     let v = c .before .before .before .before .before .before .before .before .shift-on .ensures in
     record {
       kept = kept-then (kept-args (start .1 .sized) (h .1)) (v .shifted-is .kept);
-      moves = λ E b us s st. (
+      moves = λ E b us s st hs. (
           let i = in-shift st (start .0) _ _ _ (h .2 E (st .holding .describes)) (c .before .before .before .before .before .before .before .before .before .before .before .before .before .enum-told3 .given .1) in
           steps-moves (shift-step st i _ _ (v .shifted-is .goes-on) (v .shifted-is .plays E _ _ (i .between) s (shift-standing st i (st .shows))) (v .tracks E _ _ (i .between) s (shift-standing st i (st .shows)))));
       steps = λ E b us s st m. (
@@ -965,7 +1025,7 @@ statement-returns-7 t c =
           shift-step st i _ _ (v .shifted-is .goes-on) (v .shifted-is .plays E _ _ (i .between) s (shift-standing st i (st .shows))) (v .tracks E _ _ (i .between) s (shift-standing st i (st .shows))));
       memo-long = v .at-level .long;
       below = below-tracked (nestOf (c .before .before .before .before .before .before .before .before .before .before .before .before .before .before .before .before .before .before .before .before .before .before .before .before .before .before .before .before .before .before .before .before .before .before .before .before .before .before .before .before .args .frame .depth)) (v .at-level);
-      heads = heads-tracked (nestOf (c .before .before .before .before .before .before .before .before .before .before .before .before .before .before .before .before .before .before .before .before .before .before .before .before .before .before .before .before .before .before .before .before .before .before .before .before .before .before .before .before .args .frame .depth)) (start .2) (roomy .few) (nest-fits _) (v .at-level);
+      heads = λ E b us s st hs. heads-tracked (nestOf (c .before .before .before .before .before .before .before .before .before .before .before .before .before .before .before .before .before .before .before .before .before .before .before .before .before .before .before .before .before .before .before .before .before .before .before .before .before .before .before .before .args .frame .depth)) hs (roomy .few) (nest-fits _) (v .at-level);
       learnt = λ E b us s st m. knows-tracked m (nestOf (c .before .before .before .before .before .before .before .before .before .before .before .before .before .before .before .before .before .before .before .before .before .before .before .before .before .before .before .before .before .before .before .before .before .before .before .before .before .before .before .before .args .frame .depth)) (roomy .few) (nest-fits _) (v .at-level);
     }
 
@@ -989,7 +1049,7 @@ statement-returns-8 t c =
     let v = c .before .before .before .before .before .before .before .before .uses .ensures in
     record {
       kept = kept-then (kept-args (start .1 .sized) (h .1)) (v .2 .kept);
-      moves = λ E b us s st. (
+      moves = λ E b us s st hs. (
           let d = called st (start .0) _ _ _ (h .2 E (st .holding .describes)) _ _ is in
           called-moves _ d (v .0) (v .1) (served-fed (v .2) (st .shows .args-are)));
       steps = λ E b us s st m. (
@@ -998,7 +1058,9 @@ statement-returns-8 t c =
           called-step st d (c .before .before .before .before .before .before .before .before .uses .result) _ _ (v .0) (v .1) (v .2 .told E (d .body) (d .after) (d .arguments) s i m) (v .2 .tracks E (d .body) (d .after) (d .arguments) s i m));
       memo-long = v .2 .memo-long;
       below = v .2 .below;
-      heads = v .2 .heads;
+      heads = λ E b us s st hs. (
+          let d = called st (start .0) _ _ _ (h .2 E (st .holding .describes)) _ _ is in
+          v .2 .heads E (d .body) (d .after) (d .arguments) s (called-invoking (st .holding) d (st .shows)) hs);
       learnt = λ E b us s st m. (
           let d = called st (start .0) _ _ _ (h .2 E (st .holding .describes)) _ _ is in
           v .2 .learnt E (d .body) (d .after) (d .arguments) s (called-invoking (st .holding) d (st .shows)) m);
@@ -1020,11 +1082,11 @@ statements-loop-holds t c =
     let start = c .before .before .before .before .before .before .before .before .before .before .before .before .before .pre .1 in
     record {
       kept = kept-none;
-      resumes = λ E b us s st. resumed (start .0) st;
+      resumes = λ E b us s st hs. resumed (start .0) st;
       onward = λ E b us s st m. going (start .0) st;
       memo-long = refl;
       below = below-none;
-      heads = start .2;
+      heads = λ E b us s st hs. hs;
       learnt = λ E b us s st m. m;
     }
 
@@ -1037,7 +1099,7 @@ statements-statement-requires t c κs =
     let loop′ = c .before .before .before .before .loop in
     let stood = pre′ .1 .1 in
     let inv = loop′ .inv in
-    let o = inv .resumes (stood .env) (stood .body) (stood .rest) (stood .state) (stood .standing) in (
+    let o = inv .resumes (stood .env) (stood .body) (stood .rest) (stood .state) (stood .standing) (pre′ .1 .2) in (
       omega (arith, pre′ .0),
       (
         o .on,
@@ -1049,7 +1111,7 @@ statements-statement-requires t c κs =
           standing = resumed-standing o _ (stood .standing .holding);
           sized = sized-kept (stood .sized) (inv .kept);
         },
-        inv .heads,
+        inv .heads (stood .env) (stood .body) (stood .rest) (stood .state) (stood .standing) (pre′ .1 .2),
       ),
     )
 
@@ -1090,14 +1152,14 @@ statements-returns t c =
     let step = c .before .before .before .before .before .before .before .before .before .before .statement .ensures in
     record {
       kept = kept-then (inv .kept) (step .kept);
-      ended = λ E b us s st e. (
-          let o = inv .resumes E b us s st in resumed-end o (step .moves E (o .rest) us _ (resumed-standing o _ (st .holding))) (c .if1 .taken) e);
+      ended = λ E b us s st hs e. (
+          let o = inv .resumes E b us s st hs in resumed-end o (step .moves E (o .rest) us _ (resumed-standing o _ (st .holding)) (inv .heads E b us s st hs)) (c .if1 .taken) e);
       plays = λ E b us s st m f. (
           let o = inv .onward E b us s st m in gone (inv .memo-long) o (step .steps E (o .rest) us (o .state) (o .standing) (inv .learnt E b us s st m)) (c .if1 .taken));
       memo-long = step .memo-long ∙ inv .memo-long;
       below = below-then (inv .below) (step .below);
-      heads = step .heads;
-      learnt = λ E b us s st m. (let o = inv .onward E b us s st m in step .learnt E (o .rest) us (o .state) (o .standing) (inv .learnt E b us s st m));
+      heads = λ E b us s st hs. (let o = inv .resumes E b us s st hs in step .heads E (o .rest) us _ (resumed-standing o _ (st .holding)) (inv .heads E b us s st hs));
+      learnt = λ E b us s st m f. (let o = inv .onward E b us s st m in step .learnt E (o .rest) us (o .state) (o .standing) (inv .learnt E b us s st m));
       tracks = λ E b us s st m f e. (
           let o = inv .onward E b us s st m in gone-tracked (inv .memo-long) o (step .steps E (o .rest) us (o .state) (o .standing) (inv .learnt E b us s st m)) (c .if1 .taken) e);
     }
@@ -1112,8 +1174,9 @@ statements-loop-less t c =
     let statement′ = c .before .before .before .before .before .before .before .before .before .before .before .statement in
     let if1′ = c .before .if1 in
     let stood = pre′ .1 .1 in
-    let o = loop′ .inv .resumes (stood .env) (stood .body) (stood .rest) (stood .state) (stood .standing) in
-    resumed-less o (statement′ .ensures .moves (stood .env) (o .rest) (stood .rest) _ (resumed-standing o _ (stood .standing .holding))) (if1′ .left)
+    let o = loop′ .inv .resumes (stood .env) (stood .body) (stood .rest) (stood .state) (stood .standing) (pre′ .1 .2) in
+    let heads = loop′ .inv .heads (stood .env) (stood .body) (stood .rest) (stood .state) (stood .standing) (pre′ .1 .2) in
+    resumed-less o (statement′ .ensures .moves (stood .env) (o .rest) (stood .rest) _ (resumed-standing o _ (stood .standing .holding)) heads) (if1′ .left)
 
 statements-loop-again : (t : ℕ) → statements-lts.Need-loop-again (
   statement-below t,
@@ -1125,13 +1188,13 @@ statements-loop-again t c =
     let left′ = c .before .if1 .left in
     record {
       kept = kept-then (inv .kept) (step .kept);
-      resumes = λ E b us s st. (
-          let o = inv .resumes E b us s st in resumed-on o (step .moves E (o .rest) us _ (resumed-standing o _ (st .holding))) left′);
+      resumes = λ E b us s st hs. (
+          let o = inv .resumes E b us s st hs in resumed-on o (step .moves E (o .rest) us _ (resumed-standing o _ (st .holding)) (inv .heads E b us s st hs)) left′);
       onward = λ E b us s st m. (
           let o = inv .onward E b us s st m in going-on (inv .memo-long) o (step .steps E (o .rest) us (o .state) (o .standing) (inv .learnt E b us s st m)) left′);
       memo-long = step .memo-long ∙ inv .memo-long;
       below = below-then (inv .below) (step .below);
-      heads = step .heads;
+      heads = λ E b us s st hs. (let o = inv .resumes E b us s st hs in step .heads E (o .rest) us _ (resumed-standing o _ (st .holding)) (inv .heads E b us s st hs));
       learnt = λ E b us s st m. (let o = inv .onward E b us s st m in step .learnt E (o .rest) us (o .state) (o .standing) (inv .learnt E b us s st m));
     }
 
@@ -1203,7 +1266,7 @@ used-returns t c =
       told = λ E b us a s v m. p .told E b us a s (invoked-using v (shows-supplied (v .shows) (f .1)) (f .2 _ _ (v .supplied))) (knows-tracked m (nestOf (c .before .before .before .before .before .before .before .before .before .before .before .before .before .before .before .before .before .before .before .before .before .before .before .before .before .before .before .before .before .before .before .before .before .before .before .before .before .before .before .args .frame .depth - 1)) (sized .roomy .few) (nest-fits _) (w .0));
       memo-long = p .memo-long ∙ w .0 .long;
       below = below-around (nestOf (c .before .before .before .before .before .before .before .before .before .before .before .before .before .before .before .before .before .before .before .before .before .before .before .before .before .before .before .before .before .before .before .before .before .before .before .before .before .before .before .args .frame .depth)) next (below-then (below-tracked (nestOf (c .before .before .before .before .before .before .before .before .before .before .before .before .before .before .before .before .before .before .before .before .before .before .before .before .before .before .before .before .before .before .before .before .before .before .before .before .before .before .before .args .frame .depth - 1)) (w .0)) (p .below));
-      heads = p .heads;
+      heads = λ E b us a s v hs. p .heads E b us a s (invoked-using v (shows-supplied (v .shows) (f .1)) (f .2 _ _ (v .supplied))) (heads-tracked (nestOf (c .before .before .before .before .before .before .before .before .before .before .before .before .before .before .before .before .before .before .before .before .before .before .before .before .before .before .before .before .before .before .before .before .before .before .before .before .before .before .before .args .frame .depth - 1)) hs (sized .roomy .few) (nest-fits _) (w .0));
       learnt = λ E b us a s v m. p .learnt E b us a s (invoked-using v (shows-supplied (v .shows) (f .1)) (f .2 _ _ (v .supplied))) (knows-tracked m (nestOf (c .before .before .before .before .before .before .before .before .before .before .before .before .before .before .before .before .before .before .before .before .before .before .before .before .before .before .before .before .before .before .before .before .before .before .before .before .before .before .before .args .frame .depth - 1)) (sized .roomy .few) (nest-fits _) (w .0));
       tracks = λ E b us a s v m e. true-false (c .if1 .taken) e;
     }
@@ -1253,11 +1316,14 @@ used-returns-2 t c =
       told = λ E b us a s v m. p .told E b us a s (invoked-using v (shows-supplied (v .shows) (f .1)) (f .2 _ _ (v .supplied))) (knows-tracked m (nestOf (depth - 1)) (roomy .few) (nest-fits (depth - 1)) (w .0));
       memo-long = z .0 .long ∙ r .long ∙ p .memo-long ∙ w .0 .long;
       below = below-then (below-then (below-around (nestOf depth) next (below-then (below-tracked (nestOf (depth - 1)) (w .0)) (p .below))) (below-remembered (nestOf depth) (nest-fits depth) r)) (below-tracked (nestOf depth) (z .0));
-      heads = heads-tracked (nestOf depth) (heads-more (p .heads) r (start .2)) (roomy .few) (nest-fits depth) (z .0);
+      heads = λ E b us a s v hs. (
+          let u = invoked-using v (shows-supplied (v .shows) (f .1)) (f .2 _ _ (v .supplied)) in
+          let hs′ = heads-tracked (nestOf (depth - 1)) hs (roomy .few) (nest-fits (depth - 1)) (w .0) in
+          heads-tracked (nestOf depth) (heads-more r (p .heads E b us a s u hs′) (start .2 .each E (v .holding .describes))) (roomy .few) (nest-fits depth) (z .0));
       learnt = λ E b us a s v m. (
           let u = invoked-using v (shows-supplied (v .shows) (f .1)) (f .2 _ _ (v .supplied)) in
           let m′ = knows-tracked m (nestOf (depth - 1)) (roomy .few) (nest-fits (depth - 1)) (w .0) in
-          knows-tracked (remembered-knows v p u m′ (roomy-values (roomy .few) (roomy .values-long) (p .kept .values-long)) (c .before .before .before .before .before .before .before .before .before .before .before .if1 .left) (λ room. w .1 (as-long (sym (w .0 .long)) room)) r) (nestOf depth) (roomy .few) (nest-fits depth) (z .0));
+          knows-tracked (used-knows v p u m′ (c .before .before .before .before .before .before .before .before .before .before .before .if1 .left) (λ room. w .1 (as-long (sym (w .0 .long)) room)) r (start .2)) (nestOf depth) (roomy .few) (nest-fits depth) (z .0));
       tracks = λ E b us a s v m e. (
           let u = invoked-using v (shows-supplied (v .shows) (f .1)) (f .2 _ _ (v .supplied)) in
           let m′ = knows-tracked m (nestOf (depth - 1)) (roomy .few) (nest-fits (depth - 1)) (w .0) in
@@ -1313,7 +1379,7 @@ uses-returns t c =
         told = λ E b us a s v m. q .told taken E b us a s _ _ _ 0 (invoked-calling v (m .summed)) (v .shows);
         memo-long = w .0 .long;
         below = below-tracked (nestOf depth) (w .0);
-        heads = heads-tracked (nestOf depth) (start .1) few (nest-fits depth) (w .0);
+        heads = λ E b us a s v hs. heads-tracked (nestOf depth) hs few (nest-fits depth) (w .0);
         learnt = λ E b us a s v m. knows-tracked m (nestOf depth) few (nest-fits depth) (w .0);
         tracks = λ E b us a s v m e. tracking-joined {m = λ j. w .1 j .0} (λ some room. (
           q .tracks taken E b us a s _ _ _ (λ j. w .1 j .0) (invoked-calling v (m .summed)) (v .shows) (λ j l. w .1 j .1 some room l .0),
@@ -1370,7 +1436,7 @@ uses-returns-2 t c =
         told = λ E b us a s i m. v .told E b us a s (invoking-untouched i same) m;
         memo-long = v .memo-long;
         below = v .below;
-        heads = v .heads;
+        heads = λ E b us a s i hs. v .heads E b us a s (invoking-untouched i same) hs;
         learnt = λ E b us a s i m. v .learnt E b us a s (invoking-untouched i same) m;
         tracks = λ E b us a s i m. v .tracks E b us a s (invoking-untouched i same) m;
       },
@@ -1402,17 +1468,25 @@ pub +body-of+looped+needed-turns+play-body+statement+statements+used+uses-spec :
     (λ t. looped-lts.spec (looped-calls t)
     (looped-at t)
     looped.Post
-    (looped-sub-around t)
-    (looped-sub-fresh t)
-    (looped-sub-fresh-2 t)
+    (looped-sub-inside t)
+    (looped-sub-inside-2 t)
     (looped-fresh-requires t)
     (looped-needed-turns-requires t)
-    (looped-rise-requires t)
     (looped-same-length t)
     (looped-same-length-2 t)
     (looped-same-length-3 t)
     (looped-same-length-4 t)
-    (looped-returns t))
+    (looped-returns t)
+    (looped-use-at-requires t)
+    (looped-remember-requires t)
+    (looped-sub-around t)
+    (looped-rise-requires t)
+    (looped-goes-on-requires t)
+    (looped-same-length-5 t)
+    (looped-same-length-6 t)
+    (looped-same-length-7 t)
+    (looped-same-length-8 t)
+    (looped-returns-2 t))
     (λ t. needed-turns-lts.spec (needed-turns-calls t)
     (needed-turns-at t)
     needed-turns.Post

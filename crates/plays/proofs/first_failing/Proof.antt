@@ -5,15 +5,14 @@ use mathlib.Core.Path.{_≡_, sym, _∙_}
 use lib.ListN.{length, length-replicate}
 use borrow.Author.Needs.{needs}
 use Rattle.memos.specs.Memo.{memoLength}
-use Rattle.plays.specs.Plays.{ground, arrays, Heads}
-use Rattle.plays.proofs.Recalling.{heads-none}
+use Rattle.plays.specs.Plays.{arrays}
 use Rattle.memos.proofs.Rows.{zeros}
 use Rattle.plays.proofs.Texts.{decides-failing, decides-sound, listed-any, run-fails, run-learnt, run-left, run-sound, Unplayed, unplayed}
 use Rattle.plays.proofs.first_failing.Statement.{statement}
 use Rattle.plays.proofs.first_failing.Tie as tie
 
 abbrev Inv-loop : tie.InvT-loop
-Inv-loop text places lists tplaces book rows waves marks sums list known signals listed patterns values₀ feeds₀ args₀ memo₀ k₀ values feeds args memo k = (memoLength ≡ length memo) × Heads (ground text places lists tplaces book rows waves known signals) memo × Unplayed text places lists tplaces waves book rows list known signals listed patterns marks sums memo k (arrays values feeds args)
+Inv-loop text places lists tplaces book rows waves marks sums list known signals listed patterns values₀ feeds₀ args₀ memo₀ k₀ values feeds args memo k = (memoLength ≡ length memo) × Unplayed text places lists tplaces waves book rows list known signals listed patterns marks sums memo k (arrays values feeds args)
 
 abbrev μ-loop : tie.MeasureT-loop
 μ-loop text places lists tplaces book rows waves marks sums list known signals listed patterns values₀ feeds₀ args₀ memo₀ k₀ values feeds args memo k = listed - k
@@ -21,7 +20,7 @@ abbrev μ-loop : tie.MeasureT-loop
 loop-holds : tie.Need-loop-holds Inv-loop μ-loop
 loop-holds c =
     let pre′ = c .before .before .before .before .before .before .before .before .before .before .pre in
-    (sym (length-replicate {A = ℕ} memoLength 0), heads-none (zeros memoLength), unplayed _ _ _ _ _ _ _ _ _ _ _ _ pre′ (zeros memoLength))
+    (sym (length-replicate {A = ℕ} memoLength 0), unplayed _ _ _ _ _ _ _ _ _ _ _ _ pre′ (zeros memoLength))
 
 slice-aggregate-pattern : tie.Need-slice-aggregate-pattern Inv-loop μ-loop
 slice-aggregate-pattern c = search needs
@@ -46,9 +45,9 @@ pattern-requires c κs =
         decls = pre′ .read .patterns;
         decl = l .0;
         listed-at = l .1;
-        sized = loop′ .inv .2 .sized;
+        sized = loop′ .inv .1 .sized;
       },
-      loop′ .inv .1,
+      loop′ .inv .1 .heads (pre′ .parts) (pre′ .read) (pre′ .body) (pre′ .runs),
     )
 
 returns : tie.Need-returns Inv-loop μ-loop
@@ -56,7 +55,7 @@ returns c =
     let loop′ = c .before .before .before .before .before .before .before .before .before .before .before .loop in
     let loop-test′ = c .before .before .before .before .before .before .before .before .before .before .loop-test in
     let pattern′ = c .before .before .before .before .before .pattern in
-    λ p d run h m. (let l = loop′ .inv .2 .left p d run h m in decides-failing (run-fails _ _ _ _ _ _ _ _ _ _ _ _ h (l .0) (loop-test′ .taken) (pattern′ .ensures) (l .1) (c .if1 .taken)))
+    λ p d run h m. (let l = loop′ .inv .1 .left p d run h m in decides-failing (run-fails _ _ _ _ _ _ _ _ _ _ _ _ h (l .0) (loop-test′ .taken) (pattern′ .ensures) (l .1) (c .if1 .taken)))
 
 add-k : tie.Need-add-k Inv-loop μ-loop
 add-k c =
@@ -72,11 +71,11 @@ loop-again c =
     let loop-test′ = c .before .before .before .before .before .before .before .before .before .before .loop-test in
     let pattern′ = c .before .before .before .before .before .pattern in (
       loop′ .inv .0 ∙ sym (pattern′ .ensures .memo-long),
-      pattern′ .ensures .heads,
       record {
         sized = pattern′ .ensures .sized;
+        heads = λ p d run h. (let l = listed-any _ _ _ _ _ _ _ _ _ _ _ _ h (loop-test′ .taken) in pattern′ .ensures .heads _ _ (l .0) (l .1) (loop′ .inv .1 .heads p d run h));
         left = λ p d run h m. (
-            let l = loop′ .inv .2 .left p d run h m in
+            let l = loop′ .inv .1 .left p d run h m in
             (run-left _ _ _ _ _ _ _ _ _ _ _ _ h (l .0) (loop-test′ .taken) (pattern′ .ensures) (l .1) (c .if1 .left), run-learnt _ _ _ _ _ _ _ _ _ _ _ _ h (l .0) (loop-test′ .taken) (pattern′ .ensures) (l .1)));
       },
     )
@@ -84,7 +83,7 @@ loop-again c =
 returns-2 : tie.Need-returns-2 Inv-loop μ-loop
 returns-2 c =
     let loop′ = c .before .loop in
-    λ p d run h m. decides-sound (run-sound _ _ _ _ _ _ _ _ _ _ _ _ h (loop′ .inv .2 .left p d run h m .0) (c .loop-test .left))
+    λ p d run h m. decides-sound (run-sound _ _ _ _ _ _ _ _ _ _ _ _ h (loop′ .inv .1 .left p d run h m .0) (c .loop-test .left))
 
 pub first-failing-spec : {M : Type 1} → statement M
 first-failing-spec =

@@ -83,16 +83,17 @@ body-of-requires c κs =
     let n = pre′ .0 .listed-at in
     let x = found-at n (find′ .result) (rest (args′ .book .now) (firstPattern * 2)) (name-bytes′ .ensures) (find′ .ensures) in
     let at = start-at′ .ensures (omega (arith, x .0, n .few)) in
-    let within = pattern-within n (find′ .result) (x .2) in (
+    let within = pattern-within n (find′ .result) (x .2) in
+    rw (part-begins (args′ .text .now) (start-at′ .result) _ at within) (
       part-within (args′ .text .now) (start-at′ .result) _ at within,
-      rw (part-begins (args′ .text .now) (start-at′ .result) _ at within) (record {
+      record {
         env = pre′ .0 .env;
         body = pre′ .0 .decl .body;
         rest = n .stands .0;
         state = record { pins = bare (start (args′ .signals) .pins); table = none; args = [] };
         standing = pattern-standing n (find′ .result) (x .2) (pre′ .0 .sized) (leave′ .ensures) (start (args′ .signals)) (opening-long (args′ .signals));
         sized = sized-left (pre′ .0 .sized) (leave′ .ensures);
-      }),
+      },
       pre′ .1,
     )
 
@@ -132,10 +133,12 @@ returns c =
           let e = found-at m (find′ .result) (rest (args′ .book .now) (firstPattern * 2)) (name-bytes′ .ensures) (find′ .ensures) .2 in
           listed-sound m s (b .plays E (d .body) (m .stands .0) _ (pattern-standing m (find′ .result) e (pre′ .0 .sized) l s h) u tt));
       memo-long = b .memo-long;
-      heads = b .heads;
+      heads = λ E ps d m u. (
+          let e = found-at m (find′ .result) (rest (args′ .book .now) (firstPattern * 2)) (name-bytes′ .ensures) (find′ .ensures) .2 in
+          b .heads E (d .body) (m .stands .0) _ (pattern-standing m (find′ .result) e (pre′ .0 .sized) l (start (args′ .signals)) (opening-long (args′ .signals))) u);
       learnt = λ E ps d m u. (
           let e = found-at m (find′ .result) (rest (args′ .book .now) (firstPattern * 2)) (name-bytes′ .ensures) (find′ .ensures) .2 in
-          b .learnt E (d .body) (m .stands .0) _ (pattern-standing m (find′ .result) e (pre′ .0 .sized) l (start (args′ .signals)) (opening-long (args′ .signals))) u);
+          b .learnt E (d .body) (m .stands .0) _ (pattern-standing m (find′ .result) e (pre′ .0 .sized) l (start (args′ .signals)) (opening-long (args′ .signals))) u tt);
     }
 
 pub pattern-spec : {M : Type 1} → statement M

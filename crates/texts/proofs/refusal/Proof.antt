@@ -1,5 +1,5 @@
 -- `refusal` meets its contract: a text too long, one that could not be read, and one that was read.
-use Rattle.texts.proofs.Ends.{fault-long}
+use Rattle.tokens.proofs.Faults.{fault-too-long}
 use Rattle.texts.proofs.Sounds.{told-fault}
 use borrow.Author.Needs.{needs}
 use Rattle.texts.proofs.refusal.Statement.{statement}
@@ -9,7 +9,7 @@ refused-requires : tie.Need-refused-requires
 refused-requires c κs = search needs
 
 returns : tie.Need-returns
-returns c = λ d h. told-fault _ (c .refused .ensures) (fault-long _ (c .before .if1 .taken))
+returns c = λ d h. told-fault _ (c .refused .ensures) (fault-too-long _ (c .before .if1 .taken))
 
 unread-requires : tie.Need-unread-requires
 unread-requires c κs = search needs
