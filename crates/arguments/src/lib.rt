@@ -84,9 +84,8 @@ fn argument<'a>(
     }
     let s = lists[i * signals::ROW + 1] as usize;
     let e = words::due(text, d, b"=");
-    // How many characters there are is asked, and not which.
-    let mut first = [0u8; 1];
-    let f = data::data(text, e, false, &mut first);
+    let mut chars = [0u8; ARGUMENT_MOST];
+    let f = data::data(text, e, false, &mut chars);
     let g = f.cursor;
     let r = words::refuse_if(g, ARGUMENT_MOST < f.n, BAD_DATA, f.last);
     if r.no != 0 {
