@@ -6,19 +6,17 @@ use mathlib.Core.Path.{_≡_, refl, sym, ap, _∙_}
 use mathlib.Core.Option.{Option, none, some}
 use mathlib.Core.List.{List, [], _∷_, _++_, append-assoc, append-nil}
 use lib.ListN.{length, take, drop, set, length-drop, length-set, take-append-drop, drop-of-length-le}
-use lib.Seq.{length-take-le, take-all, take-append-add, drop-append-add, drop-drop, take-suc-set, drop-set-lt}
+use lib.Seq.{length-take-le, take-append-add, drop-append-add, drop-drop, take-suc-set, drop-set-lt}
 use borrow.Author.Tests.{ne-eqb}
 use borrow.Rule.Slice.PartMut.{same-len-mid}
 use Rattle.meaning.specs.Charts.{chartMost, Asked, askedIn, called, Chart, behind, over, chart}
 use Rattle.meaning.proofs.Charts.{chart-served, chart-stops, called-written}
+use Rattle.words.proofs.Words.{rest as part-in}
 use Rattle.charts.specs.Serving.{Outlines, stoppedBy, Serves}
 use Rattle.charts.specs.declared.Outline.{Outline}
 use Rattle.charts.proofs.Lists.{Next}
 
 -- ---- the part of a buffer behind its first e numbers, as it is lent and as it comes back
-
-part-in : (e : ℕ) (xs : List ℕ) → take (length xs - e) (drop e xs) ≡ drop e xs
-part-in e xs = take-all (length xs - e) (drop e xs) (omega (arith, length-drop e xs))
 
 part-out : (e : ℕ) (xs ys : List ℕ) → take e xs ++ (ys ++ drop (length xs - e) (drop e xs)) ≡ take e xs ++ ys
 part-out e xs ys = rw (drop-of-length-le (drop e xs) {i = length xs - e} (omega (arith, length-drop e xs)), append-nil)
@@ -138,7 +136,7 @@ module _ {text list times₀ letters₀ counts₀ : List ℕ} where
           (take (length times - events) (drop events times)) times′ (take (length letters - events) (drop events letters)) letters′ o) where
         -- on what is left of both buffers
         on-rest : Outlines (called text (n .first) (drop events times) (drop events letters)) (drop events times) times′ (drop events letters) letters′ o
-        on-rest = rw (part-in events times, part-in events letters) at d
+        on-rest = rw (part-in times events, part-in letters events) at d
 
         -- one that is refused
         pub serving-stops : (o .no ≡ 0 → ⊥)

@@ -22,7 +22,7 @@ const ASK: usize = 3;
 const CHAR: u64 = 255;
 
 // Refusals, all at place 0.
-const NO_SUCH: u8 = 18;
+pub const NO_SUCH: u8 = 18;
 
 const NO_ROOM: u8 = 19;
 

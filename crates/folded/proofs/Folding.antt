@@ -52,7 +52,7 @@ use Rattle.folded.proofs.Again.{charts-alike, parted-again, run-listed}
 
 -- ---- lengths
 
-names-directed : (text : List ℕ) (ts : List Tok) → namesOf (directed text ts) ≡ wordsOf ts
+pub names-directed : (text : List ℕ) (ts : List Tok) → namesOf (directed text ts) ≡ wordsOf ts
 unfolding namesOf directed wordsOf
 names-directed text [] = refl
 names-directed text (t ∷ ts) = ap (λ (l : List (List ℕ)). t .word ∷ l) (names-directed text ts)

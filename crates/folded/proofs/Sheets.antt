@@ -63,7 +63,7 @@ abbrev sheetOf : List Tok → Tok × Table → Sheet
 sheetOf signals x = record { name = x .0 .word; period = x .1 .period; charts = chartsFrom 0 signals (x .1 .waves) }
 
 module _ (signals : List Tok) where
-  sheets-more : (tabs : Tables) (x : Tok × Table) → sheets signals (tabs ++ x ∷ []) ≡ sheets signals tabs ++ sheetOf signals x ∷ []
+  pub sheets-more : (tabs : Tables) (x : Tok × Table) → sheets signals (tabs ++ x ∷ []) ≡ sheets signals tabs ++ sheetOf signals x ∷ []
   unfolding sheets
   sheets-more [] x = refl
   sheets-more (y ∷ tabs) x = ap (λ (l : List Sheet). sheetOf signals y ∷ l) (sheets-more tabs x)

@@ -43,7 +43,7 @@ length-firsts (x ∷ l) = ap suc (length-firsts l)
 
 -- ---- the run: its listed patterns' rows, one after the other
 
-rows-++ : (cs ds : List Cycle) → rowsOf (cs ++ ds) ≡ rowsOf cs ++ rowsOf ds
+pub rows-++ : (cs ds : List Cycle) → rowsOf (cs ++ ds) ≡ rowsOf cs ++ rowsOf ds
 unfolding rowsOf
 rows-++ [] ds = refl
 rows-++ (c ∷ cs) ds = ap (λ (l : List Row). rowOf c ∷ l) (rows-++ cs ds)

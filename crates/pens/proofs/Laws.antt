@@ -15,7 +15,7 @@ use Rattle.folded.specs.Layout.{timed}
 use Rattle.pens.specs.Pens.{Holds, Writes}
 use Rattle.pens.specs.declared.Pen.{Pen}
 
-absurd-full : {A : Type 0} {b : Bool} → b ≡ true → b ≡ false → A
+pub absurd-full : {A : Type 0} {b : Bool} → b ≡ true → b ≡ false → A
 absurd-full e f = absurd (let z : _≡_ {A = ℕ} 0 1 = cc in omega arith)
 
 page-is : (front bytes before entry exit : List ℕ) (at : ℕ) → at ≡ length front → entry ≡ front ++ drop (length front) before → exit ≡ take at entry ++ (bytes ++ drop (at + length bytes) entry)

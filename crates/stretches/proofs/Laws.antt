@@ -41,11 +41,6 @@ neither true = refl
 neither false = refl
 
 -- no row loses a value against itself
-pub loses-self : (l : List ℕ) → loses l l ≡ false
-unfolding loses
-loses-self [] = refl
-loses-self (c ∷ cs) = ap₂ (λ (a b : Bool). a || b) (neither (eqb c unassigned)) (loses-self cs)
-
 pub same-by : (n : ℕ) (old new : List ℕ) {a b : ℕ} {s : Bool} → a ≡ getD old n 0 - 48 → b ≡ getD new n 0 - 48 → s ≡ same (take n old) (take n new) → (eqb a b && s) ≡ sameRow (rowIn n old) (rowIn n new)
 unfolding sameRow
 same-by n old new e f g = rw (e, f, g)

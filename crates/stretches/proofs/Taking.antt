@@ -13,13 +13,13 @@ use Rattle.pages.proofs.Laws.{puts-length}
 use Rattle.folded.specs.Pieces.{Piece, laid}
 use Rattle.folded.specs.Flat.{Row, sameRow, loses}
 use Rattle.folded.specs.Walk.{opened, closed, flushed, rest, walked, begun, begunAll}
-use Rattle.folded.proofs.Stretches.{row-is}
+use Rattle.folded.proofs.Stretches.{row-is, self-loses}
 use Rattle.pens.specs.Pens.{Writes}
 use Rattle.pens.specs.declared.Pen.{Pen}
 use Rattle.stretches.specs.Rows.{rowIn, rowsIn}
 use Rattle.stretches.specs.Folding.{Onward, ahead, leftBy, begins, Follows, Takes, Ends}
 use Rattle.stretches.specs.declared.Folding.{Folding}
-use Rattle.stretches.proofs.Laws.{loses-self, row-kept, row-next, rows-end, rows-long}
+use Rattle.stretches.proofs.Laws.{row-kept, row-next, rows-end, rows-long}
 use Rattle.stretches.proofs.Writing.{onward-none, onward-more, onward-both, onward-from, onward-pen, own-flush, own-opened, own-closed}
 
 -- the same but for how often the row in hand came
@@ -78,7 +78,7 @@ module _ (signals tables : List (List ℕ)) where
   pub follows-same : (entry : List ℕ) (f : Folding) (x y : Row) → 1 ≤ f .times → sameRow x y ≡ true → Follows signals tables entry f x y entry (counted f (f .times + 1))
   follows-same entry f x y h e =
       let same = row-is x y e in
-      let kept : loses (x .pins) (y .pins) ≡ false = ap (λ (z : Row). loses (x .pins) (z .pins)) (sym same) ∙ loses-self (x .pins) in
+      let kept : loses (x .pins) (y .pins) ≡ false = ap (λ (z : Row). loses (x .pins) (z .pins)) (sym same) ∙ self-loses (x .pins) in
       let i = f .pattern in
       let t = told (f .chosen) (f .table) in
       let c = f .times in

@@ -18,7 +18,7 @@ ghost use Rattle.stretches.specs.Folding.{Taking, Follows, Takes, Opens,
 use pens::Pen;
 
 // Bytes of a row behind its pins: the table's digit, and LF.
-const TAIL: usize = 2;
+pub const TAIL: usize = 2;
 
 const UNASSIGNED: u8 = 0;
 
