@@ -3,7 +3,6 @@
 use second::listing::refusal_line;
 use second::refusal::Answer;
 use second::report::{Fail, Refused};
-use second::requests::REPORTS;
 use second::timing::Asked;
 use second::tokens::next_token;
 use second::{accept_mark, bounds, listing, Declared, Document, Refusal, MARK};
@@ -26,6 +25,8 @@ intake FILE
 list FILE
 save FILE
 fold FILE
+report FILE REPORTFILE
+help
 ";
 
 /// Rows written at a time, so that no count asked for needs more memory.
@@ -75,11 +76,10 @@ fn answer(words: &[OsString], out: &mut dyn Write) -> Done {
         b"holds" => holds(exactly(rest, ["FILE", "INDEXFILE", "N"])?, out),
         b"save" => save(exactly(rest, ["FILE"])?, out),
         b"fold" => fold(exactly(rest, ["FILE"])?, out),
-        b"report" if REPORTS => report(exactly(rest, ["FILE", "REPORTFILE"])?, out),
+        b"report" => report(exactly(rest, ["FILE", "REPORTFILE"])?, out),
         b"help" => {
             exactly(rest, [])?;
-            let report = if REPORTS { "report FILE REPORTFILE\n" } else { "" };
-            Ok(write!(out, "{HELP}{report}help\n")?)
+            Ok(out.write_all(HELP.as_bytes())?)
         }
         _ => Err(wrong("no such command", command)),
     }

@@ -5,6 +5,3 @@ pub const HEX: bool = cfg!(feature = "hex");
 
 /// Request 8: events across the cycle's edge, and times before it.
 pub const EDGES: bool = cfg!(feature = "edges");
-
-/// Request 9: fail reports. (`X NAME;` is read always.)
-pub const REPORTS: bool = cfg!(feature = "reports");

@@ -45,14 +45,12 @@ fn help_names_the_commands() {
         "list FILE",
         "save FILE",
         "fold FILE",
-        #[cfg(feature = "reports")]
         "report FILE REPORTFILE",
         "help",
     ];
     answers(&["help"], &(commands.join("\n") + "\n"));
 }
 
-#[cfg(feature = "reports")]
 #[test]
 fn reports() {
     let good = &file("reported.stil", SAMPLE.replace("Loop 2 {", "X x;\nLoop 2 {").as_bytes());
@@ -70,12 +68,6 @@ fn reports() {
     turned_down(&["report", good, &given, &given], "one word too many");
     turned_down(&["report", "/nowhere", "/neither"], "/nowhere");
     turned_down(&["report", good, "/nowhere"], "/nowhere");
-}
-
-#[cfg(not(feature = "reports"))]
-#[test]
-fn no_reports() {
-    turned_down(&["report", "/nowhere", "/neither"], "no such command: report");
 }
 
 #[test]

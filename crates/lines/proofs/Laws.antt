@@ -6,7 +6,7 @@ use lib.ListN.{length}
 use Rattle.tokens.specs.Written.{bytes, lines}
 use Rattle.pages.specs.Pages.{decimal}
 use Rattle.sections.specs.Listing.{refusal}
-use Rattle.lines.specs.Lines.{counted, nameLine, eventLine, tokenLine, spanLine, goodLine, hurtLine, unreadLine, sumLine, progress, helpLines, faultLine}
+use Rattle.lines.specs.Lines.{counted, nameLine, eventLine, tokenLine, spanLine, failLine, statedLine, goodLine, hurtLine, unreadLine, sumLine, progress, helpLines, faultLine}
 
 -- ---- the pieces of each line
 
@@ -29,6 +29,14 @@ token-is p token = simp append-assoc
 pub span-is : (first behind : ℕ) → (bytes "SPAN " ++ decimal first) ++ counted (bytes " ") behind ≡ spanLine first behind
 unfolding bytes counted spanLine
 span-is first behind = simp append-assoc
+
+pub fail-is : (cycle signal : ℕ) → decimal cycle ++ counted (bytes " ") signal ≡ failLine cycle signal
+unfolding bytes counted failLine
+fail-is cycle signal = simp append-assoc
+
+pub stated-is : (cycle signal letter : ℕ) → decimal cycle ++ ((bytes " " ++ decimal signal) ++ (32 ∷ letter ∷ 10 ∷ [])) ≡ statedLine cycle signal letter
+unfolding bytes statedLine
+stated-is cycle signal letter = simp append-assoc
 
 pub good-is : (file : List ℕ) (s t p c z : ℕ)
     → file ++ ((bytes " OK " ++ decimal s) ++ ((bytes " " ++ decimal t) ++ ((bytes " " ++ decimal p) ++ ((bytes " " ++ decimal c) ++ counted (bytes " ") z)))) ≡ goodLine file s t p c z
@@ -55,6 +63,6 @@ pub fault-is : (what word : List ℕ) → what ++ (bytes ": " ++ (word ++ (10 �
 unfolding bytes faultLine
 fault-is what word = simp append-assoc
 
-pub help-is : bytes "check FILE..\nname FILE signal N\nname FILE table N\nwindow FILE FIRST COUNT [MARK]\nwaveform FILE TABLE SIGNAL CHARACTER\n" ++ bytes "index FILE\nholds FILE INDEXFILE N\ntokens FILE\nintake FILE\nlist FILE\nsave FILE\nfold FILE\nhelp\n" ≡ helpLines
+pub help-is : bytes "check FILE..\nname FILE signal N\nname FILE table N\nwindow FILE FIRST COUNT [MARK]\nwaveform FILE TABLE SIGNAL CHARACTER\n" ++ bytes "index FILE\nholds FILE INDEXFILE N\ntokens FILE\nintake FILE\nlist FILE\nsave FILE\nfold FILE\nreport FILE REPORTFILE\nhelp\n" ≡ helpLines
 unfolding bytes lines helpLines
 help-is = refl

@@ -8,7 +8,7 @@ use Rattle.sections.specs.Listing.{ended, refusal}
 
 -- ---- answers
 
--- VISITS v, EVENTS k, TOKENS k, PATTERN k, SPANS k
+-- VISITS v, EVENTS k, TOKENS k, PATTERN k, SPANS k, FAILS k
 unfoldable pub counted : List ℕ → ℕ → List ℕ
 counted word n = ended (word ++ decimal n)
 
@@ -30,6 +30,14 @@ tokenLine p token = ended (decimal p ++ bytes " " ++ decimal (length token) ++ b
 -- SPAN first behind
 unfoldable pub spanLine : (first behind : ℕ) → List ℕ
 spanLine first behind = ended (bytes "SPAN " ++ decimal first ++ bytes " " ++ decimal behind)
+
+-- cycle signal
+unfoldable pub failLine : (cycle signal : ℕ) → List ℕ
+failLine cycle signal = ended (decimal cycle ++ bytes " " ++ decimal signal)
+
+-- cycle signal letter
+unfoldable pub statedLine : (cycle signal letter : ℕ) → List ℕ
+statedLine cycle signal letter = ended (decimal cycle ++ bytes " " ++ decimal signal ++ 32 ∷ letter ∷ [])
 
 -- ---- check
 
@@ -68,6 +76,7 @@ helpLines = lines (
     ∷ "list FILE"
     ∷ "save FILE"
     ∷ "fold FILE"
+    ∷ "report FILE REPORTFILE"
     ∷ "help"
     ∷ [])
 

@@ -6,7 +6,7 @@ ghost use Prim.Native.Nat.{_+_, _*_, _≤_};
 ghost use lib.Dec.{leb, ltb};
 ghost use lib.ListN.{length};
 ghost use Rattle.tokens.specs.Written.{bytes};
-ghost use Rattle.lines.specs.Lines.{counted as countedOf, noPattern, nameLine, eventLine, tokenLine, spanLine, goodLine, hurtLine, unreadLine, sumLine, progress as progressOf, helpLines, faultLine, countMost, lineMost};
+ghost use Rattle.lines.specs.Lines.{counted as countedOf, noPattern, nameLine, eventLine, tokenLine, spanLine, failLine, statedLine, goodLine, hurtLine, unreadLine, sumLine, progress as progressOf, helpLines, faultLine, countMost, lineMost};
 ghost use Rattle.sections.specs.Listing.{Adds};
 ghost use Rattle.lines.specs.Numbers.{numberMost, numberOf, told};
 use sections::with_number;
@@ -115,6 +115,33 @@ pub fn spans(page: &mut [u8], at: usize, k: usize) -> usize
     counted(page, at, b"SPANS ", k as u64)
 }
 
+// FAILS k
+pub fn fails(page: &mut [u8], at: usize, k: usize) -> usize
+    requires { ⌜ at + lineMost ≤ length (now page) ⌝ }
+    ensures { λ r. ⌜ Adds (now (page .entry)) at (countedOf (bytes "FAILS ") k) lineMost r (now (page .exit)) ⌝ }
+{
+    counted(page, at, b"FAILS ", k as u64)
+}
+
+// cycle signal
+pub fn fail(page: &mut [u8], at: usize, cycle: u64, signal: u64) -> usize
+    requires { ⌜ at + lineMost ≤ length (now page) ⌝ }
+    ensures { λ r. ⌜ Adds (now (page .entry)) at (failLine cycle signal) lineMost r (now (page .exit)) ⌝ }
+{
+    let end = with_number(page, at, b"", cycle);
+    counted(page, end, b" ", signal)
+}
+
+// cycle signal letter
+pub fn stated(page: &mut [u8], at: usize, cycle: u64, signal: u64, letter: u8) -> usize
+    requires { ⌜ at + lineMost ≤ length (now page) ⌝ }
+    ensures { λ r. ⌜ Adds (now (page .entry)) at (statedLine cycle signal letter) lineMost r (now (page .exit)) ⌝ }
+{
+    let mut end = with_number(page, at, b"", cycle);
+    end = with_number(page, end, b" ", signal);
+    pages::put(page, end, &[b' ', letter, b'\n'])
+}
+
 // ---- check
 
 // FILE OK signals tables patterns cycles size
@@ -192,7 +219,7 @@ pub fn help(page: &mut [u8], at: usize) -> usize
     pages::put(
         page,
         end,
-        b"index FILE\nholds FILE INDEXFILE N\ntokens FILE\nintake FILE\nlist FILE\nsave FILE\nfold FILE\nhelp\n",
+        b"index FILE\nholds FILE INDEXFILE N\ntokens FILE\nintake FILE\nlist FILE\nsave FILE\nfold FILE\nreport FILE REPORTFILE\nhelp\n",
     )
 }
 

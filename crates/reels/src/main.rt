@@ -1,4 +1,5 @@
 // Asks files of STIL test patterns: the command lines of docs/COMMANDS.md.
+mod failed;
 mod flattened;
 mod listed;
 mod shown;
@@ -21,7 +22,7 @@ fn help() {
 }
 
 // The commands that ask for tokens, for what is stored of a raw text, for an index or the pattern that holds a cycle, for a listing, for a hurt text's saving,
-// for a text folded flat, or for what the commands are.
+// for a text folded flat, for what a fail report says, or for what the commands are.
 fn other(command: &[u8]) -> bool {
     if words::equal(command, b"tokens") {
         split::tokens();
@@ -49,6 +50,10 @@ fn other(command: &[u8]) -> bool {
     }
     if words::equal(command, b"fold") {
         flattened::fold();
+        return true;
+    }
+    if words::equal(command, b"report") {
+        failed::report();
         return true;
     }
     if words::equal(command, b"help") {

@@ -6,8 +6,10 @@ use Rattle.meaning.specs.Meaning.{Answer, given, refused}
 use Rattle.meaning.specs.Services.{Window, Waveform}
 use Rattle.meaning.specs.Charts.{Chart}
 use Rattle.index.specs.Index.{Rebuilt as Bytes}
+use Rattle.fails.specs.Fails.{Told, Failed}
 use Rattle.folded.specs.Fold.{Folded as FoldedBytes}
 use Rattle.stil.specs.Folds.{Flattens}
+use Rattle.stil.specs.Reports.{Replies}
 use Rattle.saving.specs.Saving.{Restored}
 use Rattle.verdicts.specs.Buffers.{afterwards}
 use Rattle.stil.specs.Interface.{withRoom, packed, Hands, Opens, Draws}
@@ -79,3 +81,10 @@ restores-untouched {a} {text} {t} {spans} {b} {numbers} h z =
 
 pub flattens-untouched : {a : Answer FoldedBytes} {folded x numbers n : List ℕ} {r : ℕ} → Flattens a folded x numbers r n → (r ≡ 0 → ⊥) → (n ≡ numbers) × (x ≡ folded)
 flattens-untouched {a} {folded} {x} {numbers} h z = (hands-untouched (h .counted) z, h .folded-is ∙ not-given (withRoom 1 numbers a) _ folded (λ e. z (h .counted .number ∙ e)))
+
+-- ---- fail reports
+
+pub replies-determined : {a : Told Failed} {c x₁ x₂ s y₁ y₂ l z₁ z₂ numbers n m : List ℕ} {r q : ℕ} → Replies a c x₁ s y₁ l z₁ numbers r n → Replies a c x₂ s y₂ l z₂ numbers q m
+    → (r ≡ q) × (n ≡ m) × (x₁ ≡ x₂) × (y₁ ≡ y₂) × (z₁ ≡ z₂)
+replies-determined h k =
+    (h .number ∙ sym (k .number), h .told ∙ sym (k .told), h .cycles-are ∙ sym (k .cycles-are), h .signals-are ∙ sym (k .signals-are), h .letters-are ∙ sym (k .letters-are))
