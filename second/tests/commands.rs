@@ -38,17 +38,21 @@ fn help_names_the_commands() {
         "name FILE table N",
         "window FILE FIRST COUNT [MARK]",
         "waveform FILE TABLE SIGNAL CHARACTER",
+        "list FILE",
         "index FILE",
         "holds FILE INDEXFILE N",
         "tokens FILE",
         "intake FILE",
-        "list FILE",
         "save FILE",
         "fold FILE",
         "report FILE REPORTFILE",
         "help",
+        "Numbers count from 0. REFUSED n AT p:",
     ];
-    answers(&["help"], &(commands.join("\n") + "\n"));
+    let output = run(&["help"]);
+    let lines = String::from_utf8(output.stdout).expect("plain");
+    assert_eq!(lines.lines().count(), commands.len());
+    lines.lines().zip(commands).for_each(|(line, due)| assert!(line.starts_with(&format!("{due} ")), "{line}"));
 }
 
 #[test]

@@ -63,6 +63,6 @@ pub fault-is : (what word : List ℕ) → what ++ (bytes ": " ++ (word ++ (10 �
 unfolding bytes faultLine
 fault-is what word = simp append-assoc
 
-pub help-is : bytes "check FILE..\nname FILE signal N\nname FILE table N\nwindow FILE FIRST COUNT [MARK]\nwaveform FILE TABLE SIGNAL CHARACTER\n" ++ bytes "index FILE\nholds FILE INDEXFILE N\ntokens FILE\nintake FILE\nlist FILE\nsave FILE\nfold FILE\nreport FILE REPORTFILE\nhelp\n" ≡ helpLines
+pub help-is : bytes "check FILE..                          are these texts sound? a line for each, then how many\nname FILE signal N                    the name of the signal of number N, and where it is declared\nname FILE table N                     the same of a waveform table\nwindow FILE FIRST COUNT [MARK]        the pins in COUNT cycles from cycle FIRST on; MARK, or ?, for no value\nwaveform FILE TABLE SIGNAL CHARACTER  the events of a character: times in ps, and letters\nlist FILE                             all signals, tables and cycles\n" ++ bytes "index FILE                            the listed patterns, each with its first cycle and how many it has\nholds FILE INDEXFILE N                which listed pattern holds cycle N, by an index that was kept\ntokens FILE                           the words of the text, each with its place and length\nintake FILE                           a long raw text without its comments\nsave FILE                             a hurt text with its damaged patterns made blank\nfold FILE                             the text without macros, procedures and groups\nreport FILE REPORTFILE                the run's cycle and the signal of each offset of a fail report\nhelp                                  these lines\nNumbers count from 0. REFUSED n AT p: n says what is wrong, as docs/COMMANDS.md tells, and p is the byte where.\n" ≡ helpLines
 unfolding bytes lines helpLines
 help-is = refl

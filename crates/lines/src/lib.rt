@@ -6,7 +6,7 @@ ghost use Prim.Native.Nat.{_+_, _*_, _≤_};
 ghost use lib.Dec.{leb, ltb};
 ghost use lib.ListN.{length};
 ghost use Rattle.tokens.specs.Written.{bytes};
-ghost use Rattle.lines.specs.Lines.{counted as countedOf, noPattern, nameLine, eventLine, tokenLine, spanLine, failLine, statedLine, goodLine, hurtLine, unreadLine, sumLine, progress as progressOf, helpLines, faultLine, countMost, lineMost};
+ghost use Rattle.lines.specs.Lines.{counted as countedOf, noPattern, nameLine, eventLine, tokenLine, spanLine, failLine, statedLine, goodLine, hurtLine, unreadLine, sumLine, progress as progressOf, helpLines, faultLine, countMost, lineMost, helpMost};
 ghost use Rattle.sections.specs.Listing.{Adds};
 ghost use Rattle.lines.specs.Numbers.{numberMost, numberOf, told};
 use sections::with_number;
@@ -208,18 +208,18 @@ pub fn progress(page: &mut [u8], at: usize, done: usize, all: usize) -> usize
 // ---- help, and a word that is wrong
 
 pub fn help(page: &mut [u8], at: usize) -> usize
-    requires { ⌜ at + (lineMost + lineMost) ≤ length (now page) ⌝ }
-    ensures { λ r. ⌜ Adds (now (page .entry)) at helpLines (lineMost + lineMost) r (now (page .exit)) ⌝ }
+    requires { ⌜ at + helpMost ≤ length (now page) ⌝ }
+    ensures { λ r. ⌜ Adds (now (page .entry)) at helpLines helpMost r (now (page .exit)) ⌝ }
 {
     let end = pages::put(
         page,
         at,
-        b"check FILE..\nname FILE signal N\nname FILE table N\nwindow FILE FIRST COUNT [MARK]\nwaveform FILE TABLE SIGNAL CHARACTER\n",
+        b"check FILE..                          are these texts sound? a line for each, then how many\nname FILE signal N                    the name of the signal of number N, and where it is declared\nname FILE table N                     the same of a waveform table\nwindow FILE FIRST COUNT [MARK]        the pins in COUNT cycles from cycle FIRST on; MARK, or ?, for no value\nwaveform FILE TABLE SIGNAL CHARACTER  the events of a character: times in ps, and letters\nlist FILE                             all signals, tables and cycles\n",
     );
     pages::put(
         page,
         end,
-        b"index FILE\nholds FILE INDEXFILE N\ntokens FILE\nintake FILE\nlist FILE\nsave FILE\nfold FILE\nreport FILE REPORTFILE\nhelp\n",
+        b"index FILE                            the listed patterns, each with its first cycle and how many it has\nholds FILE INDEXFILE N                which listed pattern holds cycle N, by an index that was kept\ntokens FILE                           the words of the text, each with its place and length\nintake FILE                           a long raw text without its comments\nsave FILE                             a hurt text with its damaged patterns made blank\nfold FILE                             the text without macros, procedures and groups\nreport FILE REPORTFILE                the run's cycle and the signal of each offset of a fail report\nhelp                                  these lines\nNumbers count from 0. REFUSED n AT p: n says what is wrong, as docs/COMMANDS.md tells, and p is the byte where.\n",
     )
 }
 
