@@ -18,6 +18,7 @@ use Rattle.folded.specs.Layout.{written}
 use Rattle.folded.specs.Fold.{manyPatterns}
 use Rattle.pens.specs.Pens.{Holds, Writes}
 use Rattle.pens.specs.declared.Pen.{Pen}
+use Rattle.pens.proofs.Laws.{absurd-full}
 use Rattle.flats.specs.Meant.{Meant, signalsIn, tablesIn, Bodied}
 use Rattle.flats.specs.Flattens.{headed, Heads, Fits, Joins, flatIn, Stands, Puts}
 use Rattle.flats.specs.declared.Part.{Part}
@@ -28,15 +29,12 @@ use Rattle.flats.proofs.Whole.{bodyOf, whole-is}
 pub holds-none : (page : List ℕ) → Holds page [] (record { at = 0; full = false }) page
 holds-none page = record { kept = refl; some = λ h. (refl, refl, refl); none = λ h. absurd (omega arith) }
 
-never : {A : Type 0} {b : Bool} → b ≡ true → b ≡ false → A
-never e f = absurd (let z : _≡_ {A = ℕ} 0 1 = cc in omega arith)
-
 -- a pen that is full had no room for all, and one that is not had
 full-long : {before front page : List ℕ} {p : Pen} → Holds before front p page → p .full ≡ true → length before < length front
 full-long {before} {front} h e = by (leb (length front) (length before)) refl
   where
     by : (b : Bool) → leb (length front) (length before) ≡ b → length before < length front
-    by true q = never e (h .some (leb-true (length front) (length before) q) .0)
+    by true q = absurd-full e (h .some (leb-true (length front) (length before) q) .0)
     by false q = leb-false (length front) (length before) q
 
 roomy : {before front page : List ℕ} {p : Pen} → Holds before front p page → p .full ≡ false → length front ≤ length before
@@ -44,7 +42,7 @@ roomy {before} {front} h e = by (leb (length front) (length before)) refl
   where
     by : (b : Bool) → leb (length front) (length before) ≡ b → length front ≤ length before
     by true q = leb-true (length front) (length before) q
-    by false q = never (h .none (leb-false (length front) (length before) q)) e
+    by false q = absurd-full (h .none (leb-false (length front) (length before) q)) e
 
 front-is : {before front page : List ℕ} {p : Pen} → Holds before front p page → p .full ≡ false → take (p .at) page ≡ front
 front-is {before} {front} {page} {p} h e =

@@ -19,6 +19,7 @@ use Rattle.walks.proofs.Seen.{length-seen, seen-more}
 use Rattle.plays.specs.Plays.{Ground}
 use Rattle.windows.specs.Run.{Accepts, Windows}
 use Rattle.folded.specs.Flat.{Row, tableOf, rowOf, rowsOf}
+use Rattle.folded.proofs.Source.{rows-++}
 use Rattle.stretches.specs.Rows.{rowIn, rowsIn}
 use Rattle.stretches.specs.Folding.{Takes}
 use Rattle.stretches.specs.declared.Folding.{Folding}
@@ -107,11 +108,6 @@ pub shows-none : (g : Ground) (list : List ℕ) (listed patterns sized first : �
 unfolding rowsOf
 shows-none g list listed patterns sized first entry f hand =
     record { shown = []; many = refl; takes = takes-none (signalsIn g) (tablesIn g) (g .signals) entry f hand; are = λ m h t. refl }
-
-rows-++ : (cs ds : List Cycle) → rowsOf (cs ++ ds) ≡ rowsOf cs ++ rowsOf ds
-unfolding rowsOf
-rows-++ [] ds = refl
-rows-++ (c ∷ cs) ds = ap (λ (l : List Row). rowOf c ∷ l) (rows-++ cs ds)
 
 module _ {g : Ground} {list : List ℕ} {listed patterns sized first done : ℕ} {entry mid hand hand₁ : List ℕ} {f f₁ : Folding} (s : Shows g list listed patterns sized first done entry f hand mid f₁ hand₁) where
   pub shows-more : {due : ℕ} {exit hand₂ : List ℕ} {r : Folding} → Shows g list listed patterns sized (first + done) due mid f₁ hand₁ exit r hand₂

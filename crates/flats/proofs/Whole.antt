@@ -1,5 +1,5 @@
 -- The whole text from its parts: each part's pieces are its own and then those behind, so that parts that were written one behind the other are the text.
-use Prim.Native.Nat.{ℕ, zero, suc, _+_, _-_, _≤_, _<_}
+use Prim.Native.Nat.{ℕ, zero, _+_, _-_, _≤_, _<_}
 use native.Mathlib.Omega.{arith}
 use mathlib.Core.Path.{_≡_, refl, sym, ap, ap₂, _∙_, subst}
 use mathlib.Core.Bool.{Bool, true, false}
@@ -25,6 +25,8 @@ use Rattle.folded.specs.Layout.{patternName, signalPut, signalsPut, eventPut, e
 use Rattle.folded.specs.Walk.{walkedAll, begunAll}
 use Rattle.folded.specs.Same.{wordsOf}
 use Rattle.folded.proofs.Walk.{walked-all, begun-all}
+use Rattle.folded.proofs.FlatGood.{lines-length}
+use Rattle.folded.proofs.Folding.{names-directed}
 use Rattle.pens.specs.Pens.{Writes}
 use Rattle.pens.specs.declared.Pen.{Pen}
 use Rattle.pens.proofs.Laws.{writes-both, writes-same}
@@ -92,11 +94,6 @@ prefix-exec = prefix-word _ _ _ (prefix-word _ _ _ (prefix-word _ _ _ (prefix-on
 
 -- ---- the whole text
 
-lines-many : (ps : List (List Row)) → length (linesOf ps) ≡ length ps
-unfolding linesOf
-lines-many [] = refl
-lines-many (p ∷ ps) = ap suc (lines-many ps)
-
 regroup : (a b c d e f : List ℕ) → a ++ (b ++ (c ++ (d ++ (e ++ f)))) ≡ ((((a ++ b) ++ c) ++ d) ++ e) ++ f
 regroup a b c d e f = simp append-assoc
 
@@ -117,7 +114,7 @@ whole text m =
     (prefix-signals sigs (timingPut tabs (burst (execPut body)))
     ∙ ap (λ (l : List ℕ). laid (signalsPut sigs []) ++ l) (prefix-timing tabs (burst (execPut body))
     ∙ ap (λ (l : List ℕ). laid (timingPut tabs []) ++ l) (prefix-burst (namesFrom 0 (length (linesOf (patternsOf m)))) (execPut body)
-    ∙ ap₂ (λ (n : ℕ) (l : List ℕ). laid (burstPut (namesFrom 0 n) []) ++ l) (lines-many (patternsOf m)) (prefix-exec body))))
+    ∙ ap₂ (λ (n : ℕ) (l : List ℕ). laid (burstPut (namesFrom 0 n) []) ++ l) (lines-length (patternsOf m)) (prefix-exec body))))
     ∙ regroup (bytes "STIL 1.0;\n") (laid (signalsPut sigs [])) (laid (timingPut tabs [])) (laid (burstPut (namesFrom 0 (length (patternsOf m))) [])) (laid (execPut [])) (laid body)
 
 -- a listed pattern has a Pattern at least
@@ -130,11 +127,6 @@ begun-inner n w b r = by (rowsOf (cyclesOf n (alone b)))
     by (x ∷ xs) = omega arith
 
 -- ---- over the names that the code has
-
-directed-names : (text : List ℕ) (ts : List Tok) → namesOf (directed text ts) ≡ wordsOf ts
-unfolding namesOf directed wordsOf
-directed-names text [] = refl
-directed-names text (t ∷ ts) = ap (λ (l : List (List ℕ)). t .word ∷ l) (directed-names text ts)
 
 sheet-names : (ts : List Tok) (tabs : Tables) → sheetNames (sheets ts tabs) ≡ wordsOf (firsts tabs)
 unfolding sheetNames sheets wordsOf firsts
@@ -152,7 +144,7 @@ module _ {g : Ground} {list : List ℕ} {listed patterns sized : ℕ} {m : Meani
   whole-is =
       whole (g .text) m
       ∙ ap₂ (λ (S T : List (List ℕ)). headed (g .text) m (length (patternsOf m)) ++ bodyOf S T m)
-      (directed-names (g .text) (m .signals) ∙ ap wordsOf (h .signals-are)) (sheet-names (m .signals) (m .tables) ∙ ap wordsOf (h .tables-are))
+      (names-directed (g .text) (m .signals) ∙ ap wordsOf (h .signals-are)) (sheet-names (m .signals) (m .tables) ∙ ap wordsOf (h .tables-are))
 
   patterns-are : patternsOf m ≡ partedAll (listedRows (g .signals) (m .run))
   unfolding patternsOf

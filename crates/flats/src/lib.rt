@@ -17,9 +17,12 @@ ghost use Rattle.flats.specs.Flattens.{rowMost, SomeHead, Heads, Joins, 
 use heads::Known;
 use pens::Pen;
 use stretches::Folding;
+use stretches::TAIL;
+use texts::PATTERNS;
+use texts::TEXT_MOST;
 use texts::Verdict;
-
-const TEXT_MOST: usize = 65_536;
+use verdicts::NO_ROOM;
+use verdicts::NOT_PLAYABLE;
 
 // Bytes of a window: many rows, since each window reads the text anew.
 const WINDOW: usize = 262_144;
@@ -29,19 +32,10 @@ const ROW: usize = 258;
 
 const CYCLES: usize = 1_000_000;
 
-const PATTERNS: usize = 16;
-
 // Refusals.
-const NOT_PLAYABLE: u8 = 17;
-
-const NO_ROOM: u8 = 19;
-
 const MANY_PATTERNS: u8 = 22;
 
 const MANY_CYCLES: u8 = 23;
-
-// Bytes of a row behind its pins: the table's digit, and LF.
-const TAIL: usize = 2;
 
 // What an unassigned pin is shown as: no character is 0.
 const MARK: u8 = 0;

@@ -1,6 +1,5 @@
 -- Timing of an accepted text: what stands before it is read as it was, so that its tables are read again and are the text's.
-use Prim.Native.Nat.{ℕ, zero, suc, _≤_}
-use native.Mathlib.Omega.{arith}
+use Prim.Native.Nat.{ℕ, _≤_}
 use mathlib.Core.Path.{_≡_, refl, sym, ap, ap₂, _∙_}
 use mathlib.Core.List.{List, [], _∷_}
 use Rattle.tokens.specs.Tokens.{Tok, Toks, toks}
@@ -18,24 +17,19 @@ use Rattle.held.proofs.Places.{rest-stream}
 use Rattle.held.proofs.Parts.{parts}
 use Rattle.words.specs.declared.Cursor.{Cursor}
 use Rattle.words.specs.Table.{named, names}
-use Rattle.sets.proofs.Tidy.{TidyBelow, bare, next}
 use Rattle.signals.specs.Names.{listAt, namesOf, front, Fronted}
 use Rattle.signals.proofs.Tables.{known}
 use Rattle.waves.proofs.Lines.{went}
 use Rattle.folded.specs.Pieces.{laid}
 use Rattle.folded.specs.Flat.{sheets, flat}
 use Rattle.folded.specs.Layout.{timingPut}
+use Rattle.declared.proofs.Below.{tidy-below}
 use Rattle.pens.specs.Pens.{Writes}
 use Rattle.pens.specs.declared.Pen.{Pen}
 use Rattle.pens.proofs.Laws.{writes-same}
 use Rattle.timings.specs.Answers.{Answers, Behind}
-use Rattle.timings.specs.Spots.{Below, Listed}
+use Rattle.timings.specs.Spots.{Listed}
 use Rattle.timings.specs.Lines.{signalsIn, Opens}
-
-tidy-below : {most : ℕ} → most ≤ signalsMost → {l : List ℕ} → TidyBelow most l → Below l
-tidy-below h bare i k = absurd (omega arith)
-tidy-below h (next b u t) zero k = omega arith
-tidy-below h (next b u t) (suc i) k = tidy-below h t i (omega arith)
 
 firsts-named : {A B : Type 0} (f : A → B) (xs : List (Tok × A)) → firsts (named f xs) ≡ firsts xs
 unfolding firsts named
@@ -75,7 +69,7 @@ timing-at {text} {c} {r} {places} {lists} {count} {total} m e o f =
             ap₂ (λ (ns : Names) (ts : Toks). timing ns ts) (ap (λ (q : Names × Names). q .1) (w .is)) (w .behind) ∙ p .timing-read
             ∙ ap (λ (t : Tables). ok t (p .bodies-at)) (a .tables);
       };
-      listed = record { sized = f .sized .rows; below = λ i h. tidy-below (k .few) (k .tidy i h) };
+      listed = record { sized = f .sized .rows; below = λ i h. tidy-below _ (k .few) (k .tidy i h) };
       few = k .few;
       signals-are = sym (firsts-named (listAt lists) (names text places count)) ∙ ap (λ (q : Names × Names). firsts (q .0)) (w .is) ∙ a .signals;
     }

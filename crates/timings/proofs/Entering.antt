@@ -26,12 +26,13 @@ use Rattle.signals.proofs.Tables.{old-below}
 use Rattle.words.proofs.Flow.{read, stream-on, stream-stop}
 use Rattle.timing.specs.Events.{events}
 use Rattle.timing.specs.Watch.{charsEvents}
+use Rattle.timing.specs.Marks.{Below}
 use Rattle.timing.proofs.EventTimes.{as-many}
 use Rattle.waves.specs.Waves.{OneEvent}
 use Rattle.waves.specs.declared.EventRead.{EventRead}
 use Rattle.waves.proofs.Lines.{line, added-length, went}
 use Rattle.timings.specs.Answers.{Answers, Behind}
-use Rattle.timings.specs.Spots.{Spots, Stored, Below, Listed}
+use Rattle.timings.specs.Spots.{Spots, Stored, Listed}
 use Rattle.timings.proofs.Following.{parts, behind, next, tested}
 use Rattle.timings.proofs.Spotting.{spots-more}
 

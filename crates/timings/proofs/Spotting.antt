@@ -1,14 +1,13 @@
 -- Spots: stored one by one, those of an entry more, and what a spot tells of its signal and character.
 use Prim.Native.Nat.{ℕ, _+_, _-_, _*_, _≤_, _<_, min}
 use native.Mathlib.Omega.{arith}
-use native.Mathlib.Numerals.{add-one}
 use mathlib.Core.Path.{_≡_, refl, sym, ap, _∙_}
 use mathlib.Core.Bool.{Bool, true, false, cond, not, _&&_, _||_}
 use mathlib.Core.Option.{Option, none, some}
 use mathlib.Core.List.{List, [], _∷_, _++_}
 use lib.Dec.{eqb, leb}
 use lib.ListN.{length, getD, replicate, take, drop, set, length-take}
-use lib.Seq.{getD-set-same, getD-set-other, getD-take, take-suc, take-all}
+use lib.Seq.{getD-set-same, getD-set-other, getD-take, take-all}
 use borrow.Author.Tests.{eqb-true, eqb-false, eq-eqb, ne-eqb, leb-true, leb-false}
 use Rattle.tokens.specs.Tokens.{Toks, toks}
 use Rattle.meaning.specs.Bounds.{entryMost, signalsMost}
@@ -18,12 +17,14 @@ use Rattle.meaning.specs.Timing.{Event, Wave, Events, taken, wavesFor}
 use Rattle.meaning.specs.Services.{waveOf}
 use Rattle.words.proofs.Words.{cut}
 use Rattle.timing.specs.Watch.{charsEvents, Watched}
+use Rattle.timing.specs.Marks.{Below}
 use Rattle.timing.proofs.Watching.{watched-more}
-use Rattle.declared.proofs.Numbers.{zeros}
+use Rattle.timing.proofs.Marking.{has-taken}
 use Rattle.waves.specs.Waves.{EntryAt}
 use Rattle.waves.proofs.Entries.{entry-found}
 use Rattle.folded.specs.Flat.{entriesOf}
-use Rattle.timings.specs.Spots.{bytesMost, spotsMost, spotAt, watchOf, Spots, Stored, Below}
+use Rattle.declared.proofs.Numbers.{zeros}
+use Rattle.timings.specs.Spots.{bytesMost, spotsMost, spotAt, watchOf, Spots, Stored}
 
 -- ---- one spot more
 
@@ -40,22 +41,6 @@ spot-set t s b v s′ b′ l h k g = by (eqb s s′) refl (eqb b b′) refl
         ap (λ (x : ℕ). getD (set t at v) x 0) p ∙ getD-set-same t at v 0 (omega arith)
     by true e false f = getD-set-other t at (s′ * bytesMost + b′) v 0 (λ p. eqb-false b b′ f (omega (arith, eqb-true s s′ e)))
     by false e y f = getD-set-other t at (s′ * bytesMost + b′) v 0 (λ p. eqb-false s s′ e (omega arith))
-
-has-more : (x : ℕ) (xs : List ℕ) (y : ℕ) → has x (xs ++ y ∷ []) ≡ (has x xs || eqb y x)
-unfolding has
-has-more x [] y = by (eqb y x)
-  where
-    by : (b : Bool) → (b || false) ≡ b
-    by true = refl
-    by false = refl
-has-more x (z ∷ xs) y = ap (λ (b : Bool). eqb z x || b) (has-more x xs y) ∙ by (eqb z x)
-  where
-    by : (b : Bool) → (b || (has x xs || eqb y x)) ≡ ((b || has x xs) || eqb y x)
-    by true = refl
-    by false = refl
-
-has-taken : (x : ℕ) (xs : List ℕ) (i : ℕ) → i < length xs → has x (take (i + 1) xs) ≡ (has x (take i xs) || eqb (getD xs i 0) x)
-has-taken x xs i h = rw (add-one, take-suc xs i 0 h) (has-more x (take i xs) (getD xs i 0))
 
 pub stored-no-chars : (t sigs : List ℕ) (v : ℕ) → Stored t sigs [] v t
 unfolding has

@@ -8,7 +8,7 @@ use Rattle.tokens.specs.Tokens.{Tok, Toks}
 use Rattle.meaning.specs.Reader.{Reader, ok, _>>=_, give, due, until}
 use Rattle.meaning.specs.Names.{name, newName}
 use Rattle.meaning.specs.Signals.{Names}
-use Rattle.meaning.specs.Timing.{Wave, Table, Tables, quoted, waveforms, table, timing}
+use Rattle.meaning.specs.Timing.{Wave, Tables, quoted, waveforms, table, timing}
 use Rattle.held.proofs.Rest.{moves-leaves, moves-due, moves-name, moves-new, moves-until}
 use Rattle.held.proofs.Grammar.{moves-quoted, moves-waveforms}
 use Rattle.words.specs.Cursor.{Stands, Goes, ahead as aheadTok}
@@ -18,6 +18,7 @@ use Rattle.waves.proofs.Lines.{went}
 use Rattle.folded.specs.Pieces.{Piece, only, laid, each, lf, closing}
 use Rattle.folded.specs.Flat.{Chart, Sheet, sheets}
 use Rattle.folded.specs.Layout.{timed, chartPut, sheetPut, timingPut}
+use Rattle.folded.proofs.Sheets.{sheets-more as sheets-append}
 use Rattle.pens.specs.Pens.{Writes}
 use Rattle.pens.specs.declared.Pen.{Pen}
 use Rattle.pens.proofs.Laws.{writes-both, writes-same}
@@ -103,11 +104,6 @@ own-sheet x k =
     ∙ simp append-assoc
 
 -- ---- one more, and some
-
-sheets-append : (signals : List Tok) (tabs : Tables) (x : Tok × Table) → sheets signals (tabs ++ x ∷ []) ≡ sheets signals tabs ++ sheetOf signals x ∷ []
-unfolding sheets
-sheets-append signals [] x = refl
-sheets-append signals (y ∷ tabs) x = ap (λ (l : List Sheet). sheetOf signals y ∷ l) (sheets-append signals tabs x)
 
 pub no-sheets : (page : List ℕ) (pen : Pen) (signals : List Tok) (tabs : Tables) → MoreSheets page pen signals tabs tabs page pen
 unfolding laid each sheets

@@ -11,6 +11,7 @@ use Rattle.meaning.specs.Timing.{Wave}
 use Rattle.signals.specs.Names.{namesMost, rowLength, listAt}
 use Rattle.timing.specs.Watch.{Watched}
 use Rattle.timing.specs.declared.Watch.{Watch}
+use Rattle.timing.specs.Marks.{Below}
 use Rattle.folded.specs.Flat.{entriesOf}
 
 -- bytes that a character can be
@@ -34,10 +35,6 @@ pub record Spots (text spots : List ℕ) (ws : List Wave) : Type 0 where
 -- v for each of these signals and characters, and nothing else changed
 pub record Stored (before sigs w : List ℕ) (v : ℕ) (after : List ℕ) : Type 0 where
   pub each : (s b : ℕ) → b < bytesMost → spotAt after s b ≡ cond (has s sigs && has b w) v (spotAt before s b)
-
--- signals that have spots
-abbrev pub Below : List ℕ → Type 0
-Below sigs = (i : ℕ) → i < length sigs → getD sigs i 0 < signalsMost
 
 -- rows of signals, of which each of the first names has its own
 pub record Listed (lists : List ℕ) (names : ℕ) : Type 0 where

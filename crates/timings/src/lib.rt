@@ -10,6 +10,7 @@ ghost use Rattle.meaning.specs.Timing.{Event, Events, Wave, Tables, event as ev
 ghost use Rattle.meaning.specs.Meaning.{given, Meaning, meaning};
 ghost use Rattle.sets.specs.Sets.{listOf};
 ghost use Rattle.signals.specs.Names.{namesOf};
+ghost use Rattle.timing.specs.Marks.{Below};
 ghost use Rattle.timing.specs.Parts.{headThen};
 ghost use Rattle.waves.specs.Waves.{EntryAt};
 ghost use Rattle.folded.specs.Pieces.{laid, each};
@@ -18,7 +19,7 @@ ghost use Rattle.folded.specs.Layout.{eventPut, entryPut, chartPut, timingPut};
 ghost use Rattle.pens.specs.Pens.{Writes};
 ghost use Rattle.timings.specs.Answers.{Answers, Behind};
 ghost use Rattle.timings.specs.Lines.{signalsIn, titled, charted, OneSheet, MoreSheets, Opens};
-ghost use Rattle.timings.specs.Spots.{bytesMost, spotsMost, Spots, Stored, Below, Listed, Next};
+ghost use Rattle.timings.specs.Spots.{bytesMost, spotsMost, Spots, Stored, Listed, Next};
 use pens::Pen;
 use sets::Set;
 use words::Cursor;
