@@ -22,28 +22,25 @@ ghost use Rattle.services.specs.Waveforms.{Outlines, Shapes};
 ghost use Rattle.services.specs.Charts.{Plots};
 ghost use Rattle.services.specs.Indexes.{Rebuilds, belongingOf, holdingOf, Indexes};
 ghost use Rattle.services.specs.Saves.{SomeCopy, Saves};
+use bodies::TOO_MANY;
+use charts::NO_SUCH;
 use index::Held;
 use saving::Hurt;
 use saving::Mended;
 use saving::Turn;
+use texts::TOO_LONG;
 use texts::Verdict;
 use timing::Watch;
 use verdicts::NO_ROOM;
 use verdicts::NOT_PLAYABLE;
 use verdicts::Wanted;
 
-pub const TEXT_MOST: usize = 65_536;
+pub const TEXT_MOST: usize = texts::TEXT_MOST;
 
 // The numbers of 64 spans: more are rare.
 const LOG: usize = 128;
 
-// Refusals.
-const TOO_LONG: u8 = 1;
-
-const TOO_MANY: u8 = 8;
-
-const NO_SUCH: u8 = 18;
-
+// Refusal: an index that is not the text's.
 const NOT_THE_INDEX: u8 = 21;
 
 // The refusal's number, 0 for none, and its place; or else how many events there are.
