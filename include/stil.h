@@ -29,12 +29,11 @@
  *            the address of anything instead.
  * Threads    The library has no state: no variable outlives a call, nothing is allocated, no file is touched. Any
  *            number of threads may call it at once, also with one text, each with buffers of its own.
- * Stack      A call keeps its tables on the stack, 1,230,000 bytes and more. The deepest text that was measured (8 bodies in
- *            each other) took 1,530,000, its caller with it. That is a measurement and no bound: have 2 MiB.
- *            lutemeteor_save keeps a copy of the text besides, 65,536 bytes; lutemeteor_fold two pages of as many, a window of
- *            262,144 bytes and the places of a table's waveforms, 524,288: have 3 MiB for it. lutemeteor_report keeps tables of
- *            labels besides, 466,944 bytes: have 3 MiB for it too.
- *            lutemeteor_token and lutemeteor_line take less than 1,000 bytes.
+ * Stack      A call keeps its tables on the stack. With texts that have bodies 8 deep, the widest and the longest ones
+ *            among them, these were measured, the caller's own with them: 1,470,000 bytes, and 1,540,000 for lutemeteor_save;
+ *            1,940,000 for lutemeteor_waveforms and lutemeteor_report, and 2,070,000 for lutemeteor_fold. That is a
+ *            measurement and no bound: have 2 MiB, and 3 MiB for those three. lutemeteor_token, lutemeteor_line and
+ *            the intake take less than 4,000 bytes.
  */
 #ifndef LUTEMETEOR_STIL_H
 #define LUTEMETEOR_STIL_H
