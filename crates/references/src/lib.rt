@@ -38,7 +38,7 @@ pub fn past(
     table: &[usize],
 ) -> Before
     requires { ⌜ Held (now text) (now labels) (now chains) (now nexts) count × (count ≤ length (now table)) ⌝ }
-    ensures { λ r. ⌜ pastOf r ≡ pastBy (now (name .entry)) (noted (now (text .entry)) (now (labels .entry)) count (now (table .entry))) (now (w .entry)) ⌝ }
+    ensures { λ r. ⌜ (pastOf r ≡ pastBy (now (name .entry)) (noted (now (text .entry)) (now (labels .entry)) count (now (table .entry))) (now (w .entry))) × (r .known ≡ false → r .cycles ≡ 0) ⌝ }
 {
     if words::equal(name, w) {
         return Before {

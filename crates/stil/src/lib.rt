@@ -1,5 +1,5 @@
 // The services, folding (`flats`), fail reports (`fails`), the next token, the line of a place and the intake for callers in C or Rust: the answer is 0, with what it holds at the front of buffers,
-// or a refusal, and all buffers are as they were.
+// or a refusal, and all buffers are as they were; but a list of waveforms leaves those that were served before it, and the intake its state.
 ghost use mathlib.Core.Path.{_≡_};
 ghost use mathlib.Core.List.{_∷_, []};
 ghost use mathlib.Core.Bool.{not};

@@ -36,7 +36,7 @@ count-offsets-requires c κs = search needs
 
 -- src/lib.rt:167:9
 returns : tie.Need-returns
-returns c = judges-out _ _ _ _ (c .before .before .before .before .before .before .before .before .before .head .ensures) (c .before .before .before .before .count-offsets .ensures) (at-word (pastBy (c .before .before .before .before .before .before .before .before .before .before .before .before .before .before .before .before .before .before .args .name .now) (noted (c .before .before .before .before .before .before .before .before .before .before .before .before .before .before .before .before .before .before .args .text .now) (c .before .before .before .before .before .before .before .before .before .before .before .before .before .before .before .before .before .before .args .labels .now) (c .before .before .before .before .before .before .before .before .before .before .before .before .before .before .before .before .before .before .args .count) (c .before .before .before .before .before .before .before .before .before .before .before .before .before .before .before .before .before .before .args .table .now))) (c .before .before .before .before .before .before .before .past .ensures) (c .before .before .before .before .before .before .before .before .bytes-of .ensures)) (c .before .before .before .before .before .before .left-behind .ensures) (c .if1 .taken)
+returns c = judges-out _ _ _ _ (c .before .before .before .before .before .before .before .before .before .head .ensures) (c .before .before .before .before .count-offsets .ensures) (at-word (pastBy (c .before .before .before .before .before .before .before .before .before .before .before .before .before .before .before .before .before .before .args .name .now) (noted (c .before .before .before .before .before .before .before .before .before .before .before .before .before .before .before .before .before .before .args .text .now) (c .before .before .before .before .before .before .before .before .before .before .before .before .before .before .before .before .before .before .args .labels .now) (c .before .before .before .before .before .before .before .before .before .before .before .before .before .before .before .before .before .before .args .count) (c .before .before .before .before .before .before .before .before .before .before .before .before .before .before .before .before .before .before .args .table .now))) (c .before .before .before .before .before .before .before .past .ensures .0) (c .before .before .before .before .before .before .before .before .bytes-of .ensures)) (c .before .before .before .before .before .before .left-behind .ensures) (c .if1 .taken)
 
 -- src/lib.rt:178:16
 or-one-requires : tie.Need-or-one-requires
@@ -44,7 +44,7 @@ or-one-requires c κs = search needs
 
 -- src/lib.rt:133:1
 returns-2 : tie.Need-returns-2
-returns-2 c = judges-in _ _ _ _ (c .before .before .before .before .before .before .before .before .before .before .head .ensures) (c .before .before .before .before .before .count-offsets .ensures) (at-word (pastBy (c .before .before .before .before .before .before .before .before .before .before .before .before .before .before .before .before .before .before .before .args .name .now) (noted (c .before .before .before .before .before .before .before .before .before .before .before .before .before .before .before .before .before .before .before .args .text .now) (c .before .before .before .before .before .before .before .before .before .before .before .before .before .before .before .before .before .before .before .args .labels .now) (c .before .before .before .before .before .before .before .before .before .before .before .before .before .before .before .before .before .before .before .args .count) (c .before .before .before .before .before .before .before .before .before .before .before .before .before .before .before .before .before .before .before .args .table .now))) (c .before .before .before .before .before .before .before .before .past .ensures) (c .before .before .before .before .before .before .before .before .before .bytes-of .ensures)) (c .before .before .before .before .before .before .before .left-behind .ensures) (c .before .if1 .left) (c .or-one .ensures)
+returns-2 c = judges-in _ _ _ _ (c .before .before .before .before .before .before .before .before .before .before .head .ensures) (c .before .before .before .before .before .count-offsets .ensures) (at-word (pastBy (c .before .before .before .before .before .before .before .before .before .before .before .before .before .before .before .before .before .before .before .args .name .now) (noted (c .before .before .before .before .before .before .before .before .before .before .before .before .before .before .before .before .before .before .before .args .text .now) (c .before .before .before .before .before .before .before .before .before .before .before .before .before .before .before .before .before .before .before .args .labels .now) (c .before .before .before .before .before .before .before .before .before .before .before .before .before .before .before .before .before .before .before .args .count) (c .before .before .before .before .before .before .before .before .before .before .before .before .before .before .before .before .before .before .before .args .table .now))) (c .before .before .before .before .before .before .before .before .past .ensures .0) (c .before .before .before .before .before .before .before .before .before .bytes-of .ensures)) (c .before .before .before .before .before .before .before .left-behind .ensures) (c .before .if1 .left) (c .or-one .ensures)
 
 pub judge-record-spec : {M : Type 1} → statement M
 judge-record-spec =
