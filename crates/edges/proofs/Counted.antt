@@ -13,7 +13,7 @@ use Rattle.meaning.specs.Body.{Body}
 use Rattle.meaning.specs.Run.{unassigned, Cycle}
 use Rattle.meaning.specs.Meaning.{tableAt}
 use Rattle.meaning.specs.Services.{waveOf}
-use Rattle.edges.specs.Edges.{Category, drive, compare, belongs, timesIn, firstOf, lastBehind, firstTime, lastTime, before, apart, follows, eventsOf, allFollow, periodAt, inOrder, fineBehind, failingBehind, firstFailingPair, listedCycles, firstAmong, firstInRun}
+use Rattle.meaning.specs.Edges.{Category, drive, compare, belongs, timesIn, firstOf, lastBehind, firstTime, lastTime, before, apart, follows, eventsOf, allFollow, periodAt, inOrder, fineBehind, failingBehind, firstFailingPair, listedCycles, firstAmong, firstInRun}
 use Rattle.edges.specs.Signed.{Signed, plus, minus, counted, uncounted, signedBefore, eventsFrom, wavesFrom, tablesFrom}
 
 -- two tests that hold together

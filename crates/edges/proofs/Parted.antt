@@ -11,7 +11,7 @@ use Rattle.meaning.specs.Run.{unassigned, Cycle}
 use Rattle.meaning.specs.Meaning.{tableAt}
 use Rattle.meaning.specs.Services.{waveOf}
 use Rattle.meaning.proofs.Turns.{orElse}
-use Rattle.edges.specs.Edges.{follows, eventsOf, allFollow, periodAt, inOrder, lastBehind, fineBehind, failingBehind, firstFailingPair}
+use Rattle.meaning.specs.Edges.{follows, eventsOf, allFollow, periodAt, inOrder, lastBehind, fineBehind, failingBehind, firstFailingPair}
 use Rattle.edges.proofs.Behind.{failing-++}
 
 -- ---- parts of a row

@@ -10,14 +10,13 @@ use Rattle.tokens.specs.Tokens.{toks}
 use Rattle.meaning.specs.Reader.{Res, ok, refuse}
 use Rattle.meaning.specs.Timing.{Wave, Tables}
 use Rattle.meaning.specs.Body.{Body}
-use Rattle.meaning.specs.Run.{Cycle}
-use Rattle.meaning.specs.Meaning.{Answer, given, refused, Meaning, meaning}
+use Rattle.meaning.specs.Run.{Cycle, alone}
+use Rattle.meaning.specs.Document.{Read, document}
+use Rattle.meaning.specs.Meaning.{Answer, given, refused, Meaning, runOf, meaning}
 use Rattle.meaning.specs.Open.{everything}
-use Rattle.meaning.specs.Edited.{alone}
 use Rattle.meaning.specs.Samples.{whole, oneListed}
 use Rattle.meaning.proofs.Turns.{shortened, fewer, twice}
-use Rattle.edges.specs.Edges
-use Rattle.edges.specs.Edges.{firstFailingPair, firstInRun, orderedMeaning}
+use Rattle.meaning.specs.Edges.{firstFailingPair, firstInRun}
 use Rattle.edges.specs.Signed as Signs
 use Rattle.edges.specs.Signed.{Signed, plus, minus, counted, signedQuoted}
 use Rattle.edges.specs.Three.{fewTurns, inThree}
@@ -25,7 +24,7 @@ use Rattle.edges.specs.Turned
 use Rattle.edges.specs.Turned.{turnsInRun}
 
 unfoldable opened : Unit {0}
-unfolding everything whole oneListed alone Edges.belongs Edges.timesIn Edges.firstOf Edges.lastBehind Edges.firstTime Edges.lastTime Edges.before Edges.apart Edges.follows Edges.eventsOf Edges.allFollow Edges.periodAt Edges.inOrder Edges.fineBehind Edges.failingBehind Edges.firstFailingPair Edges.listedCycles Edges.firstAmong Edges.firstInRun Edges.ordered Edges.orderedMeaning
+unfolding everything whole oneListed
 opened = tt
 
 -- ---- whole texts
@@ -88,7 +87,7 @@ told (refused n p) = some (n, p)
 
 unfoldable pub asked : List Sample → List (Option (ℕ × ℕ))
 asked [] = []
-asked (x ∷ xs) = told (orderedMeaning (x .0)) ∷ asked xs
+asked (x ∷ xs) = told (meaning (x .0)) ∷ asked xs
 
 unfoldable pub answered : List Sample → List (Option (ℕ × ℕ))
 answered [] = []
@@ -100,14 +99,14 @@ all-told = refl
 
 -- ---- the third turn
 
--- what f makes of the tables and the run of an accepted text
-unfoldable pub meant : {A : Type 0} → (Tables → Body → Option A) → Answer Meaning → Option A
-meant f (given m) = f (m .tables) (m .run)
-meant f (refused n p) = none
+-- what f makes of the tables and the run of a text that is read
+unfoldable pub meant : {A : Type 0} → (Tables → Body → Option A) → Res Read → Option A
+meant f (ok d ts) = elim (runOf (d .patterns) (d .listed)) [ given r ↦ f (d .tables) r | refused n p ↦ none ]
+meant f (refuse n p) = none
 
-unfoldable pub third : Answer Meaning
+unfoldable pub third : Res Read
 unfolding playing listing
-third = meaning (playing "Pattern p { W t0; C { A = 0; } Loop 4 { V { } C { A = 1; } } }")
+third = document (toks (playing "Pattern p { W t0; C { A = 0; } Loop 4 { V { } C { A = 1; } } }") 0)
 
 -- two turns of each Loop find no pair that fails, and three find the one into the third turn
 pub two-miss : (meant (λ tabs r. firstInRun tabs 2 (shortened r)) third ≡ none)
@@ -117,9 +116,9 @@ unfolding opened meant third playing listing shortened fewer twice fewTurns inTh
 two-miss = (refl, refl, refl)
 
 -- a Shift plays all of its turns: here the fifth fails first, and lies in no Loop
-unfoldable pub shifting : Answer Meaning
+unfoldable pub shifting : Res Read
 unfolding playing listing
-shifting = meaning (playing "Pattern p { W t0; Macro s { A = 00010; } }")
+shifting = document (toks (playing "Pattern p { W t0; Macro s { A = 00010; } }") 0)
 
 pub in-shift : (meant (λ tabs r. firstInRun tabs 2 r) shifting ≡ some 386) × (meant (λ tabs r. turnsInRun tabs 2 r) shifting ≡ some [])
 unfolding opened meant shifting playing listing Turned.shiftTurns Turned.around Turned.turnsIn Turned.turnsOfFailing Turned.turnsInRun

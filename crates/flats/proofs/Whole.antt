@@ -10,8 +10,7 @@ use Rattle.tokens.specs.Tokens.{Tok}
 use Rattle.meaning.specs.Bounds.{signalsMost}
 use Rattle.meaning.specs.Timing.{Event, Tables}
 use Rattle.meaning.specs.Body.{listed as byList, Way, entered, Body, done, inner}
-use Rattle.meaning.specs.Edited.{alone}
-use Rattle.meaning.specs.Run.{cyclesOf}
+use Rattle.meaning.specs.Run.{cyclesOf, alone}
 use Rattle.meaning.specs.Meaning.{Answer, given, runOf, firsts, Meaning, meaning}
 use Rattle.words.specs.Table.{names}
 use Rattle.bursts.proofs.Entries.{listed-length}

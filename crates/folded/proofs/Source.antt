@@ -11,9 +11,8 @@ use Rattle.meaning.specs.Groups.{groups}
 use Rattle.meaning.specs.Body.{listed, entered, Body, inner}
 use Rattle.meaning.specs.Statements.{Env}
 use Rattle.meaning.specs.Document.{Read}
-use Rattle.meaning.specs.Run.{Cycle, entering, follow, playing, play, shiftOf, start, cyclesOf}
+use Rattle.meaning.specs.Run.{Cycle, entering, follow, playing, play, shiftOf, start, cyclesOf, alone}
 use Rattle.meaning.specs.Meaning.{given, firstFailing, firsts, Meaning, meaning}
-use Rattle.meaning.specs.Edited.{alone}
 use Rattle.meaning.proofs.Gives.{bind-go}
 use Rattle.meaning.proofs.Rows.{every-cycle-wide}
 use Rattle.meaning.proofs.Accepted.{accepted}

@@ -15,10 +15,9 @@ use Rattle.meaning.specs.Bounds.{cyclesMost}
 use Rattle.meaning.specs.Refusals.{notDefined}
 use Rattle.meaning.specs.Names.{find}
 use Rattle.meaning.specs.Body.{listed, entered, Body, done, inner}
-use Rattle.meaning.specs.Run.{turnsOf, shiftOf, cycles}
+use Rattle.meaning.specs.Run.{turnsOf, shiftOf, cycles, alone}
 use Rattle.meaning.specs.Meaning.{Answer, given, refused, answering, runOf, firsts}
 use Rattle.meaning.specs.Statements.{Decl, Decls}
-use Rattle.meaning.specs.Edited.{alone}
 use Rattle.words.specs.Table.{nameOf, names, seconds}
 use Rattle.words.specs.Values.{told}
 use Rattle.words.proofs.Names.{found-by-number}

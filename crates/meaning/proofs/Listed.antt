@@ -11,10 +11,10 @@ use Rattle.meaning.specs.Refusals.{notDefined}
 use Rattle.meaning.specs.Names.{find}
 use Rattle.meaning.specs.Body.{listed, entered, Body, done, inner}
 use Rattle.meaning.specs.Statements.{Decl, Decls}
-use Rattle.meaning.specs.Run.{Cycle, cycles, follow, entering, playing, play, shiftOf, start, cyclesOf}
+use Rattle.meaning.specs.Run.{Cycle, cycles, follow, entering, playing, play, shiftOf, start, cyclesOf, alone}
 use Rattle.meaning.specs.Meaning.{Answer, given, refused, answering, runOf, Meaning, meaning, firsts}
 use Rattle.meaning.specs.Services.{rows, windowRows}
-use Rattle.meaning.specs.Edited.{ListedRows, alone, rowsOf, listedIn, listedOf, listedPatterns, joinedRows, joinedCycles}
+use Rattle.meaning.specs.Edited.{ListedRows, rowsOf, listedIn, listedOf, listedPatterns, joinedRows, joinedCycles}
 use Rattle.meaning.proofs.Rows.{rows-are-cycles}
 use Rattle.meaning.proofs.Windows.{rows-++, window-rows}
 use Rattle.meaning.proofs.Accepted.{accepted}

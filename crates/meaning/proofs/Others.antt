@@ -12,7 +12,8 @@ use Rattle.tokens.specs.Tokens.{Tok}
 use Rattle.meaning.specs.Names.{find}
 use Rattle.meaning.specs.Body.{listed, entered, Body, done, inner}
 use Rattle.meaning.specs.Statements.{Decl, Decls}
-use Rattle.meaning.specs.Edited.{alone, rowsOf, listedIn, OthersSame}
+use Rattle.meaning.specs.Run.{alone}
+use Rattle.meaning.specs.Edited.{rowsOf, listedIn, OthersSame}
 use Rattle.meaning.proofs.Unplaced.{Twins, unplaced, twins-cycles, twins-rows}
 
 -- the same names in the same order, and the same bodies but for places, save under one name

@@ -63,7 +63,7 @@ unfolding whole twoSignals oneGroup oneListed
 both m =
     whole twoSignals oneGroup
     "Timing { WaveformTable t0 { Period '100ns'; Waveforms { ab { 01 { '0ns' D/U; } } } }"
-    " WaveformTable t1 { Period '1ps'; Waveforms { ab { 01 { '0ns' D; '1ps' U/D; } } } } }"
+    " WaveformTable t1 { Period '2ps'; Waveforms { ab { 01 { '0ns' D; '1ps' U/D; } } } } }"
     m oneListed
 
 -- document 01's text

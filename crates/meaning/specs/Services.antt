@@ -8,7 +8,8 @@ use lib.Dec.{leb, eqb}
 use Rattle.tokens.specs.Bytes.{letter, digit}
 use Rattle.tokens.specs.Tokens.{Tok}
 use Rattle.meaning.specs.Refusals.{badData, noSuch, noRoom}
-use Rattle.meaning.specs.Timing.{Event, Wave, Tables}
+use Rattle.meaning.specs.Timing.{Event}
+unfoldable pub use Rattle.meaning.specs.Timing.{waveOf}
 use Rattle.meaning.specs.Run.{Cycle, unassigned, size, cycles, cyclesOf, visits}
 use Rattle.meaning.specs.Meaning.{Answer, given, refused, answering, tableAt, Meaning, meaning, firsts}
 
@@ -122,10 +123,6 @@ unfoldable pub window : List ℕ → ℕ → ℕ → ℕ → List ℕ → Answer
 window text first wanted mark buffer = answering (meaning text) λ m. windowOf m first wanted mark buffer
 
 -- ---- Waveform: the events of a table, signal and character
-
-unfoldable pub waveOf : ℕ → ℕ → List Wave → Option (List Event)
-waveOf s c [] = none
-waveOf s c (w ∷ ws) = elim (eqb (w .signal) s && eqb (w .char) c) [ true ↦ some (w .events) | false ↦ waveOf s c ws ]
 
 unfoldable pub timesOf : List Event → List ℕ
 timesOf [] = []

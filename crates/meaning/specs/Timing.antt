@@ -212,3 +212,15 @@ timing ns = do
   due "{"
   tabs ← table ns []
   until "}" (table ns) tabs
+
+-- ---- a table by its number, a waveform by its signal and character
+
+-- the waveforms of the table of a number
+unfoldable pub tableAt : Tables → ℕ → List Wave
+tableAt [] k = []
+tableAt (x ∷ xs) zero = x .1 .waves
+tableAt (x ∷ xs) (suc k) = tableAt xs k
+
+unfoldable pub waveOf : ℕ → ℕ → List Wave → Option (List Event)
+waveOf s c [] = none
+waveOf s c (w ∷ ws) = elim (eqb (w .signal) s && eqb (w .char) c) [ true ↦ some (w .events) | false ↦ waveOf s c ws ]

@@ -4,18 +4,10 @@ use Prim.Native.Nat.{ℕ, zero, suc, _+_}
 use mathlib.Core.Bool.{Bool, true, false, _&&_}
 use mathlib.Core.Option.{Option, none, some}
 use mathlib.Core.List.{List, [], _∷_}
-use lib.ListN.{length}
 use lib.Dec.{ltb, eqb}
-use Rattle.meaning.specs.Timing.{Event, Wave, Tables, drives, compares}
+use Rattle.meaning.specs.Timing.{Event, Wave, Tables, drives, compares, tableAt, waveOf}
 use Rattle.meaning.specs.Body.{Body, done, vec, set′, inner}
-use Rattle.meaning.specs.Run.{unassigned, Cycle, cyclesOf}
-use Rattle.meaning.specs.Meaning.{Answer, given, refused, answering, tableAt, Meaning, meaning}
-use Rattle.meaning.specs.Services.{waveOf}
-use Rattle.meaning.specs.Edited.{alone}
-
--- 25: a cycle's last event does not come before the next cycle's first
-abbrev pub acrossEdge : ℕ
-acrossEdge = 25
+use Rattle.meaning.specs.Run.{unassigned, Cycle, cyclesOf, alone}
 
 -- ---- a waveform's first and last time in a category
 
@@ -120,10 +112,3 @@ firstAmong tabs (l ∷ ls) = elim (firstFailingPair tabs l) [ some p ↦ some p 
 
 unfoldable pub firstInRun : Tables → ℕ → Body → Option ℕ
 firstInRun tabs n r = firstAmong tabs (listedCycles n r)
-
--- what is accepted by 1 to 17, and has each pair in order
-unfoldable pub ordered : Meaning → Answer Meaning
-ordered m = elim (firstInRun (m .tables) (length (m .signals)) (m .run)) [ some p ↦ refused acrossEdge p | none ↦ given m ]
-
-unfoldable pub orderedMeaning : List ℕ → Answer Meaning
-orderedMeaning text = answering (meaning text) ordered
