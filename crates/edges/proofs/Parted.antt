@@ -16,7 +16,7 @@ use Rattle.edges.proofs.Behind.{failing-++}
 
 -- ---- parts of a row
 
-or-both : (x y : Option ℕ) → orElse x y ≡ none → (x ≡ none) × (y ≡ none)
+pub or-both : (x y : Option ℕ) → orElse x y ≡ none → (x ≡ none) × (y ≡ none)
 unfolding orElse
 or-both none y h = (refl, h)
 or-both (some a) y h = let z : _≡_ {A = ℕ} 0 1 = cc in absurd (omega arith)

@@ -1,21 +1,24 @@
 -- All that an accepted text tells of what is written: names, tables, rows.
-use Prim.Native.Nat.{ℕ, suc}
+use Prim.Native.Nat.{ℕ, suc, _≤_}
 use mathlib.Core.Path.{_≡_, refl, sym, ap, _∙_, subst}
 use mathlib.Core.Option.{none}
 use mathlib.Core.List.{List, [], _∷_, _++_, append-nil}
 use lib.ListN.{length}
 use Rattle.tokens.specs.Tokens.{Tok, Toks, toks}
+use Rattle.meaning.specs.Bounds.{depthMost}
 use Rattle.meaning.specs.Reader.{ok, give}
 use Rattle.meaning.specs.Signals.{signals}
 use Rattle.meaning.specs.Groups.{groups}
-use Rattle.meaning.specs.Body.{listed, entered, Body, inner}
+use Rattle.meaning.specs.Body.{listed, entered, Body, inner, depth}
 use Rattle.meaning.specs.Statements.{Env}
 use Rattle.meaning.specs.Document.{Read}
 use Rattle.meaning.specs.Run.{Cycle, entering, follow, playing, play, shiftOf, start, cyclesOf, alone}
+use Rattle.meaning.specs.Edges.{firstInRun}
 use Rattle.meaning.specs.Meaning.{given, firstFailing, firsts, Meaning, meaning}
 use Rattle.meaning.proofs.Gives.{bind-go}
 use Rattle.meaning.proofs.Rows.{every-cycle-wide}
 use Rattle.meaning.proofs.Accepted.{accepted}
+use Rattle.meaning.proofs.Depth.{patterns-within}
 use Rattle.meaning.proofs.Everywhere.{Every, Runs, no-more, one-more, runs}
 use Rattle.held.proofs.Rest.{moving, moves-leaves, moves-bind, moves-due, leaves-option}
 use Rattle.held.proofs.Grammar.{moves-signals, moves-groups}
@@ -70,6 +73,9 @@ pub record Source (text : List ℕ) (m : Meaning) : Type 0 where
   pub rows : All (GoodRow (length (m .signals)) (m .tables)) (rowsOf (cyclesOf (length (m .signals)) (m .run)))
   pub shows : placeless (cyclesOf (length (m .signals)) (m .run)) ≡ cyclesFor (rowsOf (cyclesOf (length (m .signals)) (m .run)))
   pub listed : concat (listedRows (length (m .signals)) (m .run)) ≡ rowsOf (cyclesOf (length (m .signals)) (m .run))
+  pub runs-listed : Runs (λ b. depth b ≤ depthMost) (m .run)
+  pub plays : firstFailing (m .tables) (cyclesOf (length (m .signals)) (m .run)) ≡ none
+  pub pairs : firstInRun (m .tables) (length (m .signals)) (m .run) ≡ none
 
 module _ (text : List ℕ) (d : Read) (us : Toks) (p : Parts (toks text 0) d us) where
   -- where Signals and Timing begin in the text
@@ -120,4 +126,7 @@ source text m e =
       rows = good .0;
       shows = good .1;
       listed = rows-listed (length (m .signals)) r;
+      runs-listed = runs _ (d .patterns) (patterns-within .all _ _ _ (a .read)) (d .listed) (m .run) (a .run);
+      plays = plays;
+      pairs = a .pairs;
     }
