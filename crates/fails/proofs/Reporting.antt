@@ -10,7 +10,7 @@ use lib.ListN.{length}
 use borrow.Author.Tests.{le-leb, lt-leb, leb-true}
 use Rattle.tokens.specs.Tokens.{Tok, Toks, toks}
 use Rattle.meaning.specs.Bounds.{sizeMost, cyclesMost}
-use Rattle.meaning.specs.Refusals.{noRoom, notPlayable}
+use Rattle.meaning.specs.Refusals.{noRoom}
 use Rattle.meaning.specs.Reader.{Res, ok}
 use Rattle.meaning.specs.Names.{find}
 use Rattle.meaning.specs.Run.{size, cycles}
@@ -27,7 +27,7 @@ use Rattle.texts.specs.Texts.{sound}
 use Rattle.texts.specs.Tables.{Found}
 use Rattle.texts.specs.declared.Verdict.{Verdict}
 use Rattle.texts.proofs.Sounds.{sound-runs}
-use Rattle.plays.specs.declared.Failing.{Failing}
+use Rattle.verdicts.specs.declared.Unfit.{Unfit}
 use Rattle.heads.specs.declared.Known.{Known}
 use Rattle.sections.specs.Listing.{Short}
 use Rattle.index.specs.Index.{Line, linesFrom, linesOf, indexOf}
@@ -40,7 +40,7 @@ use Rattle.references.specs.Filled.{noted}
 use Rattle.reports.specs.Report.{Record, Report, reported, Fail, notInPattern, answeredOf, answeredAll}
 use Rattle.reports.specs.Read.{Holds}
 use Rattle.verdicts.specs.Found.{Plays}
-use Rattle.verdicts.proofs.Found.{meantBy, meaning-refused, meaning-failing, meaning-given}
+use Rattle.verdicts.proofs.Found.{meaning-refused}
 use Rattle.fails.specs.Fails.{Told, answers, refuses, telling, linesNamed, onlyLine, listedOnce, declarations, pastIn, failsOf, failsIn, Rows, Failed, inFront, roomFor, failsOut, fails}
 use Rattle.fails.specs.Once.{Often}
 use Rattle.fails.specs.Judged.{Records, Judges}
@@ -227,16 +227,16 @@ module _ {w : Watch} {text places lists tplaces waves book rows list : List ℕ}
   abbrev lines : List Line
   lines = linesFrom 0 (blocksIn text (f .it .read .patterns)) (listedIn text list (v .parts .listed))
 
-  module _ {a : Failing} (p : Plays text places lists tplaces waves book rows list v a) (report : List ℕ) (spare : Bool) (c s l : List ℕ) where
-    pub fails-failing : a .failed ≡ true → Reports (sparedTold spare (fails text report (rowsOf c s l))) c c s s l l (Refused notPlayable (a .place))
+  module _ {a : Unfit} (p : Plays text places lists tplaces waves book rows list v a) (report : List ℕ) (spare : Bool) (c s l : List ℕ) where
+    pub fails-failing : (a .no ≡ 0 → ⊥) → Reports (sparedTold spare (fails text report (rowsOf c s l))) c c s s l l (Refused (a .no) (a .place))
     unfolding fails telling sparedTold
-    fails-failing h = reports-refused (rw (meaning-failing f p h))
+    fails-failing h = reports-refused (rw (p .refuses f h))
 
-    module _ (on : a .failed ≡ false) where
+    module _ (on : a .no ≡ 0) where
       -- an accepted text is what is asked of
       asked : fails text report (rowsOf c s l) ≡ telling true (failsOf lines (f .tabled .parts .env) (f .it .read) report) (λ fs. failsOut fs (rowsOf c s l))
       unfolding fails telling failsIn indexOf linesOf
-      asked = rw (meaning-given f p on, sound-runs text (f .is) .read, declarations-are (f .tabled .parts), f .tabled .listed-are)
+      asked = rw (p .accepts f on, sound-runs text (f .is) .read, declarations-are (f .tabled .parts), f .tabled .listed-are)
 
       signals-are : numbered 0 (f .it .read .signals) ≡ names text places (v .parts .signals)
       signals-are = ap (numbered 0) (f .tabled .signals-are) ∙ numbered-named (listAt lists) text places 0 (v .parts .signals)

@@ -26,7 +26,6 @@ ghost use Rattle.fails.specs.Service.{rowsOf, sparedTold, Reports, Answe
 use heads::Known;
 use references::Before;
 use verdicts::NO_ROOM;
-use verdicts::NOT_PLAYABLE;
 use words::Cursor;
 
 const DEPTH: usize = 8;
@@ -602,8 +601,8 @@ fn answer_found<'a>(
         used,
         v,
     );
-    if f.failed {
-        return Failures::Refused(NOT_PLAYABLE, f.place);
+    if f.no != 0 {
+        return Failures::Refused(f.no, f.place);
     }
     match reports::reported(report, text, places, parts.signals) {
         reports::Finding::Refused(n, p) => Failures::ReportRefused(n, p),

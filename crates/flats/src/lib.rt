@@ -22,7 +22,6 @@ use texts::PATTERNS;
 use texts::TEXT_MOST;
 use texts::Verdict;
 use verdicts::NO_ROOM;
-use verdicts::NOT_PLAYABLE;
 
 // Bytes of a window: many rows, since each window reads the text anew.
 const WINDOW: usize = 262_144;
@@ -405,7 +404,7 @@ fn put<'a>(
     join(page, pen, &body, part.pen)
 }
 
-// A text that 1 to 16 leave: 17, 23, 22, 19, or its folded text's length.
+// A text that 1 to 16 leave: 17, 25, 23, 22, 19, or its folded text's length.
 fn flat_found<'a>(
     page: &mut [u8],
     text: &'a [u8],
@@ -436,8 +435,8 @@ fn flat_found<'a>(
         used,
         v,
     );
-    if f.failed {
-        return refused(NOT_PLAYABLE, f.place);
+    if f.no != 0 {
+        return refused(f.no, f.place);
     }
     if CYCLES < total.cycles {
         return refused(MANY_CYCLES, 0);

@@ -29,6 +29,7 @@ use Rattle.meaning.proofs.Rows.{rows-are-cycles}
 use Rattle.meaning.proofs.Everywhere.{runs}
 use Rattle.meaning.proofs.Depth.{patterns-within}
 use Rattle.edges.proofs.Parted.{SameTables}
+use Rattle.meaning.proofs.Accepted.{length-firsts}
 use Rattle.folded.specs.Flat.{Row, rowsOf, directed, Chart, Sheet, sheets, chartsFrom, listedRows, partedAll, linesOf, patternsOf, flat}
 use Rattle.folded.specs.Layout.{namesOf, sheetNames, signalsPut, pieces, written}
 use Rattle.folded.specs.Fold.{foldedMost}
@@ -50,7 +51,7 @@ use Rattle.folded.proofs.RunBack.{RunIs, run-back, placeless-rows, plac
 use Rattle.folded.proofs.GoodRows.{GoodRow, SoundTables, tables-sound, rows-fair}
 use Rattle.folded.proofs.FlatGood.{listed-new, patterns-good, all-lines, lines-length}
 use Rattle.folded.proofs.Sizes.{run-fits}
-use Rattle.folded.proofs.Source.{Source, length-firsts, at-signals}
+use Rattle.folded.proofs.Source.{Source, at-signals}
 use Rattle.folded.proofs.Directions.{signals-took, directions-read, behind-version}
 use Rattle.folded.proofs.Again.{charts-alike, parted-again, run-listed}
 use Rattle.folded.proofs.InOrder.{periods-at, parts-of-run}

@@ -17,7 +17,7 @@ use Rattle.meaning.specs.Edges.{firstInRun}
 use Rattle.meaning.specs.Meaning.{given, firstFailing, firsts, Meaning, meaning}
 use Rattle.meaning.proofs.Gives.{bind-go}
 use Rattle.meaning.proofs.Rows.{every-cycle-wide}
-use Rattle.meaning.proofs.Accepted.{accepted}
+use Rattle.meaning.proofs.Accepted.{length-firsts, accepted}
 use Rattle.meaning.proofs.Depth.{patterns-within}
 use Rattle.meaning.proofs.Everywhere.{Every, Runs, no-more, one-more, runs}
 use Rattle.held.proofs.Rest.{moving, moves-leaves, moves-bind, moves-due, leaves-option}
@@ -37,11 +37,6 @@ use Rattle.folded.specs.Shapes.{concat}
 use Rattle.folded.proofs.Stretches.{All}
 use Rattle.folded.proofs.PlayBack.{cyclesFor}
 use Rattle.folded.proofs.GoodRows.{GoodRow, cycles-good}
-
-pub length-firsts : {A : Type 0} (l : List (Tok × A)) → length (firsts l) ≡ length l
-unfolding firsts
-length-firsts [] = refl
-length-firsts (x ∷ l) = ap suc (length-firsts l)
 
 -- ---- the run: its listed patterns' rows, one after the other
 

@@ -5,9 +5,9 @@ use native.Mathlib.Nat.{le-trans, mul-le-mul-left, mul-comm}
 use native.Mathlib.Omega.{arith}
 use mathlib.Core.Bool.{Bool, true, false}
 use mathlib.Core.Option.{Option, none, some}
-use mathlib.Core.List.{List}
+use mathlib.Core.List.{List, [], _∷_}
 use lib.ListN.{length}
-use Rattle.tokens.specs.Tokens.{Toks, toks, faultOf}
+use Rattle.tokens.specs.Tokens.{Tok, Toks, toks, faultOf}
 use Rattle.meaning.specs.Refusals.{tooLarge, notPlayable, acrossEdge}
 use Rattle.meaning.specs.Bounds.{depthMost}
 use Rattle.meaning.specs.Reader.{Res, ok, refuse}
@@ -19,6 +19,11 @@ use Rattle.meaning.specs.Meaning.{Answer, given, refused, answering, run
 use Rattle.meaning.proofs.Everywhere.{Every, Runs, runs}
 use Rattle.meaning.proofs.Depth.{patterns-within, run-within}
 use Rattle.meaning.proofs.Visits.{visits-by-depth}
+
+pub length-firsts : {A : Type 0} (l : List (Tok × A)) → length (firsts l) ≡ length l
+unfolding firsts
+length-firsts [] = refl
+length-firsts (x ∷ l) = ap suc (length-firsts l)
 
 -- ---- what acceptance tells
 

@@ -17,7 +17,7 @@ use Rattle.meaning.specs.Services.{rows, windowRows}
 use Rattle.meaning.specs.Edited.{ListedRows, rowsOf, listedIn, listedOf, listedPatterns, joinedRows, joinedCycles}
 use Rattle.meaning.proofs.Rows.{rows-are-cycles}
 use Rattle.meaning.proofs.Windows.{rows-++, window-rows}
-use Rattle.meaning.proofs.Accepted.{accepted}
+use Rattle.meaning.proofs.Accepted.{length-firsts, accepted}
 
 -- a refusal is no run
 never : {A B : Type 0} {n p : ℕ} {a : A} → _≡_ {A = Answer A} (refused n p) (given a) → B
@@ -94,11 +94,6 @@ shares mark n ps (t ∷ l) r e = by (find ps (t .word)) e (shares mark n ps l)
     by (some d) e ih = on d (runOf ps l) e ih
 
 -- ---- and so of every accepted text
-
-length-firsts : {A : Type 0} (l : List (Tok × A)) → length (firsts l) ≡ length l
-unfolding firsts
-length-firsts [] = refl
-length-firsts (x ∷ l) = ap suc (length-firsts l)
 
 -- the listed patterns l against the meaning m, with one mark: as many are listed, their cycles are the run's, their rows are all rows; and each
 -- one's rows are those of a window at its first cycle, as long as it is

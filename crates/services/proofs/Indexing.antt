@@ -12,7 +12,7 @@ use lib.Seq.{take-at}
 use borrow.Author.Tests.{leb-true, ltb-false}
 use Rattle.tokens.specs.Written.{same}
 use Rattle.meaning.specs.Bounds.{sizeMost, cyclesMost}
-use Rattle.meaning.specs.Refusals.{noRoom, notPlayable}
+use Rattle.meaning.specs.Refusals.{noRoom}
 use Rattle.meaning.specs.Run.{size, cycles}
 use Rattle.meaning.specs.Meaning.{Answer, given, refused, answering, fitting, Meaning}
 use Rattle.meaning.proofs.Gives.{no-not}
@@ -23,19 +23,19 @@ use Rattle.texts.specs.Texts.{sound}
 use Rattle.texts.specs.Tables.{Found}
 use Rattle.texts.specs.declared.Verdict.{Verdict}
 use Rattle.texts.proofs.Sounds.{sound-runs}
-use Rattle.plays.specs.declared.Failing.{Failing}
+use Rattle.verdicts.specs.declared.Unfit.{Unfit}
 use Rattle.pages.specs.Pages.{Puts}
 use Rattle.sections.specs.Listing.{Short, Fronts}
 use Rattle.index.specs.Index.{Index, linesOf, indexOf, written, holder, rebuiltIn, index, notTheIndex, takenAs, taken, belongs, holds, Rebuilt as Bytes}
 use Rattle.index.specs.Lines.{Lists, indexIn, heldOf}
 use Rattle.index.specs.declared.Held.{Held}
 use Rattle.index.proofs.Names.{listed-few}
-use Rattle.verdicts.specs.Found.{Plays}
+use Rattle.verdicts.specs.Found.{meantBy, Plays}
 use Rattle.verdicts.specs.Buffers.{afterwards, spared}
 use Rattle.services.specs.Indexes.{Stands, Rebuilds, Indexes}
 use Rattle.services.specs.declared.Rebuilt.{Rebuilt}
 use Rattle.services.specs.declared.Indexed.the-variants.{Written, Refused}
-use Rattle.verdicts.proofs.Found.{meantBy, meaning-refused, meaning-failing, meaning-given}
+use Rattle.verdicts.proofs.Found.{meaning-refused}
 use Rattle.verdicts.proofs.Sparing.{room, spared-room}
 
 -- ---- a text that 1 to 16 leave
@@ -65,11 +65,11 @@ module _ {w : Watch} {text places lists tplaces waves book rows list : List ℕ}
   unfolding indexOf linesOf
   index-is = rw (sound-runs text (f .is) .read, f .tabled .listed-are, f .tabled .held .named)
 
-  module _ {a : Failing} {r : Rebuilt} {cycle : ℕ} {page : List ℕ} (p : Plays text places lists tplaces waves book rows list v a) where
-    pub rebuild-failing : a .failed ≡ true → (r .no ≡ notPlayable) × (r .place ≡ a .place) → Rebuilds text cycle r page
-    rebuild-failing h k = record { refuses = λ z. meaning-failing f p h ∙ rw (k .0, k .1); accepts = λ z. absurd (omega (arith, k .0)) }
+  module _ {a : Unfit} {r : Rebuilt} {cycle : ℕ} {page : List ℕ} (p : Plays text places lists tplaces waves book rows list v a) where
+    pub rebuild-failing : (a .no ≡ 0 → ⊥) → (r .no ≡ a .no) × (r .place ≡ a .place) → Rebuilds text cycle r page
+    rebuild-failing h k = record { refuses = λ z. p .refuses f h ∙ rw (k .0, k .1); accepts = λ z. absurd (h (sym (k .0) ∙ z)) }
 
-    pub rebuild-stands : {before : List ℕ} → a .failed ≡ false → r .no ≡ 0
+    pub rebuild-stands : {before : List ℕ} → a .no ≡ 0 → r .no ≡ 0
         → Fronts (written (indexIn text list tplaces (v .parts .listed) (v .parts .known .tables) (f .it .read .patterns))) before (r .length) page
         → heldOf (r .holder) ≡ holder cycle 0 (indexIn text list tplaces (v .parts .listed) (v .parts .known .tables) (f .it .read .patterns) .patterns)
         → Rebuilds text cycle r page
@@ -77,7 +77,7 @@ module _ {w : Watch} {text places lists tplaces waves book rows list : List ℕ}
       refuses = λ n. absurd (n z);
       accepts = λ n. (
         meantBy (f .it),
-        meaning-given f p h,
+        p .accepts f h,
         record {
           front-is = ap (take (r .length)) (e .page-is) ∙ take-at _ _ (r .length) (sym (e .length-is)) ∙ ap written (sym index-is);
           length-is = e .length-is ∙ ap (λ (x : Index). length (written x)) (sym index-is);

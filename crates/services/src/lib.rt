@@ -32,7 +32,6 @@ use texts::TOO_LONG;
 use texts::Verdict;
 use timing::Watch;
 use verdicts::NO_ROOM;
-use verdicts::NOT_PLAYABLE;
 use verdicts::Wanted;
 
 pub const TEXT_MOST: usize = texts::TEXT_MOST;
@@ -316,8 +315,8 @@ fn rebuild_found<'a>(
         used,
         v,
     );
-    if f.failed {
-        return unbuilt(NOT_PLAYABLE, f.place);
+    if f.no != 0 {
+        return unbuilt(f.no, f.place);
     }
     let holder = index::holder(text, book, list, parts.listed, parts.patterns, cycle);
     let length = index::write(

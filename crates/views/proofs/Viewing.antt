@@ -23,7 +23,8 @@ use Rattle.windows.specs.Run.{Accepts, Windows}
 use Rattle.verdicts.specs.Buffers.{afterwards, spared}
 use Rattle.views.specs.Views.{Views}
 use Rattle.views.specs.declared.Shown.the-variants.{Rows, Refused}
-use Rattle.verdicts.proofs.Found.{meantBy, runs, signals-counted, counts-met}
+use Rattle.verdicts.specs.Found.{meantBy}
+use Rattle.verdicts.proofs.Found.{runs, signals-counted, counts-met}
 use Rattle.verdicts.proofs.Sparing.{room, spared-room}
 
 -- ---- as the service answers it

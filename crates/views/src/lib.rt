@@ -7,7 +7,6 @@ ghost use Rattle.verdicts.specs.Buffers.{spared};
 ghost use Rattle.views.specs.Views.{Views};
 use texts::Verdict;
 use verdicts::NO_ROOM;
-use verdicts::NOT_PLAYABLE;
 
 // A letter, a digit or LF as the mark.
 const BAD_MARK: u8 = 12;
@@ -74,8 +73,8 @@ fn view<'a>(
         used,
         v,
     );
-    if f.failed {
-        return Shown::Refused(NOT_PLAYABLE, f.place);
+    if f.no != 0 {
+        return Shown::Refused(f.no, f.place);
     }
     if is_no_mark(mark) {
         return Shown::Refused(BAD_MARK, 0);
