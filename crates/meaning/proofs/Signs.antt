@@ -11,8 +11,8 @@ use Rattle.tokens.specs.Bytes.{wordy, letter, digit, between}
 use Rattle.tokens.specs.Tokens.{Tok, Toks, stop, tok}
 use Rattle.meaning.specs.Bounds.{timeMost}
 use Rattle.meaning.specs.Reader.{ok, after, _>>=_, give, refuseIf, any, aheadOf, ahead, due, isWord, word, ifAhead}
-use Rattle.meaning.specs.Timing.{quoted, Signed, plus, minus, counted, uncounted, timeOf, signedQuoted}
-use Rattle.meaning.proofs.Gives.{bind-ok, give-ok, bind-go}
+use Rattle.meaning.specs.Timing.{quoted, Signed, plus, minus, counted, countedMost, uncounted, timeOf, signedQuoted}
+use Rattle.meaning.proofs.Gives.{bind-ok, give-ok, bind-go, Gives, gives-bind, gives-after, gives-give, gives-ahead, gives-within}
 
 -- ---- counted, and told again
 
@@ -30,7 +30,7 @@ amount (plus n) = n
 amount (minus n) = n
 
 -- it stays within the bounds of a time
-pub amount-most : (t : ℕ) → t ≤ timeMost + timeMost → amount (uncounted t) ≤ timeMost
+pub amount-most : (t : ℕ) → t ≤ countedMost → amount (uncounted t) ≤ timeMost
 unfolding amount uncounted
 amount-most t h = by (ltb t timeMost)
   where
@@ -58,6 +58,21 @@ minus-back n p q = by (ltb (timeMost - n) timeMost) refl
 pub zero-signs : counted (minus 0) ≡ counted (plus 0)
 unfolding counted
 zero-signs = refl
+
+-- ---- what is read
+
+gives-time : (sign : ℕ → Signed) → ((n : ℕ) → n ≤ timeMost → counted (sign n) ≤ countedMost) → Gives (λ s. counted s ≤ countedMost) (timeOf sign)
+unfolding timeOf
+gives-time sign h = gives-after _ _ _ λ t. gives-bind (λ n. n ≤ timeMost) _ _ _ (gives-within 0 timeMost _ _) λ n k. gives-give _ (sign n) (h n k)
+
+-- a time in quotes lies within the bounds
+pub gives-signed : Gives (λ n. n ≤ countedMost) signedQuoted
+unfolding signedQuoted counted
+gives-signed =
+    gives-after _ _ _ λ p.
+    gives-bind (λ s. counted s ≤ countedMost) _ _ _
+    (gives-ahead _ "-" _ _ (gives-after _ _ _ λ q. gives-time minus λ n k. omega arith) (gives-time plus λ n k. omega arith)) λ s h.
+    gives-after _ _ _ λ q. gives-give _ (counted s) h
 
 -- ---- without a sign
 

@@ -72,6 +72,10 @@ unfoldable pub counted : Signed → ℕ
 counted (plus n) = timeMost + n
 counted (minus n) = timeMost - n
 
+-- the latest one
+abbrev pub countedMost : ℕ
+countedMost = timeMost + timeMost
+
 -- and what was counted so; never `minus 0`
 unfoldable pub uncounted : ℕ → Signed
 uncounted t = elim (ltb t timeMost) [ true ↦ minus (timeMost - t) | false ↦ plus (t - timeMost) ]

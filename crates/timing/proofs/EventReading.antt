@@ -25,24 +25,6 @@ use Rattle.timing.specs.Events.{allEvents, Lettered, Timed, Adding}
 use Rattle.timing.proofs.Making.{either, if-yes, if-no, known-by, made}
 use Rattle.timing.proofs.EventLetters.{takes-letters, gives-letters}
 
--- ---- a time in quotes lies within the bound
-
-gives-within : (a b : ℕ) (o : Option ℕ) (p : ℕ) → Gives (λ n. n ≤ b) (within a b o p)
-unfolding within
-gives-within a b none p = record { all = λ ts n us e. (let z : _≡_ {A = ℕ} 0 1 = cc in absurd (omega arith)) }
-gives-within a b (some m) p = record { all = λ ts n us e. by ts n us (leb a m) (leb m b) refl e }
-  where
-    by : (ts : Toks) (n : ℕ) (us : Toks) (x y : Bool) → leb m b ≡ y
-        → _≡_ {A = Res ℕ} (elim (x && y) [ true ↦ ok m ts | false ↦ refuse badNumber p ]) (ok n us) → n ≤ b
-    by ts n us true true h e = let q : m ≡ n = cc in omega (arith, leb-true m b h)
-    by ts n us true false h e = let z : _≡_ {A = ℕ} 0 1 = cc in absurd (omega arith)
-    by ts n us false y h e = let z : _≡_ {A = ℕ} 0 1 = cc in absurd (omega arith)
-
-gives-quoted : (a : ℕ) → Gives (λ n. n ≤ timeMost) (quoted a)
-unfolding quoted
-gives-quoted a =
-    gives-after _ _ _ λ p. gives-after _ _ _ λ t. gives-bind (λ n. n ≤ timeMost) _ _ _ (gives-within a timeMost _ _) λ n h. gives-after _ _ _ λ q. gives-give _ n h
-
 -- ---- the code's tests are the definition's
 
 -- on the number of alternatives, of which the code counts one too many at most
