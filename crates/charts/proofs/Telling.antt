@@ -1,17 +1,18 @@
 -- Counted times as they are told: one, each of a list, and those of a waveform's events.
-use Prim.Native.Nat.{ℕ, zero, suc, _-_, _<_, _≤_}
+use Prim.Native.Nat.{ℕ, zero, suc, _+_, _-_, _<_, _≤_}
 use native.Mathlib.Omega.{arith}
-use mathlib.Core.Path.{_≡_, refl, sym, ap, ap₂, _∙_}
+use mathlib.Core.Path.{_≡_, refl, sym, ap, _∙_}
 use mathlib.Core.Bool.{Bool, true, false}
 use mathlib.Core.List.{List, [], _∷_, _++_}
 use lib.Dec.{ltb}
-use lib.ListN.{length, getD, take}
+use lib.ListN.{length, getD, take, drop, set}
 use borrow.Author.Tests.{lt-ltb, le-ltb}
 use Rattle.meaning.specs.Bounds.{timeMost}
 use Rattle.meaning.specs.Timing.{Event, Signed, plus, minus, uncounted}
 use Rattle.meaning.specs.Services.{wordRange, bitsOf, timesOf}
 use Rattle.waves.specs.Waves.{countsOf}
 use Rattle.charts.specs.Serving.{toldAll}
+use Rattle.charts.proofs.Fronts.{Fronted, fronted-more, fronted-all}
 
 -- ---- one
 
@@ -44,6 +45,14 @@ unfolding toldAll
 told-take zero ts = refl
 told-take (suc n) [] = refl
 told-take (suc n) (t ∷ ts) = ap (λ (l : List ℕ). bitsOf (uncounted t) ∷ l) (told-take n ts)
+
+-- one more at the front of a buffer, and all of them
+module _ (ts : List ℕ) {before : List ℕ} {i : ℕ} {buffer : List ℕ} (f : Fronted (toldAll ts) before i buffer) where
+  pub told-more : {v : ℕ} → i < length ts → v ≡ bitsOf (uncounted (getD ts i 0)) → Fronted (toldAll ts) before (i + 1) (set buffer i v)
+  told-more h e = rw (e ∙ sym (told-at ts i h)) (fronted-more f (omega (arith, told-length ts)))
+
+  pub told-all : (n : ℕ) → i ≡ n → n ≤ length ts → n ≤ length before → buffer ≡ toldAll (take n ts) ++ drop n before
+  told-all n e h k = fronted-all f n e (omega (arith, told-length ts)) k ∙ ap (λ (l : List ℕ). l ++ drop n before) (told-take n ts)
 
 -- ---- those of events
 
