@@ -5,20 +5,17 @@ use Prim.Native.String.{String}
 use mathlib.Core.Path.{_≡_, refl}
 use mathlib.Core.Option.{Option, none, some}
 use mathlib.Core.List.{List, [], _∷_}
-use Rattle.tokens.specs.Written.{bytes}
 use Rattle.tokens.specs.Tokens.{toks}
 use Rattle.meaning.specs.Reader.{Res, ok, refuse}
-use Rattle.meaning.specs.Timing.{Wave, Tables}
+use Rattle.meaning.specs.Timing.{Wave, Tables, Signed, plus, minus, counted}
 use Rattle.meaning.specs.Body.{Body}
-use Rattle.meaning.specs.Run.{Cycle, alone}
+use Rattle.meaning.specs.Run.{Cycle}
 use Rattle.meaning.specs.Document.{Read, document}
 use Rattle.meaning.specs.Meaning.{Answer, given, refused, Meaning, runOf, meaning}
 use Rattle.meaning.specs.Open.{everything}
 use Rattle.meaning.specs.Samples.{whole, oneListed}
 use Rattle.meaning.proofs.Turns.{shortened, fewer, twice}
 use Rattle.meaning.specs.Edges.{firstFailingPair, firstInRun}
-use Rattle.edges.specs.Signed as Signs
-use Rattle.edges.specs.Signed.{Signed, plus, minus, counted, signedQuoted}
 use Rattle.edges.specs.Three.{fewTurns, inThree}
 use Rattle.edges.specs.Turned
 use Rattle.edges.specs.Turned.{turnsInRun}
@@ -140,22 +137,3 @@ both = record { at = 3; table = some 0; pins = 48 ∷ [] } ∷ record { at = 5; 
 pub signs : (firstFailingPair (signed (plus 0)) both ≡ none) × (firstFailingPair (signed (minus 0)) both ≡ none) × (firstFailingPair (signed (minus 1)) both ≡ some 5)
 unfolding opened signed both counted
 signs = (refl, refl, refl)
-
--- as they will be read: counted, or refused; the place is the word's, or that of the token that is not allowed
-unfoldable pub timed : Res ℕ → Answer ℕ
-timed (ok n ts) = given n
-timed (refuse n p) = refused n p
-
-unfoldable pub times : List String → List (Answer ℕ)
-times [] = []
-times (s ∷ l) = timed (signedQuoted (toks (bytes s) 0)) ∷ times l
-
-pub signs-read : times ("'5ns'" ∷ "'-5ns'" ∷ "' - /**/ 5ns'" ∷ "'-0ps'" ∷ "'0ps'" ∷ "'-1000000ns'" ∷ "'1000000ns'" ∷ [])
-    ≡ given 1000005000 ∷ given 999995000 ∷ given 999995000 ∷ given 1000000000 ∷ given 1000000000 ∷ given 0 ∷ given 2000000000 ∷ []
-unfolding opened timed times counted Signs.timeOf signedQuoted
-signs-read = refl
-
-pub signs-refused : times ("'-1000000001ps'" ∷ "'-1'" ∷ "'--1ps'" ∷ "'+1ps'" ∷ "'-'" ∷ "'1ps-'" ∷ "'-1ps" ∷ [])
-    ≡ refused 9 2 ∷ refused 9 2 ∷ refused 4 2 ∷ refused 4 1 ∷ refused 4 2 ∷ refused 4 4 ∷ refused 4 5 ∷ []
-unfolding opened timed times counted Signs.timeOf signedQuoted
-signs-refused = refl

@@ -9,7 +9,7 @@ use Rattle.meaning.specs.Bounds.{depthMost, entryMost, bracketsMost}
 use Rattle.meaning.specs.Reader.{Reader, ahead, isWord}
 use Rattle.meaning.specs.Signals.{Names, signal, signals, signalsUpTo, signalUpTo}
 use Rattle.meaning.specs.Groups.{term, sign, joined, more, terms, bracket, expression, group, groups, groupsUpTo, groupUpTo}
-use Rattle.meaning.specs.Timing.{Wave, Tables, quoted, letterDue, alternative, letters, Events, oneEvent, event, entry, waveforms, table, timing}
+use Rattle.meaning.specs.Timing.{Wave, Tables, quoted, Signed, timeOf, signedQuoted, letterDue, alternative, letters, Events, oneEvent, event, entry, waveforms, table, timing}
 use Rattle.meaning.specs.Body.{Assigns, Args, Kind, Body}
 use Rattle.meaning.specs.Data.{charsOf, times, repeated, piece, part, dataRead, assign, assigns, argument, arguments}
 use Rattle.meaning.specs.Statements.{Decls, Env, Head, ends, vecs, sets, loops, shifts, uses, used, chosen, looping, shiftHead, labelHead, head, inShift, behind, statementsF, statements, declared}
@@ -70,6 +70,14 @@ pub moves-quoted : (a : ℕ) → Moves (quoted a)
 unfolding quoted
 moves-quoted a = search moving depth 9
 
+moves-time : (sign : ℕ → Signed) → Moves (timeOf sign)
+unfolding timeOf
+moves-time sign = search moving
+
+pub moves-signed : Moves signedQuoted
+unfolding signedQuoted
+moves-signed = search (moving, moves-ahead, moves-time) depth 9
+
 pub moves-letter : Moves letterDue
 unfolding letterDue
 moves-letter = search moving
@@ -84,7 +92,7 @@ moves-letters = moves-bind _ _ moves-letter λ e. leaves-while alternative (λ e
 
 pub moves-oneEvent : (n : ℕ) (s : Events) → Moves (oneEvent n s)
 unfolding oneEvent
-moves-oneEvent n s = search (moving, moves-quoted, moves-letters) depth 10
+moves-oneEvent n s = search (moving, moves-signed, moves-letters) depth 10
 
 pub moves-event : (n : ℕ) (s : Events) → Moves (event n s)
 unfolding event

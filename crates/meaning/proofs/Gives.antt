@@ -1,15 +1,18 @@
 -- What a reader's answers have in common: whatever a reader answers, it has P.
 use mathlib.Core.Path.{_≡_, refl, sym, ap, _∙_, subst}
-use Prim.Native.Nat.{ℕ, zero, suc, _+_}
+use Prim.Native.Nat.{ℕ, zero, suc, _+_, _≤_}
 use native.Mathlib.Omega.{arith}
 use Prim.Native.String.{String}
-use mathlib.Core.Bool.{Bool, true, false, not}
+use mathlib.Core.Bool.{Bool, true, false, not, _&&_}
 use mathlib.Core.Option.{Option, none, some}
 use mathlib.Core.List.{List, [], _∷_}
+use lib.Dec.{leb}
+use borrow.Author.Tests.{leb-true}
 use Rattle.tokens.specs.Written.{bytes, same}
 use Rattle.tokens.specs.Tokens.{Tok, Toks, left}
+use Rattle.meaning.specs.Refusals.{badNumber}
 use Rattle.meaning.specs.Reader.{Res, Reader, ok, refuse, after, _>>=_, give, refuseIf, any, ahead, ifAhead, option, oneOf, choose, whileF, while, closed, until}
-use Rattle.meaning.specs.Names.{known}
+use Rattle.meaning.specs.Names.{known, within}
 
 -- an answer of two readers is one of the first, and then one of the second
 pub bind-ok : {A B : Type 0} (m : Reader A) (f : A → Reader B) (ts : Toks) (b : B) (us : Toks) → (m >>= f) ts ≡ ok b us
@@ -118,3 +121,15 @@ gives-oneOf {A} P (x ∷ xs) h t = record { all = λ ts a us e. by ts a us (give
 pub gives-choose : {A : Type 0} (P : A → Type 0) (xs : List (String × (ℕ → Reader A))) → EachGives P xs → Gives P (choose xs)
 unfolding choose
 gives-choose P xs h = gives-after P any (oneOf xs) (gives-oneOf P xs h)
+
+-- a number lies within its bound
+pub gives-within : (a b : ℕ) (o : Option ℕ) (p : ℕ) → Gives (λ n. n ≤ b) (within a b o p)
+unfolding within
+gives-within a b none p = record { all = λ ts n us e. (let z : _≡_ {A = ℕ} 0 1 = cc in absurd (omega arith)) }
+gives-within a b (some m) p = record { all = λ ts n us e. by ts n us (leb a m) (leb m b) refl e }
+  where
+    by : (ts : Toks) (n : ℕ) (us : Toks) (x y : Bool) → leb m b ≡ y
+        → _≡_ {A = Res ℕ} (elim (x && y) [ true ↦ ok m ts | false ↦ refuse badNumber p ]) (ok n us) → n ≤ b
+    by ts n us true true h e = let q : m ≡ n = cc in omega (arith, leb-true m b h)
+    by ts n us true false h e = let z : _≡_ {A = ℕ} 0 1 = cc in absurd (omega arith)
+    by ts n us false y h e = let z : _≡_ {A = ℕ} 0 1 = cc in absurd (omega arith)

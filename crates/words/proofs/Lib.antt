@@ -8,3 +8,4 @@ mod Tables
 mod Packed
 pub mod Names
 mod Chains
+mod Signs

@@ -12,9 +12,11 @@ ghost use Rattle.tokens.specs.Tokens.{Tok};
 ghost use Rattle.meaning.specs.Reader.{any, aheadOf, dueOf, isWord, word as wordDue};
 ghost use Rattle.meaning.specs.Lists.{has};
 ghost use Rattle.meaning.specs.Names.{reserved as reservedWords, among, isName, name as nameDue, find as findOf, newName, oldName, number as numberOf, within as withinDue, numberIn};
-ghost use Rattle.meaning.specs.Timing.{waveChar, allChars, unit as unitOf, picoseconds, quoted as quotedDue};
+ghost use Rattle.meaning.specs.Timing.{waveChar, allChars, unit as unitOf, picoseconds, quoted as quotedDue, counted as countedOf, timeOf, signedQuoted};
+ghost use Rattle.meaning.specs.Bounds.{timeMost};
 ghost use Rattle.words.specs.Cursor.{span, ahead as aheadTok, stream, alive, Stands, Goes, Checked, taking};
 ghost use Rattle.words.specs.Values.{most, told, capped, valueOf, Longer};
+ghost use Rattle.words.specs.Signs.{signOf, signedDue, Counts};
 ghost use Rattle.words.specs.Table.{nameOf, names};
 ghost use Rattle.words.specs.Packed.{packed, capital, EndsWith, ZerosFrom};
 ghost use Rattle.words.specs.Chains.{mixedOf, chainOf, InChain};
@@ -648,4 +650,56 @@ pub fn quoted(text: &[u8], c: Cursor, lo: u32) -> Numbered
     let f = within(e, v, lo, 1_000_000_000, d.at);
     let cursor = due(text, f, b"'");
     Numbered { cursor, n: v.n }
+}
+
+// ---- times with a sign, counted from the earliest that there may be
+
+// How far before the cycle's start that is, and the latest one behind it.
+const TIME_MOST: u64 = 1_000_000_000;
+
+// A time behind the cycle's start, or before it (`minus`).
+fn counted(n: u64, minus: bool) -> u64
+    ensures { λ r. ⌜ (n ≤ timeMost → r ≡ countedOf (signOf minus n)) ⌝ }
+{
+    if TIME_MOST < n {
+        return TIME_MOST;
+    }
+    if minus {
+        return TIME_MOST - n;
+    }
+    TIME_MOST + n
+}
+
+// The word of a time is due, behind its sign.
+fn time_of(text: &[u8], c: Cursor, minus: bool) -> Numbered
+    ensures { λ r. ⌜ Counts (now (text .entry)) c (timeOf (signOf minus)) (r .cursor) (r .n) ⌝ }
+{
+    let d = word(text, c);
+    let v = time(bytes_of(text, c.at, c.end));
+    let cursor = within(d, v, 0, 1_000_000_000, c.at);
+    let n = counted(v.n, minus);
+    Numbered { cursor, n }
+}
+
+// The same, with a `-` before it or without.
+fn signed(text: &[u8], c: Cursor) -> Numbered
+    ensures { λ r. ⌜ Counts (now (text .entry)) c signedDue (r .cursor) (r .n) ⌝ }
+{
+    if is(text, c, b"-") {
+        let d = due(text, c, b"-");
+        let t = time_of(text, d, true);
+        return t;
+    }
+    let t = time_of(text, c, false);
+    return t;
+}
+
+// An event's time in quotes is due.
+pub fn signed_quoted(text: &[u8], c: Cursor) -> Numbered
+    ensures { λ r. ⌜ Goes (now (text .entry)) c signedQuoted (r .cursor) (r .n) ⌝ }
+{
+    let d = due(text, c, b"'");
+    let t = signed(text, d);
+    let cursor = due(text, t.cursor, b"'");
+    Numbered { cursor, n: t.n }
 }
