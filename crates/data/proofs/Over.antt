@@ -1,5 +1,5 @@
 -- Characters over the front of a buffer: one store is one character more, and past the buffer's end nothing changes.
-use Prim.Native.Nat.{ℕ, suc, _+_, _-_, _≤_, _<_, min}
+use Prim.Native.Nat.{ℕ, zero, suc, _+_, _-_, _≤_, _<_, min}
 use native.Mathlib.Omega.{arith}
 use native.Mathlib.Numerals.{add-one}
 use mathlib.Core.Path.{_≡_, refl, sym, ap, _∙_, subst}
@@ -37,6 +37,20 @@ unfolding over
 over-front [] e h = refl
 over-front (c ∷ cs) [] h = absurd (omega arith)
 over-front (c ∷ cs) (b ∷ e) h = ap (λ (l : List ℕ). c ∷ l) (over-front cs e (omega arith))
+
+-- they stand before what was there behind them
+pub over-fits : (cs e : List ℕ) → length cs ≤ length e → over cs e ≡ cs ++ drop (length cs) e
+unfolding over
+over-fits [] e h = refl
+over-fits (c ∷ cs) [] h = absurd (omega arith)
+over-fits (c ∷ cs) (b ∷ e) h = ap (λ (l : List ℕ). c ∷ l) (over-fits cs e (omega arith))
+
+pub over-rest : (i : ℕ) (cs e : List ℕ) → length cs ≤ i → drop i (over cs e) ≡ drop i e
+unfolding over
+over-rest i [] e h = refl
+over-rest i (c ∷ cs) [] h = refl
+over-rest zero (c ∷ cs) (b ∷ e) h = absurd (omega arith)
+over-rest (suc i) (c ∷ cs) (b ∷ e) h = over-rest i cs e (omega arith)
 
 -- ---- a loop that puts the characters ds behind n, i of them so far
 
@@ -88,6 +102,14 @@ module _ {before : List ℕ} {n : ℕ} {ds : List ℕ} where
 module _ {before : List ℕ} {n : ℕ} where
   pub adds-none : Adds before n [] before n
   adds-none = record { kept = refl; adds = λ entry cs z. rw append-nil z }
+
+  -- the count does not depend on what the buffer holds
+  pub adds-count : {ds behind : List ℕ} {m k : ℕ} → Adds before n ds behind m → k ≡ min countMost (n + length ds) → Adds before n ds behind k
+  adds-count {ds} a e =
+      record {
+        kept = a .kept;
+        adds = λ entry cs z. record { count = omega (arith, length-append cs ds, z .count); front = a .adds entry cs z .front };
+      }
 
   pub adds-same : {ds es behind : List ℕ} {m : ℕ} → Adds before n ds behind m → ds ≡ es → Adds before n es behind m
   adds-same {ds} {es} {behind} {m} a e = subst (λ (l : List ℕ). Adds before n l behind m) e a

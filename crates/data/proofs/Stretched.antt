@@ -25,8 +25,14 @@ unfolding stretched
 length-stretched zero w = sym (zero-mul (length w))
 length-stretched (suc n) w = length-append w (stretched n w) ∙ (omega (arith, length-stretched n w, suc-mul n (length w)))
 
+-- before them or behind
+pub stretched-turn : (n : ℕ) (w : List ℕ) → w ++ stretched n w ≡ stretched n w ++ w
+unfolding stretched
+stretched-turn zero w = append-nil w
+stretched-turn (suc n) w = ap (λ (l : List ℕ). w ++ l) (stretched-turn n w) ∙ sym (append-assoc w (stretched n w) w)
+
 -- nothing, however often
-stretched-empty : (n : ℕ) → stretched n [] ≡ []
+pub stretched-empty : (n : ℕ) → stretched n [] ≡ []
 unfolding stretched
 stretched-empty zero = refl
 stretched-empty (suc n) = stretched-empty n
