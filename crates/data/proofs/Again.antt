@@ -3,7 +3,7 @@ use Prim.Native.Nat.{ℕ, zero, suc, _+_, _*_, _-_, _≤_, _<_, min}
 use native.Mathlib.Omega.{arith}
 use native.Mathlib.Nat.{suc-mul}
 use mathlib.Core.Path.{_≡_, refl, sym, ap, ap₂, _∙_}
-use mathlib.Core.Bool.{Bool, true, false, _||_}
+use mathlib.Core.Bool.{true, false, _||_}
 use mathlib.Core.List.{List, [], _∷_, _++_, append-assoc}
 use lib.Dec.{eqb}
 use lib.ListN.{length, take, drop, length-append, take-append-drop}
@@ -75,7 +75,7 @@ module _ {before middle : List ℕ} {n m all : ℕ} (k : ℕ) (w : List ℕ) (fi
   -- the others have no room
   pub adds-once : length middle ≤ m → Adds before n (stretched k w) middle all
   adds-once full =
-      adds-same (adds-past others once (λ z. full) few (rw (length-stretched (k - 1) w) (omega (arith, counted)))) (sym (first-time k w first))
+      adds-same (adds-past others once full few (rw (length-stretched (k - 1) w) (omega (arith, counted)))) (sym (first-time k w first))
 
   module _ {run : ℕ} {behind : List ℕ} (room : m < length middle) (some : 0 < length w) (fits : run ≡ min (all - m) (length middle - m))
       (x : Extends middle m (length w) run behind) where

@@ -114,30 +114,16 @@ module _ {before : List ℕ} {n : ℕ} where
   pub adds-same : {ds es behind : List ℕ} {m : ℕ} → Adds before n ds behind m → ds ≡ es → Adds before n es behind m
   adds-same {ds} {es} {behind} {m} a e = subst (λ (l : List ℕ). Adds before n l behind m) e a
 
-  pub adds-both : {ds es middle behind : List ℕ} {m k : ℕ} → Adds before n ds middle m → Adds middle m es behind k → Adds before n (ds ++ es) behind k
-  adds-both {ds} {es} {middle} {behind} {m} {k} a b =
-      record {
-        kept = b .kept ∙ a .kept;
-        adds = λ entry cs z. subst (Holds entry behind k) (append-assoc cs ds es) (b .adds entry (cs ++ ds) (a .adds entry cs z));
-      }
-
 -- characters that have no room change nothing, and are counted
-pub adds-past : {before : List ℕ} {n : ℕ} {ds behind : List ℕ} {m k : ℕ} (es : List ℕ) → Adds before n ds behind m → (0 < length es → length behind ≤ m)
-    → length before < countMost → k ≡ min countMost (m + length es) → Adds before n (ds ++ es) behind k
+pub adds-past : {before : List ℕ} {n : ℕ} {ds behind : List ℕ} {m k : ℕ} (es : List ℕ) → Adds before n ds behind m → length behind ≤ m → length before < countMost
+    → k ≡ min countMost (m + length es) → Adds before n (ds ++ es) behind k
 adds-past {before} {n} {ds} {behind} {m} {k} es a full b e =
-    record {
-      kept = a .kept;
-      adds = λ entry cs z. subst (Holds entry behind k) (append-assoc cs ds es) (one entry (cs ++ ds) es (a .adds entry cs z) e full);
-    }
+    record { kept = a .kept; adds = λ entry cs z. subst (Holds entry behind k) (append-assoc cs ds es) (one entry (cs ++ ds) (a .adds entry cs z)) }
   where
-    one : (entry cs es : List ℕ) → Holds entry behind m cs → k ≡ min countMost (m + length es) → (0 < length es → length behind ≤ m) → Holds entry behind k (cs ++ es)
-    one entry cs [] z e full = rw append-nil (record { count = omega (arith, z .count); front = z .front })
-    one entry cs (x ∷ es) z e full =
+    one : (entry cs : List ℕ) → Holds entry behind m cs → Holds entry behind k (cs ++ es)
+    one entry cs z =
         let l : length behind ≡ length entry = ap length (z .front) ∙ over-length cs entry in
-        record {
-          count = omega (arith, length-append cs (x ∷ es), z .count);
-          front = z .front ∙ sym (over-past cs (x ∷ es) entry (omega (arith, z .count, full (omega arith))));
-        }
+        record { count = omega (arith, length-append cs es, z .count); front = z .front ∙ sym (over-past cs es entry (omega (arith, z .count, a .kept))) }
 
 pub holds-none : (entry : List ℕ) → Holds entry entry 0 []
 unfolding over

@@ -1,14 +1,13 @@
 -- The pieces of DATA by the token ahead: what the code's tests on its bytes say of the definition.
-use Prim.Native.Nat.{ℕ, _+_, _*_, _-_, _≤_, _<_, min}
+use Prim.Native.Nat.{ℕ, _-_, _≤_, _<_}
 use native.Mathlib.Omega.{arith}
 use mathlib.Core.Path.{_≡_, refl, sym, ap, _∙_}
-use mathlib.Core.Bool.{Bool, true, false, not, _&&_}
+use mathlib.Core.Bool.{Bool, true, false, not}
 use mathlib.Core.Option.{none, some}
 use mathlib.Core.List.{List, [], _∷_, _++_}
-use lib.Dec.{ltb}
 use lib.Seq.{take-all}
 use lib.ListN.{length, getD, take, drop, replicate}
-use borrow.Author.Tests.{eq-eqb, ne-eqb, lt-ltb, ltb-true, ltb-false}
+use borrow.Author.Tests.{eq-eqb, ne-eqb}
 use Rattle.tokens.specs.Written.{bytes, same}
 use Rattle.tokens.specs.Refusals.{notHere}
 use Rattle.tokens.specs.Tokens.{Tok}
@@ -22,7 +21,7 @@ use Rattle.meaning.specs.Data.{charsOf, stretched, repeatOf, times, repeated, p
 use Rattle.words.specs.declared.Cursor.{Cursor}
 use Rattle.words.specs.Cursor.{Goes, Checked}
 use Rattle.words.proofs.Flow.{then, given, checked, alike}
-use Rattle.data.specs.Filled.{countMost, Adds, timesDue, pieceDue}
+use Rattle.data.specs.Filled.{Adds, timesDue, pieceDue}
 use Rattle.data.proofs.Over.{adds-same}
 use Rattle.data.proofs.Stretched.{stretched-single}
 

@@ -1,5 +1,5 @@
 -- A word said several times: some times and then others, one time more, and how many characters that are.
-use Prim.Native.Nat.{ℕ, zero, suc, _+_, _*_, _<_}
+use Prim.Native.Nat.{ℕ, zero, suc, _+_, _*_}
 use native.Mathlib.Omega.{arith}
 use native.Mathlib.Nat.{zero-add, suc-add, zero-mul, suc-mul}
 use mathlib.Core.Path.{_≡_, refl, sym, ap, _∙_}
@@ -36,12 +36,6 @@ pub stretched-empty : (n : ℕ) → stretched n [] ≡ []
 unfolding stretched
 stretched-empty zero = refl
 stretched-empty (suc n) = stretched-empty n
-
-pub stretched-some : (n : ℕ) (w : List ℕ) → 0 < length (stretched n w) → (0 < n) × (0 < length w)
-unfolding stretched
-stretched-some zero w h = absurd (omega arith)
-stretched-some (suc n) [] h = absurd (omega (arith, ap length (stretched-empty n)))
-stretched-some (suc n) (x ∷ w) h = (omega arith, omega arith)
 
 -- one character
 pub stretched-single : (n x : ℕ) → stretched n (x ∷ []) ≡ replicate n x

@@ -1,7 +1,7 @@
 -- Rows of a turn's cycles again and again: bytes that repeat the last `step` before them are the rows of copies of those cycles, as many as there are bytes.
 use Prim.Native.Nat.{ℕ, zero, suc, _+_, _*_, _-_, _≤_, _<_}
 use native.Mathlib.Omega.{arith}
-use mathlib.Core.Path.{_≡_, refl, sym, ap, ap₂, _∙_, subst}
+use mathlib.Core.Path.{_≡_, sym, ap, ap₂, _∙_, subst}
 use mathlib.Core.List.{List, [], _∷_, _++_, append-assoc, append-nil}
 use lib.ListN.{length, take, drop, length-take, take-append-drop}
 use lib.Seq.{take-nil, take-at, drop-drop}

@@ -8,7 +8,7 @@ use Rattle.data.proofs.copies.Statement.{statement}
 use Rattle.data.proofs.copies.Tie as tie
 
 returns : tie.Need-returns
-returns c = adds-nothing (c .before .before .before .args .k) (c .before .before .before .args .w .now) (c .if1 .taken)
+returns c = let start = c .before .before .before in adds-nothing (start .args .k) (start .args .w .now) (c .if1 .taken)
 
 copy-requires : tie.Need-copy-requires
 copy-requires c κs = search needs
@@ -23,32 +23,40 @@ same-length : tie.Need-same-length
 same-length c = search needs
 
 returns-2 : tie.Need-returns-2
-returns-2 c = 
-    let some = something (c .before .before .before .before .before .before .before .before .before .before .args .k) (length (c .before .before .before .before .before .before .before .before .before .before .args .w .now)) (c .before .before .before .before .before .before .before .if1 .left) in
-    adds-once (c .before .before .before .before .before .before .before .before .before .before .args .k) (c .before .before .before .before .before .before .before .before .before .before .args .w .now) (some .0) (adds-count (c .before .before .before .before .before .copy .ensures) (c .before .before .counted .ensures)) (omega (arith, c .before .before .before .before .before .before .before .before .before .before .good .0 .1)) (c .before .before .counted .ensures)
-    (c .before .counted-times .ensures) (c .if2 .taken)
+returns-2 c =
+    let start = c .before .before .before .before .before .before .before .before .before .before in
+    let some = something (start .args .k) (length (start .args .w .now)) (c .before .before .before .before .before .before .before .if1 .left) in
+    let place = c .before .before .counted .ensures in
+    let once = adds-count (c .before .before .before .before .before .copy .ensures) place in
+    adds-once (start .args .k) (start .args .w .now) (some .0) once (omega (arith, start .good .0 .1)) place (c .before .counted-times .ensures) (c .if2 .taken)
 
 sub-fitting : tie.Need-sub-fitting
-sub-fitting c = 
-    let some = something (c .before .before .before .before .before .before .before .before .before .before .args .k) (length (c .before .before .before .before .before .before .before .before .before .before .args .w .now)) (c .before .before .before .before .before .before .before .if1 .left) in
-    omega (arith, times-all (c .before .before .before .before .before .before .before .before .before .before .args .k) (length (c .before .before .before .before .before .before .before .before .before .before .args .w .now)) (some .0))
+sub-fitting c =
+    let start = c .before .before .before .before .before .before .before .before .before .before in
+    let some = something (start .args .k) (length (start .args .w .now)) (c .before .before .before .before .before .before .before .if1 .left) in
+    omega (arith, times-all (start .args .k) (length (start .args .w .now)) (some .0))
 
 fitting-requires : tie.Need-fitting-requires
 fitting-requires c κs = search needs
 
 extend-requires : tie.Need-extend-requires
-extend-requires c κs = 
-    let some = something (c .before .before .before .before .before .before .before .before .before .before .before .before .args .k) (length (c .before .before .before .before .before .before .before .before .before .before .before .before .args .w .now)) (c .before .before .before .before .before .before .before .before .before .if1 .left) in
-    (some .1, omega (arith, c .before .before .before .before .before .before .before .before .before .before .before .before .good .0 .1), omega arith)
+extend-requires c κs =
+    let start = c .before .before .before .before .before .before .before .before .before .before .before .before in
+    let some = something (start .args .k) (length (start .args .w .now)) (c .before .before .before .before .before .before .before .before .before .if1 .left) in
+    (omega (arith, some .1), omega (arith, start .good .0 .1), omega arith)
 
 same-length-2 : tie.Need-same-length-2
 same-length-2 c = search needs
 
 returns-3 : tie.Need-returns-3
-returns-3 c = 
-    let some = something (c .before .before .before .before .before .before .before .before .before .before .before .before .before .before .before .args .k) (length (c .before .before .before .before .before .before .before .before .before .before .before .before .before .before .before .args .w .now)) (c .before .before .before .before .before .before .before .before .before .before .before .before .if1 .left) in
-    adds-run (c .before .before .before .before .before .before .before .before .before .before .before .before .before .before .before .args .k) (c .before .before .before .before .before .before .before .before .before .before .before .before .before .before .before .args .w .now) (some .0) (adds-count (c .before .before .before .before .before .before .before .before .before .before .copy .ensures) (c .before .before .before .before .before .before .before .counted .ensures)) (omega (arith, c .before .before .before .before .before .before .before .before .before .before .before .before .before .before .before .good .0 .1)) (c .before .before .before .before .before .before .before .counted .ensures)
-    (c .before .before .before .before .before .before .counted-times .ensures) (omega (arith, c .before .before .before .before .before .if2 .left)) (some .1) (c .before .before .before .before .fitting .ensures) (c .before .before .extend .ensures)
+returns-3 c =
+    let start = c .before .before .before .before .before .before .before .before .before .before .before .before .before .before .before in
+    let some = something (start .args .k) (length (start .args .w .now)) (c .before .before .before .before .before .before .before .before .before .before .before .before .if1 .left) in
+    let place = c .before .before .before .before .before .before .before .counted .ensures in
+    let once = adds-count (c .before .before .before .before .before .before .before .before .before .before .copy .ensures) place in
+    let room = c .before .before .before .before .before .if2 .left in
+    adds-run (start .args .k) (start .args .w .now) (some .0) once (omega (arith, start .good .0 .1)) place (c .before .before .before .before .before .before .counted-times .ensures)
+    (omega arith) (some .1) (c .before .before .before .before .fitting .ensures) (c .before .before .extend .ensures)
 
 pub copies-spec : {M : Type 1} → statement M
 copies-spec =
