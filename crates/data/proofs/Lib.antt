@@ -1,5 +1,6 @@
 pub mod Over
 mod Pieces
+mod Again
 pub mod Characters
 pub mod Stretched
 mod Turns

@@ -1,5 +1,5 @@
 -- Characters over the front of a buffer: one store is one character more, and past the buffer's end nothing changes.
-use Prim.Native.Nat.{ℕ, suc, _+_, _-_, _≤_, _<_, min}
+use Prim.Native.Nat.{ℕ, zero, suc, _+_, _-_, _≤_, _<_, min}
 use native.Mathlib.Omega.{arith}
 use native.Mathlib.Numerals.{add-one}
 use mathlib.Core.Path.{_≡_, refl, sym, ap, _∙_, subst}
@@ -37,6 +37,20 @@ unfolding over
 over-front [] e h = refl
 over-front (c ∷ cs) [] h = absurd (omega arith)
 over-front (c ∷ cs) (b ∷ e) h = ap (λ (l : List ℕ). c ∷ l) (over-front cs e (omega arith))
+
+-- they stand before what was there behind them
+pub over-fits : (cs e : List ℕ) → length cs ≤ length e → over cs e ≡ cs ++ drop (length cs) e
+unfolding over
+over-fits [] e h = refl
+over-fits (c ∷ cs) [] h = absurd (omega arith)
+over-fits (c ∷ cs) (b ∷ e) h = ap (λ (l : List ℕ). c ∷ l) (over-fits cs e (omega arith))
+
+pub over-rest : (i : ℕ) (cs e : List ℕ) → length cs ≤ i → drop i (over cs e) ≡ drop i e
+unfolding over
+over-rest i [] e h = refl
+over-rest i (c ∷ cs) [] h = refl
+over-rest zero (c ∷ cs) (b ∷ e) h = absurd (omega arith)
+over-rest (suc i) (c ∷ cs) (b ∷ e) h = over-rest i cs e (omega arith)
 
 -- ---- a loop that puts the characters ds behind n, i of them so far
 
@@ -89,33 +103,27 @@ module _ {before : List ℕ} {n : ℕ} where
   pub adds-none : Adds before n [] before n
   adds-none = record { kept = refl; adds = λ entry cs z. rw append-nil z }
 
+  -- the count does not depend on what the buffer holds
+  pub adds-count : {ds behind : List ℕ} {m k : ℕ} → Adds before n ds behind m → k ≡ min countMost (n + length ds) → Adds before n ds behind k
+  adds-count {ds} a e =
+      record {
+        kept = a .kept;
+        adds = λ entry cs z. record { count = omega (arith, length-append cs ds, z .count); front = a .adds entry cs z .front };
+      }
+
   pub adds-same : {ds es behind : List ℕ} {m : ℕ} → Adds before n ds behind m → ds ≡ es → Adds before n es behind m
   adds-same {ds} {es} {behind} {m} a e = subst (λ (l : List ℕ). Adds before n l behind m) e a
 
-  pub adds-both : {ds es middle behind : List ℕ} {m k : ℕ} → Adds before n ds middle m → Adds middle m es behind k → Adds before n (ds ++ es) behind k
-  adds-both {ds} {es} {middle} {behind} {m} {k} a b =
-      record {
-        kept = b .kept ∙ a .kept;
-        adds = λ entry cs z. subst (Holds entry behind k) (append-assoc cs ds es) (b .adds entry (cs ++ ds) (a .adds entry cs z));
-      }
-
 -- characters that have no room change nothing, and are counted
-pub adds-past : {before : List ℕ} {n : ℕ} {ds behind : List ℕ} {m k : ℕ} (es : List ℕ) → Adds before n ds behind m → (0 < length es → length behind ≤ m)
-    → length before < countMost → k ≡ min countMost (m + length es) → Adds before n (ds ++ es) behind k
+pub adds-past : {before : List ℕ} {n : ℕ} {ds behind : List ℕ} {m k : ℕ} (es : List ℕ) → Adds before n ds behind m → length behind ≤ m → length before < countMost
+    → k ≡ min countMost (m + length es) → Adds before n (ds ++ es) behind k
 adds-past {before} {n} {ds} {behind} {m} {k} es a full b e =
-    record {
-      kept = a .kept;
-      adds = λ entry cs z. subst (Holds entry behind k) (append-assoc cs ds es) (one entry (cs ++ ds) es (a .adds entry cs z) e full);
-    }
+    record { kept = a .kept; adds = λ entry cs z. subst (Holds entry behind k) (append-assoc cs ds es) (one entry (cs ++ ds) (a .adds entry cs z)) }
   where
-    one : (entry cs es : List ℕ) → Holds entry behind m cs → k ≡ min countMost (m + length es) → (0 < length es → length behind ≤ m) → Holds entry behind k (cs ++ es)
-    one entry cs [] z e full = rw append-nil (record { count = omega (arith, z .count); front = z .front })
-    one entry cs (x ∷ es) z e full =
+    one : (entry cs : List ℕ) → Holds entry behind m cs → Holds entry behind k (cs ++ es)
+    one entry cs z =
         let l : length behind ≡ length entry = ap length (z .front) ∙ over-length cs entry in
-        record {
-          count = omega (arith, length-append cs (x ∷ es), z .count);
-          front = z .front ∙ sym (over-past cs (x ∷ es) entry (omega (arith, z .count, full (omega arith))));
-        }
+        record { count = omega (arith, length-append cs es, z .count); front = z .front ∙ sym (over-past cs es entry (omega (arith, z .count, a .kept))) }
 
 pub holds-none : (entry : List ℕ) → Holds entry entry 0 []
 unfolding over

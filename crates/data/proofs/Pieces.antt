@@ -1,14 +1,13 @@
 -- The pieces of DATA by the token ahead: what the code's tests on its bytes say of the definition.
-use Prim.Native.Nat.{ℕ, _+_, _*_, _-_, _≤_, _<_, min}
+use Prim.Native.Nat.{ℕ, _-_, _≤_, _<_}
 use native.Mathlib.Omega.{arith}
 use mathlib.Core.Path.{_≡_, refl, sym, ap, _∙_}
-use mathlib.Core.Bool.{Bool, true, false, not, _&&_}
+use mathlib.Core.Bool.{Bool, true, false, not}
 use mathlib.Core.Option.{none, some}
 use mathlib.Core.List.{List, [], _∷_, _++_}
-use lib.Dec.{ltb}
 use lib.Seq.{take-all}
 use lib.ListN.{length, getD, take, drop, replicate}
-use borrow.Author.Tests.{eq-eqb, ne-eqb, lt-ltb, ltb-true, ltb-false}
+use borrow.Author.Tests.{eq-eqb, ne-eqb}
 use Rattle.tokens.specs.Written.{bytes, same}
 use Rattle.tokens.specs.Refusals.{notHere}
 use Rattle.tokens.specs.Tokens.{Tok}
@@ -22,9 +21,9 @@ use Rattle.meaning.specs.Data.{charsOf, stretched, repeatOf, times, repeated, p
 use Rattle.words.specs.declared.Cursor.{Cursor}
 use Rattle.words.specs.Cursor.{Goes, Checked}
 use Rattle.words.proofs.Flow.{then, given, checked, alike}
-use Rattle.data.specs.Filled.{countMost, Adds, timesDue, pieceDue}
-use Rattle.data.proofs.Over.{adds-none, adds-both, adds-same, adds-past}
-use Rattle.data.proofs.Stretched.{stretched-single, stretched-more, stretched-parts, length-stretched, stretched-some}
+use Rattle.data.specs.Filled.{Adds, timesDue, pieceDue}
+use Rattle.data.proofs.Over.{adds-same}
+use Rattle.data.proofs.Stretched.{stretched-single}
 
 -- ---- a word's characters
 
@@ -74,38 +73,6 @@ pub adds-alike : {before behind : List ℕ} {n m : ℕ} (k : ℕ) (w : List ℕ)
 adds-alike k [] h a = absurd (omega arith)
 adds-alike k (x ∷ []) h a = adds-same a (sym (stretched-single k x))
 adds-alike k (x ∷ y ∷ s) h a = absurd (omega arith)
-
--- as often as there is room, and the times that have none
-pub adds-no-times : {before : List ℕ} {n : ℕ} (w : List ℕ) → Adds before n (stretched 0 w) before n
-unfolding stretched
-adds-no-times w = adds-none
-
--- a time that has room is left, or else it is over
-pub goes-on : (i k m l w : ℕ) → ((ltb i k && ltb m l) && ltb 0 w) ≡ true → i < k
-goes-on i k m l w h = by (ltb i k) refl (ltb m l) (ltb 0 w) h
-  where
-    by : (x : Bool) → ltb i k ≡ x → (y z : Bool) → ((x && y) && z) ≡ true → i < k
-    by true e y z h = ltb-true i k e
-    by false e y z h = let z : _≡_ {A = ℕ} 0 1 = cc in absurd (omega arith)
-
-pub over : (i k m l w : ℕ) → ((ltb i k && ltb m l) && ltb 0 w) ≡ false → i < k → 0 < w → l ≤ m
-over i k m l w h b p = by (ltb m l) refl (rw (lt-ltb i k b, lt-ltb 0 w p) at h)
-  where
-    by : (y : Bool) → ltb m l ≡ y → (y && true) ≡ false → l ≤ m
-    by true e h = let z : _≡_ {A = ℕ} 0 1 = cc in absurd (omega arith)
-    by false e h = ltb-false m l e
-
-module _ {before behind : List ℕ} {n m : ℕ} (i : ℕ) (w : List ℕ) (a : Adds before n (stretched i w) behind m) where
-  pub adds-again : {behind′ : List ℕ} {m′ : ℕ} → Adds behind m w behind′ m′ → Adds before n (stretched (i + 1) w) behind′ m′
-  adds-again b = adds-same (adds-both a b) (stretched-more i w)
-
-  pub adds-counted : {m′ : ℕ} (k : ℕ) → i ≤ k → (i < k → 0 < length w → length behind ≤ m) → length before < countMost
-      → m′ ≡ min countMost (m + (k - i) * length w) → Adds before n (stretched k w) behind m′
-  adds-counted {m′} k h full b e =
-      let q : k ≡ i + (k - i) = omega arith in
-      adds-same
-      (adds-past (stretched (k - i) w) a (λ z. (let p = stretched-some (k - i) w z in full (omega (arith, p .0)) (p .1))) b (omega (arith, length-stretched (k - i) w)))
-      (sym (ap (λ (n : ℕ). stretched n w) q ∙ stretched-parts i (k - i) w))
 
 -- ---- which piece it is
 

@@ -1,5 +1,5 @@
 -- A word said several times: some times and then others, one time more, and how many characters that are.
-use Prim.Native.Nat.{ℕ, zero, suc, _+_, _*_, _<_}
+use Prim.Native.Nat.{ℕ, zero, suc, _+_, _*_}
 use native.Mathlib.Omega.{arith}
 use native.Mathlib.Nat.{zero-add, suc-add, zero-mul, suc-mul}
 use mathlib.Core.Path.{_≡_, refl, sym, ap, _∙_}
@@ -25,17 +25,17 @@ unfolding stretched
 length-stretched zero w = sym (zero-mul (length w))
 length-stretched (suc n) w = length-append w (stretched n w) ∙ (omega (arith, length-stretched n w, suc-mul n (length w)))
 
+-- before them or behind
+pub stretched-turn : (n : ℕ) (w : List ℕ) → w ++ stretched n w ≡ stretched n w ++ w
+unfolding stretched
+stretched-turn zero w = append-nil w
+stretched-turn (suc n) w = ap (λ (l : List ℕ). w ++ l) (stretched-turn n w) ∙ sym (append-assoc w (stretched n w) w)
+
 -- nothing, however often
-stretched-empty : (n : ℕ) → stretched n [] ≡ []
+pub stretched-empty : (n : ℕ) → stretched n [] ≡ []
 unfolding stretched
 stretched-empty zero = refl
 stretched-empty (suc n) = stretched-empty n
-
-pub stretched-some : (n : ℕ) (w : List ℕ) → 0 < length (stretched n w) → (0 < n) × (0 < length w)
-unfolding stretched
-stretched-some zero w h = absurd (omega arith)
-stretched-some (suc n) [] h = absurd (omega (arith, ap length (stretched-empty n)))
-stretched-some (suc n) (x ∷ w) h = (omega arith, omega arith)
 
 -- one character
 pub stretched-single : (n x : ℕ) → stretched n (x ∷ []) ≡ replicate n x

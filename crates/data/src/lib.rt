@@ -94,17 +94,24 @@ fn fill(buffer: &mut [u8], n: usize, k: usize, x: u8) -> usize
     counted(n, k)
 }
 
-// The word w, k times behind the first n. What has no room is counted and not copied.
+// The word w, k times behind the first n: once, and then again and again behind that, as far as there is room. What has none is counted and not copied.
 fn copies(buffer: &mut [u8], n: usize, k: usize, w: &[u8]) -> usize
     ensures { λ r. ⌜ Adds (now (buffer .entry)) n (stretched k (now (w .entry))) (now (buffer .exit)) r ⌝ }
 {
-    let mut m = n;
-    let mut i = 0;
-    while (i < k) & (m < buffer.len()) & (0 < w.len()) {
-        m = copy(buffer, m, w);
-        i += 1;
+    let len = w.len();
+    if (k == 0) | (len == 0) {
+        return n;
     }
-    counted_times(m, k - i, w.len())
+    copy(buffer, n, w);
+    let once = counted(n, len);
+    let all = counted_times(n, k, len);
+    let room = buffer.len();
+    if room <= once {
+        return all;
+    }
+    let count = fitting(room, once, all - once);
+    repeats::extend(buffer, once, len, count);
+    all
 }
 
 // A repeat spelled out: one character is the usual word.

@@ -14,7 +14,8 @@ use Rattle.meaning.proofs.Turns.{copies}
 use Rattle.walks.specs.Seen.{seen}
 use Rattle.walks.proofs.Loops.{length-copies}
 use Rattle.walks.proofs.Seen.{length-seen}
-use Rattle.rows.specs.Again.{Extends, Again}
+use Rattle.repeats.specs.Copied.{Extends}
+use Rattle.rows.specs.Again.{Again}
 use Rattle.rows.specs.declared.Walk.{Walk}
 use Rattle.rows.proofs.Repeating.{written-again}
 

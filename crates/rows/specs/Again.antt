@@ -1,29 +1,15 @@
 -- Rows of a Loop's later turns, which are those of its second turn again: what is promised of copying them.
-use Prim.Native.Nat.{ℕ, _+_, _*_, _-_, _≤_, _<_, min}
+use Prim.Native.Nat.{ℕ, _+_, _*_, _-_, min}
 use mathlib.Core.Path.{_≡_}
 use mathlib.Core.Bool.{false}
 use mathlib.Core.List.{List, _++_}
-use lib.ListN.{length, getD}
+use lib.ListN.{length}
 use Rattle.meaning.specs.Run.{Cycle}
 use Rattle.meaning.proofs.Rows.{AllWide}
 use Rattle.meaning.proofs.Turns.{copies}
 use Rattle.walks.specs.Seen.{seen}
 use Rattle.walks.specs.Written.{Written}
 use Rattle.rows.specs.declared.Walk.{Walk}
-
--- `count` bytes from one place on stand also from another on; all others are as they were
-pub record Copies (before : List ℕ) (from to count : ℕ) (after : List ℕ) : Type 0 where
-  pub copied : (i j : ℕ) → i + from ≡ j + to → to ≤ i → i < to + count → getD after i 0 ≡ getD before j 0
-  pub ahead : (i : ℕ) → i < to → getD after i 0 ≡ getD before i 0
-  pub behind : (i : ℕ) → to + count ≤ i → getD after i 0 ≡ getD before i 0
-  pub long : length after ≡ length before
-
--- of so many bytes from a place on, each is the one `step` before it; all others are as they were
-pub record Extends (before : List ℕ) (at step count : ℕ) (after : List ℕ) : Type 0 where
-  pub repeats : (i j : ℕ) → i ≡ j + step → at ≤ i → i < at + count → getD after i 0 ≡ getD after j 0
-  pub ahead : (i : ℕ) → i < at → getD after i 0 ≡ getD before i 0
-  pub behind : (i : ℕ) → at + count ≤ i → getD after i 0 ≡ getD before i 0
-  pub long : length after ≡ length before
 
 -- THE PROMISE: behind a turn l of k cycles over all signals, whose rows are the last, the rows of n more such turns, as far as rows are to be shown
 pub record Again (signals k n : ℕ) (w w′ : Walk) (before after : List ℕ) : Type 0 where

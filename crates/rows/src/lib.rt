@@ -9,7 +9,7 @@ ghost use Rattle.meaning.specs.Run.{Cycle};
 ghost use Rattle.meaning.specs.Services.{row as rowOf, rowWidth};
 ghost use Rattle.pins.specs.Shown.{valuesLength};
 ghost use Rattle.rows.specs.Went.{over as isOver, Going, spent, past as passed, Went, Cycled};
-ghost use Rattle.rows.specs.Again.{Copies, Extends, Again};
+ghost use Rattle.rows.specs.Again.{Again};
 
 // How far a window is: cycles still to pass; rows written, and rows still to show; what may still be spent on the way; is the cycle that it begins with
 // still to be reached? And the mark that stands in its rows for an unassigned pin.
@@ -118,34 +118,6 @@ pub fn cycle(values: &[u8], signals: usize, table: usize, w: Walk, buffer: &mut 
 
 // ---- rows that repeat
 
-// Bytes, to a place behind them.
-fn copy(buffer: &mut [u8], from: usize, to: usize, count: usize)
-    requires { ⌜ (from + count ≤ to) × (to + count ≤ length (now buffer)) ⌝ }
-    ensures { λ _. ⌜ Copies (now (buffer .entry)) from to count (now (buffer .exit)) ⌝ }
-{
-    let mut i = 0;
-    while i < count {
-        buffer[to + i] = buffer[from + i];
-        i += 1;
-    }
-}
-
-// The last `step` bytes before a place, again and again behind it. All that is there already is copied at once, so that the length of a run doubles.
-fn extend(buffer: &mut [u8], at: usize, step: usize, count: usize)
-    requires { ⌜ (0 < step) × (step ≤ at) × (at + count ≤ length (now buffer)) ⌝ }
-    ensures { λ _. ⌜ Extends (now (buffer .entry)) at step count (now (buffer .exit)) ⌝ }
-{
-    let mut done = 0;
-    while done < count {
-        let mut run = step + done;
-        if count - done < run {
-            run = count - done;
-        }
-        copy(buffer, at - step, at + done, run);
-        done += run;
-    }
-}
-
 // So many turns of a Loop behind one whose rows, one for each of its cycles, are the last ones: each gives those rows again.
 pub fn again(w: Walk, cycles: usize, turns: usize, signals: usize, buffer: &mut [u8]) -> Walk
     requires { ⌜ (w .walking ≡ false) × (w .pass ≡ 0) × (0 < cycles) × (cycles ≤ w .row) × (turns * cycles ≤ cyclesMost) × ((w .row + w .show) * rowWidth signals ≤ length (now buffer)) ⌝ }
@@ -156,7 +128,7 @@ pub fn again(w: Walk, cycles: usize, turns: usize, signals: usize, buffer: &mut 
     if w.show < count {
         count = w.show;
     }
-    extend(buffer, w.row * width, cycles * width, count * width);
+    repeats::extend(buffer, w.row * width, cycles * width, count * width);
     Walk {
         pass: 0,
         row: w.row + count,

@@ -1,75 +1,75 @@
--- The invariant: the word stands i times behind the first n. It ends at the last time, or where there is no room.
-use Prim.Native.Nat.{_-_, _≤_}
+-- Nothing to say; once, where the others have no room; or once and the run behind it.
 use native.Mathlib.Omega.{arith}
 use lib.ListN.{length}
-use Rattle.meaning.specs.Data.{stretched}
-use Rattle.data.specs.Filled.{Adds}
-use Rattle.data.proofs.Pieces.{adds-no-times, adds-again, adds-counted, goes-on, over}
+use Rattle.data.proofs.Over.{adds-count}
+use Rattle.data.proofs.Again.{adds-nothing, something, times-all, adds-once, adds-run}
 use borrow.Author.Needs.{needs}
 use Rattle.data.proofs.copies.Statement.{statement}
 use Rattle.data.proofs.copies.Tie as tie
 
-abbrev Inv-loop : tie.InvT-loop
-Inv-loop buffer₀ n k w m₀ i₀ buffer m i = (i ≤ k) × Adds buffer₀ n (stretched i w) buffer m
+returns : tie.Need-returns
+returns c = let start = c .before .before .before in adds-nothing (start .args .k) (start .args .w .now) (c .if1 .taken)
 
-abbrev μ-loop : tie.MeasureT-loop
-μ-loop buffer₀ n k w m₀ i₀ buffer m i = k - i
-
-loop-holds : tie.Need-loop-holds Inv-loop μ-loop
-loop-holds c = (omega arith, adds-no-times _)
-
-copy-requires : tie.Need-copy-requires Inv-loop μ-loop
+copy-requires : tie.Need-copy-requires
 copy-requires c κs = search needs
 
-add-i : tie.Need-add-i Inv-loop μ-loop
-add-i c =
-    let start = c .before .before .before .before .before .before .before .before in
-    let loop = c .before .before .before .before .before .loop in
-    let more = goes-on (loop .i) _ (loop .m) _ (length (start .args .w .now)) (c .before .before .before .before .loop-test .taken) in
-    search needs
+counted-requires : tie.Need-counted-requires
+counted-requires c κs = search needs
 
-loop-less : tie.Need-loop-less Inv-loop μ-loop
-loop-less c =
-    let start = c .before .before .before .before .before .before .before .before in
-    let loop = c .before .before .before .before .before .loop in
-    omega (arith, goes-on (loop .i) _ (loop .m) _ (length (start .args .w .now)) (c .before .before .before .before .loop-test .taken))
-
-loop-again : tie.Need-loop-again Inv-loop μ-loop
-loop-again c =
-    let start = c .before .before .before .before .before .before .before .before in
-    let loop = c .before .before .before .before .before .loop in (
-      omega (arith, goes-on (loop .i) _ (loop .m) _ (length (start .args .w .now)) (c .before .before .before .before .loop-test .taken)),
-      adds-again (loop .i) _ (loop .inv .1) (c .before .before .copy .ensures),
-    )
-
-sub-counted-times : tie.Need-sub-counted-times Inv-loop μ-loop
-sub-counted-times c = search needs
-
-counted-times-requires : tie.Need-counted-times-requires Inv-loop μ-loop
+counted-times-requires : tie.Need-counted-times-requires
 counted-times-requires c κs = search needs
 
-same-length : tie.Need-same-length Inv-loop μ-loop
-same-length c = c .before .before .loop .inv .1 .kept
+same-length : tie.Need-same-length
+same-length c = search needs
 
-returns : tie.Need-returns Inv-loop μ-loop
-returns c =
-    let loop = c .before .before .loop in
-    let start = c .before .before .before .before .before in
-    adds-counted (loop .i) (start .args .w .now) (loop .inv .1) (start .args .k) (loop .inv .0) (over (loop .i) _ (loop .m) _ (length (start .args .w .now)) (c .before .loop-test .left))
-    (omega (arith, start .good .0 .1)) (c .counted-times .ensures)
+returns-2 : tie.Need-returns-2
+returns-2 c =
+    let start = c .before .before .before .before .before .before .before .before .before .before in
+    let some = something (start .args .k) (length (start .args .w .now)) (c .before .before .before .before .before .before .before .if1 .left) in
+    let place = c .before .before .counted .ensures in
+    let once = adds-count (c .before .before .before .before .before .copy .ensures) place in
+    adds-once (start .args .k) (start .args .w .now) (some .0) once (omega (arith, start .good .0 .1)) place (c .before .counted-times .ensures) (c .if2 .taken)
+
+sub-fitting : tie.Need-sub-fitting
+sub-fitting c =
+    let start = c .before .before .before .before .before .before .before .before .before .before in
+    let some = something (start .args .k) (length (start .args .w .now)) (c .before .before .before .before .before .before .before .if1 .left) in
+    omega (arith, times-all (start .args .k) (length (start .args .w .now)) (some .0))
+
+fitting-requires : tie.Need-fitting-requires
+fitting-requires c κs = search needs
+
+extend-requires : tie.Need-extend-requires
+extend-requires c κs =
+    let start = c .before .before .before .before .before .before .before .before .before .before .before .before in
+    let some = something (start .args .k) (length (start .args .w .now)) (c .before .before .before .before .before .before .before .before .before .if1 .left) in
+    (omega (arith, some .1), omega (arith, start .good .0 .1), omega arith)
+
+same-length-2 : tie.Need-same-length-2
+same-length-2 c = search needs
+
+returns-3 : tie.Need-returns-3
+returns-3 c =
+    let start = c .before .before .before .before .before .before .before .before .before .before .before .before .before .before .before in
+    let some = something (start .args .k) (length (start .args .w .now)) (c .before .before .before .before .before .before .before .before .before .before .before .before .if1 .left) in
+    let place = c .before .before .before .before .before .before .before .counted .ensures in
+    let once = adds-count (c .before .before .before .before .before .before .before .before .before .before .copy .ensures) place in
+    let room = c .before .before .before .before .before .if2 .left in
+    adds-run (start .args .k) (start .args .w .now) (some .0) once (omega (arith, start .good .0 .1)) place (c .before .before .before .before .before .before .counted-times .ensures)
+    (omega arith) (some .1) (c .before .before .before .before .fitting .ensures) (c .before .before .extend .ensures)
 
 pub copies-spec : {M : Type 1} → statement M
 copies-spec =
     tie.close
     (tie.spec
-    Inv-loop
-    μ-loop
-    loop-holds
+    returns
     copy-requires
-    add-i
-    loop-less
-    loop-again
-    sub-counted-times
+    counted-requires
     counted-times-requires
     same-length
-    returns)
+    returns-2
+    sub-fitting
+    fitting-requires
+    extend-requires
+    same-length-2
+    returns-3)

@@ -1,10 +1,10 @@
 -- `copy` meets its contract: the bytes that are read lie before those that are written.
 use Prim.Native.Nat.{_-_, _≤_}
 use native.Mathlib.Omega.{arith}
-use Rattle.rows.specs.Again.{Copies}
-use Rattle.rows.proofs.Copying.{copies-none, copies-more, copies-all}
-use Rattle.rows.proofs.copy.Statement.{statement}
-use Rattle.rows.proofs.copy.Tie as tie
+use Rattle.repeats.specs.Copied.{Copies}
+use Rattle.repeats.proofs.Copying.{copies-none, copies-more, copies-all}
+use Rattle.repeats.proofs.copy.Statement.{statement}
+use Rattle.repeats.proofs.copy.Tie as tie
 
 abbrev Inv-loop : tie.InvT-loop
 Inv-loop buffer₀ from to count i₀ buffer i = (i ≤ count) × Copies buffer₀ from to i buffer

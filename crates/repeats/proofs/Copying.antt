@@ -10,7 +10,7 @@ use lib.Dec.{ltb}
 use lib.ListN.{length, getD, set, length-set}
 use lib.Seq.{getD-set-same, getD-set-other}
 use borrow.Author.Tests.{ltb-true, ltb-false}
-use Rattle.rows.specs.Again.{Copies, Extends}
+use Rattle.repeats.specs.Copied.{Copies, Extends}
 
 -- ---- a copy
 

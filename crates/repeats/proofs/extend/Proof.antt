@@ -3,10 +3,10 @@ use Prim.Native.Nat.{_+_, _-_, _≤_, _<_, min}
 use native.Mathlib.Omega.{arith}
 use mathlib.Core.Logic.{⊎-elim}
 use mathlib.Core.Path.{_≡_}
-use Rattle.rows.specs.Again.{Extends}
-use Rattle.rows.proofs.Copying.{Whole, extends-none, extends-more, extends-all, whole-none, whole-more}
-use Rattle.rows.proofs.extend.Statement.{statement}
-use Rattle.rows.proofs.extend.Tie as tie
+use Rattle.repeats.specs.Copied.{Extends}
+use Rattle.repeats.proofs.Copying.{Whole, extends-none, extends-more, extends-all, whole-none, whole-more}
+use Rattle.repeats.proofs.extend.Statement.{statement}
+use Rattle.repeats.proofs.extend.Tie as tie
 
 abbrev Inv-loop : tie.InvT-loop
 Inv-loop buffer₀ at step count done₀ buffer done = (done ≤ count) × Extends buffer₀ at step done buffer × (done < count → Whole at step done buffer)

@@ -1,0 +1,2 @@
+mod Copying
+pub mod Repeating
