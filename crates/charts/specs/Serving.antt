@@ -19,7 +19,7 @@ unfoldable pub toldAll : List ℕ → List ℕ
 toldAll [] = []
 toldAll (t ∷ ts) = bitsOf (uncounted t) ∷ toldAll ts
 
--- a text that no refusal of 1 to 17 meets
+-- a text that no refusal of 1 to 17 or 25 meets
 pub record Accepted (text : List ℕ) : Type 0 where
   pub meant : Meaning
   pub is : meaning text ≡ given meant

@@ -230,7 +230,7 @@ pub fn waveform(
 
 // ---- Waveforms by the list
 
-// Any text: 1 to 17, 8, 19, or what the single calls leave. There is room for what else is handed out (`spare`), or that is 19 too.
+// Any text: 1 to 17, 25, 8, 19, or what the single calls leave. There is room for what else is handed out (`spare`), or that is 19 too.
 pub fn plotted(
     text: &[u8],
     asked: &[u64],

@@ -269,7 +269,7 @@ fn across<'a>(
     list: &'a [usize],
     v: Verdict,
 ) -> Failing
-    requires { ⌜ ((w : Watch) × Found (now text) w (now places) (now lists) (now tplaces) (now waves) (now book) (now rows) (now list) v) × ⊥ ⌝ }
+    requires { ⌜ ((w : Watch) × Found (now text) w (now places) (now lists) (now tplaces) (now waves) (now book) (now rows) (now list) v) ⌝ }
     ensures { λ r. ⌜ Crosses (now (text .entry)) (now (places .entry)) (now (lists .entry)) (now (tplaces .entry)) (now (waves .entry)) (now (book .entry)) (now (rows .entry)) (now (list .entry)) v r ⌝ }
 {
     Failing {
