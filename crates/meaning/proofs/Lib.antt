@@ -17,6 +17,7 @@ pub mod Visits
 pub mod Windows
 pub mod Charts
 pub mod ChartSamples
+pub mod EdgesSamples
 pub mod Signs
 pub mod Marks
 pub mod Accepted
