@@ -8,7 +8,7 @@ use lib.ListN.{length, length-append}
 use Rattle.tokens.specs.Written.{bytes}
 use Rattle.tokens.specs.Tokens.{Tok}
 use Rattle.meaning.specs.Bounds.{signalsMost}
-use Rattle.meaning.specs.Timing.{Event, Tables}
+use Rattle.meaning.specs.Timing.{Event, Tables, Signed, plus, minus, uncounted}
 use Rattle.meaning.specs.Body.{listed as byList, Way, entered, Body, done, inner}
 use Rattle.meaning.specs.Edited.{alone}
 use Rattle.meaning.specs.Run.{cyclesOf}
