@@ -1,18 +1,20 @@
 -- Bytes behind those that were written: with room, without, and where the pen was full before.
-use Prim.Native.Nat.{ℕ, _+_, _/_, _%_, _≤_, _<_}
+use Prim.Native.Nat.{ℕ, _+_, _-_, _/_, _%_, _≤_, _<_}
 use native.Mathlib.Omega.{arith}
 use mathlib.Core.Path.{_≡_, refl, sym, ap, ap₂, _∙_, subst}
 use mathlib.Core.Bool.{Bool, true, false}
 use mathlib.Core.List.{List, [], _∷_, _++_, append-assoc}
 use lib.Dec.{leb}
 use lib.ListN.{length, take, drop, length-append}
-use borrow.Author.Tests.{leb-true, leb-false, eq-eqb, ne-eqb}
+use borrow.Author.Tests.{leb-true, leb-false, lt-ltb, le-ltb, eq-eqb, ne-eqb}
 use lib.Seq.{take-at, length-take-le, drop-append-add, drop-drop}
 use Rattle.tokens.specs.Written.{bytes}
 use Rattle.pages.specs.Pages.{decimal, Puts}
 use Rattle.pages.proofs.Laws.{puts-length}
 use Rattle.folded.specs.Layout.{timed}
-use Rattle.pens.specs.Pens.{Holds, Writes}
+use Rattle.meaning.specs.Bounds.{timeMost}
+use Rattle.meaning.specs.Timing.{plus, minus, uncounted}
+use Rattle.pens.specs.Pens.{signedTimed, Holds, Writes}
 use Rattle.pens.specs.declared.Pen.{Pen}
 
 pub absurd-full : {A : Type 0} {b : Bool} → b ≡ true → b ≡ false → A
@@ -97,3 +99,16 @@ time-ns n e = sym (ap (λ (b : Bool). elim b as (λ c. List ℕ) [ true ↦ deci
 pub time-ps : (n : ℕ) → (n % 1000 ≡ 0 → ⊥) → decimal n ++ 112 ∷ 115 ∷ [] ≡ timed n
 unfolding timed bytes
 time-ps n e = sym (ap (λ (b : Bool). elim b as (λ c. List ℕ) [ true ↦ decimal (n / 1000) ++ bytes "ns" | false ↦ decimal n ++ bytes "ps" ]) (ne-eqb (n % 1000) 0 e))
+
+-- ---- with a sign
+
+as-written : ℕ → Bool → List ℕ
+as-written t b = signedTimed (elim b [ true ↦ minus (timeMost - t) | false ↦ plus (t - timeMost) ])
+
+pub signed-before : (t : ℕ) → t < timeMost → 45 ∷ timed (timeMost - t) ≡ signedTimed (uncounted t)
+unfolding signedTimed uncounted as-written
+signed-before t h = ap (as-written t) (sym (lt-ltb t timeMost h))
+
+pub signed-behind : (t : ℕ) → timeMost ≤ t → timed (t - timeMost) ≡ signedTimed (uncounted t)
+unfolding signedTimed uncounted as-written
+signed-behind t h = ap (as-written t) (sym (le-ltb t timeMost h))

@@ -156,7 +156,7 @@ pub fn name(text: &[u8], table: bool, number: usize) -> Located
 
 // ---- Waveform
 
-// The events of a table, signal and character, to the front of two arrays: 1 to 18, or how many there are.
+// The events of a table, signal and character, to the front of two arrays, their times as they are counted: 1 to 18, or how many there are.
 pub fn events(
     text: &[u8],
     table: usize,
@@ -203,7 +203,7 @@ pub fn events(
     }
 }
 
-// The waveform of a table, signal and character: its events' times in ps and their letters, to the front of both buffers.
+// The waveform of a table, signal and character: its events' times in ps, each the 64 bits of a signed number, and their letters, to the front of both buffers.
 pub fn waveform(
     text: &[u8],
     table: usize,

@@ -110,7 +110,7 @@ pub extern "C" fn lutemeteor_window(
     }
 }
 
-// Waveform: times in ps and letters, and how many events there are. A buffer without room for its part is 19.
+// Waveform: times in ps, each the 64 bits of a signed number, and letters, and how many events there are. A buffer without room for its part is 19.
 #[no_mangle]
 pub extern "C" fn lutemeteor_waveform(
     text: &[u8],

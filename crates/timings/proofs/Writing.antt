@@ -7,17 +7,17 @@ use mathlib.Core.List.{List, [], _∷_, _++_, append-assoc, append-nil}
 use lib.ListN.{length, getD, take, drop, length-take, drop-of-length-le}
 use lib.Seq.{take-suc}
 use Rattle.tokens.specs.Written.{bytes}
-use Rattle.meaning.specs.Timing.{Event, Wave}
+use Rattle.meaning.specs.Timing.{Event, Wave, Signed, plus, minus, uncounted}
 use Rattle.meaning.specs.Bounds.{entryMost}
-use Rattle.meaning.specs.Services.{timesOf, lettersOf}
-use Rattle.waves.specs.Waves.{Reads}
+use Rattle.meaning.specs.Services.{lettersOf}
+use Rattle.waves.specs.Waves.{countsOf, Reads}
 use Rattle.waves.proofs.Fronts.{times-front, letters-front}
-use Rattle.folded.specs.Pieces.{Piece, only, word, laid, each, lf, closing}
+use Rattle.folded.specs.Pieces.{Piece, only, word, laid, each, lf, quote, semicolon, closing}
 use Rattle.meaning.specs.Meaning.{firsts}
 use Rattle.words.specs.Table.{nameOf, namesFrom, names}
 use Rattle.folded.specs.Flat.{Entries, Chart, chart, chartsFrom, upFrom, characters, entriesOf}
-use Rattle.folded.specs.Layout.{timed, eventPut, entryPut, chartPut}
-use Rattle.pens.specs.Pens.{Writes}
+use Rattle.folded.specs.Layout.{timed, timePut, eventPut, entryPut, chartPut}
+use Rattle.pens.specs.Pens.{signedTimed, Writes}
 use Rattle.pens.proofs.Laws.{writes-both, writes-same}
 use Rattle.pens.specs.declared.Pen.{Pen}
 use Rattle.folds.proofs.Laws.{writes-nothing, laid-behind, laid-more}
@@ -34,9 +34,14 @@ module _ {X : Type 0} (put : X → List Piece → List Piece) (own : (x : X) (k 
       laid-behind put own xs (tail k) ∙ ap (λ (l : List ℕ). laid (each put xs []) ++ l) (h k) ∙ sym (append-assoc (laid (each put xs [])) (laid (tail [])) (laid k))
       ∙ ap (λ (l : List ℕ). l ++ laid k) (sym (laid-behind put own xs (tail [])))
 
+own-time : (s : Signed) (l : ℕ) (k : List Piece) → laid (timePut s (word (l ∷ []) semicolon ∷ k)) ≡ laid (timePut s (word (l ∷ []) semicolon ∷ [])) ++ laid k
+unfolding laid timePut
+own-time (plus n) l k = simp append-assoc
+own-time (minus n) l k = simp append-assoc
+
 own-event : (x : Event) (k : List Piece) → laid (eventPut x k) ≡ laid (eventPut x []) ++ laid k
 unfolding laid eventPut
-own-event x k = simp append-assoc
+own-event x k = ap (λ (l : List ℕ). quote ∷ l) (own-time (uncounted (x .time)) (x .letter) k)
 
 own-entry : (x : ℕ × List Event) (k : List Piece) → laid (entryPut x k) ≡ laid (entryPut x []) ++ laid k
 unfolding laid entryPut
@@ -50,10 +55,15 @@ own-chart x k =
 
 -- ---- 'T'E;
 
-pub event-writes : {a b d e : List ℕ} {p q s r : Pen} (t : ℕ) {l : ℕ} → Writes a p (39 ∷ []) b q → Writes b q (timed t) d s → Writes d s (39 ∷ l ∷ 59 ∷ []) e r
+event-line : (s : Signed) (l : ℕ) → ((39 ∷ []) ++ signedTimed s) ++ (39 ∷ l ∷ 59 ∷ []) ≡ quote ∷ laid (timePut s (word (l ∷ []) semicolon ∷ []))
+unfolding laid timePut signedTimed
+event-line (plus n) l = refl
+event-line (minus n) l = refl
+
+pub event-writes : {a b d e : List ℕ} {p q s r : Pen} (t : ℕ) {l : ℕ} → Writes a p (39 ∷ []) b q → Writes b q (signedTimed (uncounted t)) d s → Writes d s (39 ∷ l ∷ 59 ∷ []) e r
     → Writes a p (laid (eventPut (record { time = t; letter = l }) [])) e r
 unfolding laid eventPut
-event-writes t f g h = writes-both (writes-both f g) h
+event-writes t {l} f g h = writes-same (event-line (uncounted t) l) (writes-both (writes-both f g) h)
 
 -- ---- the first events, of times and letters in two arrays
 
@@ -62,8 +72,8 @@ joined [] ls = []
 joined (t ∷ ts) [] = []
 joined (t ∷ ts) (l ∷ ls) = record { time = t; letter = l } ∷ joined ts ls
 
-pub joined-all : (es : List Event) → joined (timesOf es) (lettersOf es) ≡ es
-unfolding joined timesOf lettersOf
+pub joined-all : (es : List Event) → joined (countsOf es) (lettersOf es) ≡ es
+unfolding joined countsOf lettersOf
 joined-all [] = refl
 joined-all (e ∷ es) = ap (λ (l : List Event). e ∷ l) (joined-all es)
 

@@ -36,7 +36,7 @@ fn event(page: &mut [u8], pen: Pen, time: u64, letter: u8) -> Pen
     ensures { λ r. ⌜ Writes (now (page .entry)) pen (laid (eventPut (record { time = time; letter = letter }) [])) (now (page .exit)) r ⌝ }
 {
     let p = pens::add(page, pen, b"'");
-    let q = pens::add_time(page, p, time);
+    let q = pens::add_signed(page, p, time);
     let tail = [b'\'', letter, b';'];
     pens::add(page, q, &tail)
 }
