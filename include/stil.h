@@ -163,7 +163,8 @@ uint64_t lutemeteor_window(const uint8_t *text, size_t length, uint64_t first, u
 /*
  * Waveform: the events of a character, as it stands in rows, for a signal in a table, both by their numbers.
  *
- *   times[i]     when the i-th event comes, in picoseconds from the start of the cycle; the order is the text's
+ *   times[i]     when the i-th event comes, in picoseconds from the start of the cycle, negative before it: -1,000,000,000
+ *                to 1,000,000,000; the order is the text's
  *   letters[i]   its letter: D U Z P drive the pin, L H X T l h x compare it
  *   count[0]     how many events there are, 1 to 16
  *
@@ -171,7 +172,7 @@ uint64_t lutemeteor_window(const uint8_t *text, size_t length, uint64_t first, u
  * events (16 are always enough), or `count_room` is 0.
  */
 uint64_t lutemeteor_waveform(const uint8_t *text, size_t length, uint64_t table, uint64_t signal, uint8_t character,
-                             uint64_t *times, size_t times_room, uint8_t *letters, size_t letters_room,
+                             int64_t *times, size_t times_room, uint8_t *letters, size_t letters_room,
                              uint64_t *count, size_t count_room);
 
 /*
@@ -180,7 +181,7 @@ uint64_t lutemeteor_waveform(const uint8_t *text, size_t length, uint64_t table,
  *
  *   asked        three numbers for each waveform: its table, its signal and its character. A character above 255, and one
  *                or two numbers left over at the end, count as a waveform that the text doesn't have
- *   times        the events' times, one group behind the other
+ *   times        the events' times, signed as those of lutemeteor_waveform, one group behind the other
  *   letters      their letters, in the same places
  *   counts[i]    how many events the i-th waveform of the list has
  *   numbers[0]   where the answer is 0, how many events there are in all
@@ -194,7 +195,7 @@ uint64_t lutemeteor_waveform(const uint8_t *text, size_t length, uint64_t table,
  *   numbers[0]   is how many waveforms were served
  */
 uint64_t lutemeteor_waveforms(const uint8_t *text, size_t length, const uint64_t *asked, size_t asked_length,
-                              uint64_t *times, size_t times_room, uint8_t *letters, size_t letters_room,
+                              int64_t *times, size_t times_room, uint8_t *letters, size_t letters_room,
                               uint64_t *counts, size_t counts_room, uint64_t *numbers, size_t numbers_room);
 
 /*
