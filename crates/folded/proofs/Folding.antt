@@ -11,7 +11,8 @@ use borrow.Author.Tests.{le-leb}
 use Rattle.tokens.specs.Written as Written
 use Rattle.tokens.specs.Bytes.{blank}
 use Rattle.tokens.specs.Refusals.{textMost, notHere}
-use Rattle.tokens.specs.Tokens.{Tok, Toks, stop, toks, faultIn, faultOf}
+use Rattle.tokens.specs.Tokens.{Tok, Toks, stop, toks, faultOf}
+use Rattle.tokens.proofs.Faults.{short-clean}
 use Rattle.meaning.specs.Bounds.{patternsMost, sizeMost, cyclesMost}
 use Rattle.meaning.specs.Reader.{ok}
 use Rattle.meaning.specs.Names.{isSome}
@@ -25,6 +26,7 @@ use Rattle.meaning.specs.Meaning.{Answer, given, refused, answering, runOf, has
 use Rattle.meaning.specs.Services.{waveOf}
 use Rattle.held.proofs.Parts.{parts as doc-parts}
 use Rattle.meaning.proofs.Rows.{rows-are-cycles}
+use Rattle.meaning.proofs.Listed.{length-firsts}
 use Rattle.folded.specs.Flat.{Row, rowsOf, directed, Chart, Sheet, sheets, chartsFrom, listedRows, partedAll, linesOf, patternsOf, flat}
 use Rattle.folded.specs.Layout.{namesOf, sheetNames, signalsPut, pieces, written}
 use Rattle.folded.specs.Fold.{foldedMost}
@@ -46,7 +48,7 @@ use Rattle.folded.proofs.RunBack.{RunIs, run-back, placeless-rows, plac
 use Rattle.folded.proofs.GoodRows.{GoodRow, SoundTables, tables-sound, rows-fair}
 use Rattle.folded.proofs.FlatGood.{listed-new, patterns-good, all-lines, lines-length}
 use Rattle.folded.proofs.Sizes.{run-fits}
-use Rattle.folded.proofs.Source.{Source, length-firsts, at-signals}
+use Rattle.folded.proofs.Source.{Source, at-signals}
 use Rattle.folded.proofs.Directions.{signals-took, directions-read, behind-version}
 use Rattle.folded.proofs.Again.{charts-alike, parted-again, run-listed}
 
@@ -161,10 +163,6 @@ playing-rows tabs (c ∷ cs) (x ∷ xs) e h =
     rw (p, firstFailing) (playing-rows tabs cs xs b (h .1))
 
 -- ---- what makes a text accepted
-
-clean-text : (text : List ℕ) → length text ≤ textMost → faultIn (toks text 0) ≡ none → faultOf text ≡ none
-unfolding faultOf
-clean-text text h e = rw (le-leb (length text) textMost h, faultOf) e
 
 abbrev pub meaningOf : Read → Body → Meaning
 meaningOf d r = record { signals = firsts (d .signals); tables = d .tables; listed = length (d .listed); run = r }
@@ -306,7 +304,7 @@ module _ (text : List ℕ) (m : Meaning) (s : Source text m) (few : length (patt
 
   module _ (fits : length bytes ≤ textMost) where
     clean : faultOf bytes ≡ none
-    clean = clean-text bytes fits (no-fault (words (pieces (flat text m))) (toks bytes 0) spelled)
+    clean = short-clean bytes fits (no-fault (words (pieces (flat text m))) (toks bytes 0) spelled)
 
     run-fitting : fitting (run-is .run) ≡ true
     unfolding fitting flat

@@ -34,7 +34,7 @@ pub record Accepted (text : List ℕ) (m : Meaning) : Type 0 where
   pub listed : length (doc .listed) ≡ m .listed
 
 -- a refusal is no meaning
-never : {A : Type 0} {B : Type 0} {n p : ℕ} {a : A} → _≡_ {A = Answer A} (refused n p) (given a) → B
+pub never : {A : Type 0} {B : Type 0} {n p : ℕ} {a : A} → _≡_ {A = Answer A} (refused n p) (given a) → B
 never e = let z : _≡_ {A = ℕ} 0 1 = cc in absurd (omega arith)
 
 module _ (text : List ℕ) (m : Meaning) (clean : faultOf text ≡ none) (d : Read) (ts : Toks) (read : document (toks text 0) ≡ ok d ts) where
