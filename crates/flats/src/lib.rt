@@ -19,8 +19,8 @@ use pens::Pen;
 use stretches::Folding;
 use stretches::TAIL;
 use texts::PATTERNS;
-use texts::TEXT_MOST;
 use texts::Verdict;
+use tokens::TEXT_MOST;
 use verdicts::NO_ROOM;
 use verdicts::NOT_PLAYABLE;
 
@@ -61,16 +61,6 @@ pub enum Folded {
 }
 
 // ---- the Patterns
-
-// The smaller of two.
-fn least(a: usize, b: usize) -> usize
-    ensures { λ r. ⌜ r ≡ min a b ⌝ }
-{
-    if a < b {
-        return a;
-    }
-    b
-}
 
 // So many cycles of the run from the cycle `first` on, folded.
 fn window<'a>(
@@ -160,7 +150,7 @@ fn pattern<'a>(
     let mut f = stretches::begin(page, pen, i);
     let mut done = 0;
     while done < count {
-        let due = least(most, count - done);
+        let due = sets::least(most, count - done);
         f = window(
             page,
             f,
