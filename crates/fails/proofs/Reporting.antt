@@ -9,19 +9,18 @@ use lib.Dec.{leb}
 use lib.ListN.{length}
 use borrow.Author.Tests.{le-leb, lt-leb, leb-true}
 use Rattle.tokens.specs.Tokens.{Tok, Toks, toks}
-use Rattle.meaning.specs.Bounds.{sizeMost, cyclesMost}
+use Rattle.tokens.proofs.Bools.{never}
 use Rattle.meaning.specs.Refusals.{noRoom}
 use Rattle.meaning.specs.Reader.{Res, ok}
 use Rattle.meaning.specs.Names.{find}
-use Rattle.meaning.specs.Run.{size, cycles}
+use Rattle.meaning.specs.Run.{cycles}
 use Rattle.meaning.specs.Statements.{Decl, Decls, Env, numbered}
 use Rattle.meaning.specs.Document.{Read, document}
-use Rattle.meaning.specs.Meaning.{Answer, given, refused, answering, fitting, Meaning, meaning}
+use Rattle.meaning.specs.Meaning.{Answer, given, refused, answering, Meaning, meaning}
 use Rattle.words.specs.Cursor.{span}
 use Rattle.words.specs.Table.{nameOf, namesFrom, names, named}
 use Rattle.signals.specs.Names.{listAt}
 use Rattle.timing.specs.declared.Watch.{Watch}
-use Rattle.arguments.proofs.Lists.{both}
 use Rattle.bursts.specs.Listed.{listedIn}
 use Rattle.texts.specs.Texts.{sound}
 use Rattle.texts.specs.Tables.{Found}
@@ -29,12 +28,9 @@ use Rattle.texts.specs.declared.Verdict.{Verdict}
 use Rattle.texts.proofs.Sounds.{sound-runs}
 use Rattle.verdicts.specs.declared.Unfit.{Unfit}
 use Rattle.heads.specs.declared.Known.{Known}
-use Rattle.sections.specs.Listing.{Short}
 use Rattle.index.specs.Index.{Line, linesFrom, linesOf, indexOf}
-use Rattle.index.specs.Lines.{Lists, blocksIn}
-use Rattle.index.proofs.Names.{listed-few}
+use Rattle.index.specs.Lines.{blocksIn}
 use Rattle.labels.specs.Table.{Held}
-use Rattle.labels.proofs.Laws.{never}
 use Rattle.references.specs.References.{pastBy, past}
 use Rattle.references.specs.Filled.{noted}
 use Rattle.reports.specs.Report.{Record, Report, reported, Fail, notInPattern, answeredOf, answeredAll}
@@ -206,24 +202,6 @@ unfolding fails telling sparedTold
 fails-refused text report spare e = reports-refused (rw (meaning-refused text e))
 
 module _ {w : Watch} {text places lists tplaces waves book rows list : List ℕ} {v : Verdict} (f : Found text w places lists tplaces waves book rows list v) where
-  few-cycles : cycles 0 (f .it .run) ≤ cyclesMost
-  unfolding fitting
-  few-cycles =
-      let k = both (leb (size (f .it .run)) sizeMost) (leb (cycles 0 (f .it .run)) cyclesMost) (sound-runs text (f .is) .fits) in
-      leb-true (cycles 0 (f .it .run)) cyclesMost (k .1)
-
-  pub lists-are : Lists text book list (v .parts .listed) (v .parts .patterns) (f .it .read .patterns) (f .it .run)
-  lists-are = record {
-    book-long = f .tabled .describes .book-long;
-    patterns-are = f .tabled .patterns-are;
-    counted = f .tabled .patterns-counted;
-    few = f .tabled .few-patterns;
-    few-listed = f .tabled .few-listed;
-    short = subst Short (f .tabled .listed-are) (listed-few .all _ _ _ (f .tabled .parts .burst-read));
-    run-is = rw (f .tabled .listed-are) at (sound-runs text (f .is) .run-is);
-    fits = few-cycles;
-  }
-
   abbrev lines : List Line
   lines = linesFrom 0 (blocksIn text (f .it .read .patterns)) (listedIn text list (v .parts .listed))
 

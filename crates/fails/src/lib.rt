@@ -24,15 +24,14 @@ ghost use Rattle.fails.specs.Written.{PutsOne, WritesOffsets, WritesReco
 ghost use Rattle.fails.specs.Referred.{SomePattern, Blank, Refers};
 ghost use Rattle.fails.specs.Service.{rowsOf, sparedTold, Reports, Answering};
 use heads::Known;
+use measures::DEPTH;
 use references::Before;
 use verdicts::NO_ROOM;
 use words::Cursor;
 
-const DEPTH: usize = 8;
-
 const NOT_IN_PATTERN: u8 = 24;
 
-const CYCLES_MOST: u64 = 1_099_511_627_776;
+const CYCLES_MOST: u64 = measures::CYCLES_MOST as u64;
 
 // How often a pattern is listed, 2 for more than once; the run's cycle at which it begins the last time, and how many it has.
 struct Times {

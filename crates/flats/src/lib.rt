@@ -19,8 +19,8 @@ use pens::Pen;
 use stretches::Folding;
 use stretches::TAIL;
 use texts::PATTERNS;
-use texts::TEXT_MOST;
 use texts::Verdict;
+use tokens::TEXT_MOST;
 use verdicts::NO_ROOM;
 
 // Bytes of a window: many rows, since each window reads the text anew.
@@ -60,16 +60,6 @@ pub enum Folded {
 }
 
 // ---- the Patterns
-
-// The smaller of two.
-fn least(a: usize, b: usize) -> usize
-    ensures { λ r. ⌜ r ≡ min a b ⌝ }
-{
-    if a < b {
-        return a;
-    }
-    b
-}
 
 // So many cycles of the run from the cycle `first` on, folded.
 fn window<'a>(
@@ -159,7 +149,7 @@ fn pattern<'a>(
     let mut f = stretches::begin(page, pen, i);
     let mut done = 0;
     while done < count {
-        let due = least(most, count - done);
+        let due = sets::least(most, count - done);
         f = window(
             page,
             f,

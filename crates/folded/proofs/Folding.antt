@@ -11,7 +11,8 @@ use borrow.Author.Tests.{le-leb}
 use Rattle.tokens.specs.Written as Written
 use Rattle.tokens.specs.Bytes.{blank}
 use Rattle.tokens.specs.Refusals.{textMost, notHere}
-use Rattle.tokens.specs.Tokens.{Tok, Toks, stop, toks, faultIn, faultOf}
+use Rattle.tokens.specs.Tokens.{Tok, Toks, stop, toks, faultOf}
+use Rattle.tokens.proofs.Faults.{short-clean}
 use Rattle.meaning.specs.Bounds.{patternsMost, sizeMost, cyclesMost}
 use Rattle.meaning.specs.Reader.{ok}
 use Rattle.meaning.specs.Names.{isSome}
@@ -29,7 +30,7 @@ use Rattle.meaning.proofs.Rows.{rows-are-cycles}
 use Rattle.meaning.proofs.Everywhere.{runs}
 use Rattle.meaning.proofs.Depth.{patterns-within}
 use Rattle.edges.proofs.Parted.{SameTables}
-use Rattle.meaning.proofs.Accepted.{length-firsts}
+use Rattle.meaning.proofs.Listed.{length-firsts}
 use Rattle.folded.specs.Flat.{Row, rowsOf, directed, Chart, Sheet, sheets, chartsFrom, listedRows, partedAll, linesOf, patternsOf, flat}
 use Rattle.folded.specs.Layout.{namesOf, sheetNames, signalsPut, pieces, written}
 use Rattle.folded.specs.Fold.{foldedMost}
@@ -167,10 +168,6 @@ playing-rows tabs (c ∷ cs) (x ∷ xs) e h =
     rw (p, firstFailing) (playing-rows tabs cs xs b (h .1))
 
 -- ---- what makes a text accepted
-
-clean-text : (text : List ℕ) → length text ≤ textMost → faultIn (toks text 0) ≡ none → faultOf text ≡ none
-unfolding faultOf
-clean-text text h e = rw (le-leb (length text) textMost h, faultOf) e
 
 judged-so : (d : Read) (r : Body) → fitting r ≡ true → firstFailing (d .tables) (cyclesOf (length (d .signals)) r) ≡ none
     → firstInRun (d .tables) (length (firsts (d .signals))) r ≡ none → judged d r ≡ given (meaningOf d r)
@@ -315,7 +312,7 @@ module _ (text : List ℕ) (m : Meaning) (s : Source text m) (few : length (patt
 
   module _ (fits : length bytes ≤ textMost) where
     clean : faultOf bytes ≡ none
-    clean = clean-text bytes fits (no-fault (words (pieces (flat text m))) (toks bytes 0) spelled)
+    clean = short-clean bytes fits (no-fault (words (pieces (flat text m))) (toks bytes 0) spelled)
 
     run-fitting : fitting (run-is .run) ≡ true
     unfolding fitting flat

@@ -15,7 +15,7 @@ use Rattle.meaning.specs.Names.{among}
 use Rattle.meaning.specs.Signals.{directions}
 use Rattle.meaning.specs.Timing.{Event, Wave, Table, Signed, plus, minus, uncounted, drives, compares, eventLetter}
 use Rattle.meaning.specs.Body.{Assigns}
-use Rattle.meaning.proofs.Others.{same-is}
+use Rattle.meaning.proofs.Others.{same-eq}
 use Rattle.meaning.proofs.Signs.{amount, amount-most}
 use Rattle.folded.specs.Pieces.{Piece, word, only, each, lf, space, quote, dash, semicolon, equals, opening, closing}
 use Rattle.folded.specs.Flat.{Entries, Chart, Sheet, Line, chooses, repeats, Flat}
@@ -104,9 +104,9 @@ unfolding among directions bytes isProper allWordy wordy letter digit between
 direction-proper w h = by (same w (bytes "In")) refl (same w (bytes "Out")) refl (same w (bytes "InOut")) refl h
   where
     by : (a : Bool) → same w (bytes "In") ≡ a → (b : Bool) → same w (bytes "Out") ≡ b → (c : Bool) → same w (bytes "InOut") ≡ c → (a || (b || (c || false))) ≡ true → Proper w
-    by true p b q c r h = subst Proper (sym (same-is w (bytes "In") p)) (said (bytes "In") refl)
-    by false p true q c r h = subst Proper (sym (same-is w (bytes "Out") q)) (said (bytes "Out") refl)
-    by false p false q true r h = subst Proper (sym (same-is w (bytes "InOut") r)) (said (bytes "InOut") refl)
+    by true p b q c r h = subst Proper (sym (same-eq w (bytes "In") p)) (said (bytes "In") refl)
+    by false p true q c r h = subst Proper (sym (same-eq w (bytes "Out") q)) (said (bytes "Out") refl)
+    by false p false q true r h = subst Proper (sym (same-eq w (bytes "InOut") r)) (said (bytes "InOut") refl)
     by false p false q false r h = absurd (let z : _≡_ {A = ℕ} 0 1 = cc in omega arith)
 
 good-signal : (before : List Directed) (x : Directed) (k : List Piece) → NewSignal before x → Good k → Good (signalPut x k)

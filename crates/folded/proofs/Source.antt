@@ -1,25 +1,26 @@
 -- All that an accepted text tells of what is written: names, tables, rows.
-use Prim.Native.Nat.{ℕ, suc, _≤_}
+use Prim.Native.Nat.{ℕ, _≤_}
 use mathlib.Core.Path.{_≡_, refl, sym, ap, _∙_, subst}
 use mathlib.Core.Option.{none}
-use mathlib.Core.List.{List, [], _∷_, _++_, append-nil}
+use mathlib.Core.List.{List, [], _∷_, _++_}
 use lib.ListN.{length}
-use Rattle.tokens.specs.Tokens.{Tok, Toks, toks}
+use Rattle.tokens.specs.Tokens.{Toks, toks}
 use Rattle.meaning.specs.Bounds.{depthMost}
 use Rattle.meaning.specs.Reader.{ok, give}
 use Rattle.meaning.specs.Signals.{signals}
 use Rattle.meaning.specs.Groups.{groups}
-use Rattle.meaning.specs.Body.{listed, entered, Body, inner, depth}
+use Rattle.meaning.specs.Body.{listed, Body, depth}
 use Rattle.meaning.specs.Statements.{Env}
 use Rattle.meaning.specs.Document.{Read}
-use Rattle.meaning.specs.Run.{Cycle, entering, follow, playing, play, shiftOf, start, cyclesOf, alone}
+use Rattle.meaning.specs.Run.{Cycle, play, cyclesOf, alone}
 use Rattle.meaning.specs.Edges.{firstInRun}
-use Rattle.meaning.specs.Meaning.{given, firstFailing, firsts, Meaning, meaning}
+use Rattle.meaning.specs.Meaning.{given, firstFailing, Meaning, meaning}
 use Rattle.meaning.proofs.Gives.{bind-go}
 use Rattle.meaning.proofs.Rows.{every-cycle-wide}
-use Rattle.meaning.proofs.Accepted.{length-firsts, accepted}
+use Rattle.meaning.proofs.Accepted.{accepted}
 use Rattle.meaning.proofs.Depth.{patterns-within}
 use Rattle.meaning.proofs.Everywhere.{Every, Runs, no-more, one-more, runs}
+use Rattle.meaning.proofs.Listed.{cycles-listed, length-firsts}
 use Rattle.held.proofs.Rest.{moving, moves-leaves, moves-bind, moves-due, leaves-option}
 use Rattle.held.proofs.Grammar.{moves-signals, moves-groups}
 use Rattle.held.proofs.Parts.{Parts, parts}
@@ -44,10 +45,6 @@ pub rows-++ : (cs ds : List Cycle) → rowsOf (cs ++ ds) ≡ rowsOf cs ++ rowsOf
 unfolding rowsOf
 rows-++ [] ds = refl
 rows-++ (c ∷ cs) ds = ap (λ (l : List Row). rowOf c ∷ l) (rows-++ cs ds)
-
-cycles-listed : (n : ℕ) (b r : Body) → cyclesOf n (inner (entered listed 0 []) b r) ≡ cyclesOf n (alone b) ++ cyclesOf n r
-unfolding cyclesOf alone play playing entering follow shiftOf
-cycles-listed n b r = ap (λ (l : List Cycle). l ++ play 0 r (start n) .1) (sym (append-nil (entering listed [] (play 0 b) (start n) .1)))
 
 rows-listed : {P : Body → Type 0} (n : ℕ) {r : Body} → Runs P r → concat (listedRows n r) ≡ rowsOf (cyclesOf n r)
 unfolding listedRows concat cyclesOf play rowsOf

@@ -7,7 +7,7 @@ use mathlib.Core.Option.{Option, none, some}
 use mathlib.Core.List.{List, [], _∷_, _++_}
 use lib.Dec.{leb}
 use lib.ListN.{length, length-append}
-use borrow.Author.Tests.{leb-true, leb-false}
+use borrow.Author.Tests.{leb-true, leb-false, not-false}
 use Rattle.tokens.specs.Written.{bytes, same}
 use Rattle.tokens.specs.Tokens.{Tok, Toks}
 use Rattle.meaning.specs.Bounds.{entryMost, tablesMost, timeMost}
@@ -16,7 +16,7 @@ use Rattle.meaning.specs.Names.{isName, find, oldName, within}
 use Rattle.meaning.specs.Signals.{Names}
 use Rattle.meaning.specs.Timing.{Event, Wave, Table, Tables, quoted, countedMost, signedQuoted, drives, compares, eventLetter, letterDue, alternative, letters, spread, rises, addEvents, Events, oneEvent, event, waveChar, allChars, blanks, wavesOf, wavesFor, entry, waveforms, table, timing}
 use Rattle.meaning.specs.Refusals.{tooMany}
-use Rattle.meaning.proofs.Gives.{bind-ok, known-ok, no-not}
+use Rattle.meaning.proofs.Gives.{bind-ok, known-ok}
 use Rattle.meaning.proofs.Signs.{gives-signed}
 use Rattle.held.proofs.Rest.{moves-leaves, moves-due}
 use Rattle.held.proofs.Grammar.{moves-table}
@@ -213,7 +213,7 @@ module _ (n : ℕ) where
       leads-bind _ _ λ e ys y. leads-bind _ _ λ es zs z.
       let first = event-reads (length (t .word)) (blanks (t .word), 0) xs (record { each = each-blank (t .word); few = omega arith }) .all e ys y in
       let all = leads-until SomeEvents (event (length (t .word))) (λ s ts i. event-reads (length (t .word)) s ts (i .0)) (λ s us ts r i. i) "}" e ys first .all es zs z in
-      leads-give _ (sound-++ n ws _ g (sound-for n (es .1) ss (t .word) (es .0) b (no-not _ f) (all .1) (all .0 .each)))
+      leads-give _ (sound-++ n ws _ g (sound-for n (es .1) ss (t .word) (es .0) b (not-false _ f) (all .1) (all .0 .each)))
 
   below-tidy : {ss : List ℕ} → TidyBelow n ss → Below n ss
   below-tidy bare = tt

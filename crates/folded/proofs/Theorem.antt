@@ -18,7 +18,7 @@ use Rattle.meaning.specs.Run.{Cycle, cycles, cyclesOf, visits}
 use Rattle.meaning.specs.Meaning.{Answer, given, refused, answering, tableAt, Meaning, meaningOf, meaning}
 use Rattle.meaning.specs.Services.{Window, window, windowOf, rowsOut, rowsDue, widthOf, rowWidth, windowRows, badMark, row, rows, Waveform, waveform, waveOf, eventsOut}
 use Rattle.meaning.proofs.Rows.{rows-are-cycles}
-use Rattle.meaning.proofs.Accepted.{length-firsts}
+use Rattle.meaning.proofs.Listed.{length-firsts}
 use Rattle.folded.specs.Flat.{Flat, patternsOf, flat}
 use Rattle.folded.specs.Layout.{written}
 use Rattle.folded.specs.Fold.{foldedMost, manyPatterns, manyCycles, Folded, foldedIn, folded, fold}

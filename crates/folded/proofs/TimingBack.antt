@@ -2,7 +2,7 @@
 use Prim.Native.Nat.{ℕ, suc, _≤_, _<_}
 use native.Mathlib.Omega.{arith}
 use mathlib.Core.Path.{_≡_, refl, sym, ap, _∙_}
-use mathlib.Core.Bool.{Bool, true, false, _&&_, _||_}
+use mathlib.Core.Bool.{Bool, true, false, _&&_, _||_, or-false}
 use mathlib.Core.Option.{none, some}
 use mathlib.Core.List.{List, [], _∷_, _++_, append-assoc, append-nil}
 use lib.Dec.{leb, eqb}
@@ -37,10 +37,6 @@ eqb-sym a b = by (eqb b a) refl
     by : (t : Bool) → eqb b a ≡ t → eqb a b ≡ t
     by true e = eq-eqb a b (sym (eqb-true b a e))
     by false e = ne-eqb a b (λ q. eqb-false b a e (sym q))
-
-pub or-false : (b : Bool) → (b || false) ≡ b
-or-false true = refl
-or-false false = refl
 
 -- ---- 'T'
 

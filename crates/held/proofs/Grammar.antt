@@ -6,7 +6,7 @@ use mathlib.Core.List.{List, []}
 use lib.Dec.{leb}
 use Rattle.tokens.specs.Tokens.{Tok, left}
 use Rattle.meaning.specs.Bounds.{depthMost, entryMost, bracketsMost}
-use Rattle.meaning.specs.Reader.{Reader, ahead, isWord}
+use Rattle.meaning.specs.Reader.{Reader, _>>=_, _>>_, due, ahead, isWord}
 use Rattle.meaning.specs.Signals.{Names, signal, signals, signalsUpTo, signalUpTo}
 use Rattle.meaning.specs.Groups.{term, sign, joined, more, terms, bracket, expression, group, groups, groupsUpTo, groupUpTo}
 use Rattle.meaning.specs.Timing.{Wave, Tables, quoted, Signed, timeOf, signedQuoted, letterDue, alternative, letters, Events, oneEvent, event, entry, waveforms, table, timing}
@@ -22,6 +22,9 @@ use Rattle.held.proofs.Rest.{Leaves, Moves, moving, moves-leaves, moves
 pub moves-signal : (ns : Names) → Moves (signal ns)
 unfolding signalUpTo
 moves-signal ns = search moving depth 9
+
+pub opening-moves : Moves (do due "STIL"; due "1.0"; due ";")
+opening-moves = moves-bind _ _ (moves-due _) λ x. search moving
 
 pub moves-signals : Moves signals
 unfolding signalsUpTo

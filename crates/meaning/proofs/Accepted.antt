@@ -5,9 +5,9 @@ use native.Mathlib.Nat.{le-trans, mul-le-mul-left, mul-comm}
 use native.Mathlib.Omega.{arith}
 use mathlib.Core.Bool.{Bool, true, false}
 use mathlib.Core.Option.{Option, none, some}
-use mathlib.Core.List.{List, [], _∷_}
+use mathlib.Core.List.{List}
 use lib.ListN.{length}
-use Rattle.tokens.specs.Tokens.{Tok, Toks, toks, faultOf}
+use Rattle.tokens.specs.Tokens.{Toks, toks, faultOf}
 use Rattle.meaning.specs.Refusals.{tooLarge, notPlayable, acrossEdge}
 use Rattle.meaning.specs.Bounds.{depthMost}
 use Rattle.meaning.specs.Reader.{Res, ok, refuse}
@@ -19,11 +19,6 @@ use Rattle.meaning.specs.Meaning.{Answer, given, refused, answering, run
 use Rattle.meaning.proofs.Everywhere.{Every, Runs, runs}
 use Rattle.meaning.proofs.Depth.{patterns-within, run-within}
 use Rattle.meaning.proofs.Visits.{visits-by-depth}
-
-pub length-firsts : {A : Type 0} (l : List (Tok × A)) → length (firsts l) ≡ length l
-unfolding firsts
-length-firsts [] = refl
-length-firsts (x ∷ l) = ap suc (length-firsts l)
 
 -- ---- what acceptance tells
 
@@ -41,7 +36,7 @@ pub record Accepted (text : List ℕ) (m : Meaning) : Type 0 where
   pub listed : length (doc .listed) ≡ m .listed
 
 -- a refusal is no meaning
-never : {A : Type 0} {B : Type 0} {n p : ℕ} {a : A} → _≡_ {A = Answer A} (refused n p) (given a) → B
+pub never : {A : Type 0} {B : Type 0} {n p : ℕ} {a : A} → _≡_ {A = Answer A} (refused n p) (given a) → B
 never e = let z : _≡_ {A = ℕ} 0 1 = cc in absurd (omega arith)
 
 module _ (text : List ℕ) (m : Meaning) (clean : faultOf text ≡ none) (d : Read) (ts : Toks) (read : document (toks text 0) ≡ ok d ts) where

@@ -1,3 +1,6 @@
+pub mod Options
+pub mod Lists
+pub mod Ending
 pub mod Samples
 mod LabelSamples
 pub mod Determined

@@ -9,7 +9,7 @@ use lib.ListN.{length}
 use Rattle.tokens.specs.Written.{bytes, same}
 use Rattle.tokens.specs.Tokens.{Tok, Toks, stop, tok, toks, faultOf}
 use Rattle.meaning.specs.Refusals.{notDefined, tooLarge, notPlayable, acrossEdge}
-use Rattle.meaning.specs.Reader.{Res, ok, refuse, _>>_, due}
+use Rattle.meaning.specs.Reader.{Res, ok, refuse, _>>_}
 use Rattle.meaning.specs.Names.{find, name}
 use Rattle.meaning.specs.Groups.{groups}
 use Rattle.meaning.specs.Body.{listed, entered, Body, inner}
@@ -19,8 +19,8 @@ use Rattle.meaning.specs.Run.{cyclesOf}
 use Rattle.meaning.specs.Edges.{firstInRun}
 use Rattle.meaning.specs.Meaning.{Answer, given, refused, answering, runOf, firstFailing, Meaning, fitting, ordered, meaningOf, judged, accept, meaning}
 use Rattle.meaning.proofs.SameTokens.{Stands, stands-on, stands-there}
-use Rattle.held.proofs.Rest.{Rest, all, behind, rest-rest, Moves, moving, moves-leaves, moves-bind, moves-due, leaves-option}
-use Rattle.held.proofs.Grammar.{moves-signals, moves-groups, moves-timing, moves-macro, moves-procedure}
+use Rattle.held.proofs.Rest.{Rest, all, behind, rest-rest, moves-leaves, moves-due, leaves-option}
+use Rattle.held.proofs.Grammar.{moves-signals, moves-groups, moves-timing, moves-macro, moves-procedure, opening-moves}
 use Rattle.held.proofs.Bodies.{leads-bodies}
 use Rattle.held.proofs.Leads.{Leads, leads-bind, leads-give, leads-if, leads-until}
 use Rattle.held.proofs.Due.{name-is, due-is}
@@ -78,9 +78,6 @@ burst-lists ts =
     let r3 = rest-rest (moves-leaves (moves-due _) .rest cs c ds k) r2 in
     let r4 = rest-rest (moves-leaves (moves-due _) .rest ds d es m) r3 in
     entries-rest l r4 (leads-until (Reading es) listEntry (one-entry es) (λ s us ts q i. (i .0, rest-rest q (i .1))) "}" [] es (tt, all) .all l fs n .0))
-
-opening-moves : Moves (do due "STIL"; due "1.0"; due ";")
-opening-moves = moves-bind _ _ (moves-due _) λ x. search moving
 
 burst-at : (ts : Toks) (d : Read) (us : Toks) (p : Parts ts d us) → Rest (p .burst-at) ts
 burst-at ts d us p =

@@ -22,19 +22,18 @@ ghost use Rattle.services.specs.Waveforms.{Outlines, Shapes};
 ghost use Rattle.services.specs.Charts.{Plots};
 ghost use Rattle.services.specs.Indexes.{Rebuilds, belongingOf, holdingOf, Indexes};
 ghost use Rattle.services.specs.Saves.{SomeCopy, Saves};
-use bodies::TOO_MANY;
 use charts::NO_SUCH;
 use index::Held;
 use saving::Hurt;
 use saving::Mended;
 use saving::Turn;
-use texts::TOO_LONG;
 use texts::Verdict;
 use timing::Watch;
+use tokens::TEXT_MOST;
+use tokens::TOO_LONG;
 use verdicts::NO_ROOM;
 use verdicts::Wanted;
-
-pub const TEXT_MOST: usize = texts::TEXT_MOST;
+use words::TOO_MANY;
 
 // The numbers of 64 spans: more are rare.
 const LOG: usize = 128;

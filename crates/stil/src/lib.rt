@@ -35,7 +35,7 @@ use services::Holding;
 use services::Indexed;
 use services::Located;
 use services::Saved;
-use services::TEXT_MOST;
+use tokens::TEXT_MOST;
 use verdicts::NO_ROOM;
 use views::Shown;
 

@@ -9,7 +9,7 @@ use Rattle.meaning.specs.Refusals.{notPlayable, acrossEdge}
 use Rattle.meaning.specs.Edges.{firstInRun}
 use Rattle.meaning.specs.Meaning.{Answer, given, refused, answering, firsts, Meaning, ordered, meaning}
 use Rattle.meaning.specs.Services.{Counts, counts, namesOf}
-use Rattle.meaning.proofs.Accepted.{length-firsts}
+use Rattle.meaning.proofs.Listed.{length-firsts}
 use Rattle.words.specs.Table.{names}
 use Rattle.signals.specs.Names.{listAt}
 use Rattle.timing.specs.declared.Watch.{Watch}

@@ -3,7 +3,7 @@ mod Ahead
 pub mod Choice
 pub mod Loops
 pub mod Words
-mod Numbers
+pub mod Numbers
 mod Tables
 mod Packed
 pub mod Names

@@ -21,6 +21,19 @@ ghost use Rattle.words.specs.Table.{nameOf, names};
 ghost use Rattle.words.specs.Packed.{packed, capital, EndsWith, ZerosFrom};
 ghost use Rattle.words.specs.Chains.{mixedOf, chainOf, InChain};
 
+// Refusals: the token is not allowed here; no name; a name that is unknown; one that is used; one too many; a bad number.
+pub const NOT_HERE: u8 = 4;
+
+const NO_NAME: u8 = 5;
+
+pub const UNKNOWN: u8 = 6;
+
+pub const USED: u8 = 7;
+
+pub const TOO_MANY: u8 = 8;
+
+pub const BAD_NUMBER: u8 = 9;
+
 // How many chains there are.
 pub const CHAINS: usize = 509;
 
@@ -138,7 +151,7 @@ pub fn expect(text: &[u8], c: Cursor, right: bool) -> Cursor
     ensures { λ r. ⌜ Goes (now (text .entry)) c (taking right) r (aheadTok (now (text .entry)) c) ⌝ }
 {
     let r = step(text, c);
-    refuse_if(r, !right, 4, c.at)
+    refuse_if(r, !right, NOT_HERE, c.at)
 }
 
 // ---- tokens that are due
@@ -330,7 +343,7 @@ pub fn name(text: &[u8], c: Cursor) -> Cursor
     ensures { λ r. ⌜ Goes (now (text .entry)) c nameDue r (aheadTok (now (text .entry)) c) ⌝ }
 {
     let r = word(text, c);
-    refuse_if(r, !is_name(bytes_of(text, c.at, c.end)), 5, c.at)
+    refuse_if(r, !is_name(bytes_of(text, c.at, c.end)), NO_NAME, c.at)
 }
 
 // ---- names in their name space
@@ -498,7 +511,7 @@ pub fn unused_name(text: &[u8], c: Cursor, number: usize, count: usize) -> Curso
     ensures { λ r. ⌜ ((ns : List (Tok × ℕ)) → told (ltb number count) number ≡ findOf ns (aheadTok (now (text .entry)) c .word) → Goes (now (text .entry)) c (newName ns) r (aheadTok (now (text .entry)) c)) ⌝ }
 {
     let r = name(text, c);
-    refuse_if(r, number < count, 7, c.at)
+    refuse_if(r, number < count, USED, c.at)
 }
 
 // A name that none of `count` names is.
@@ -516,8 +529,8 @@ pub fn known_name(text: &[u8], c: Cursor, number: usize, count: usize) -> Named
     let at = c.at;
     let right = is_name(bytes_of(text, at, c.end));
     let d = word(text, c);
-    let r = refuse_if(d, !right, 5, at);
-    let cursor = refuse_if(r, count <= number, 6, at);
+    let r = refuse_if(d, !right, NO_NAME, at);
+    let cursor = refuse_if(r, count <= number, UNKNOWN, at);
     Named { cursor, number }
 }
 
@@ -627,7 +640,7 @@ pub fn within(c: Cursor, v: Value, lo: u32, hi: u32, p: usize) -> Cursor
 {
     let n = v.n;
     let right = v.right & (lo as u64 <= n) & (n <= hi as u64);
-    refuse_if(c, !right, 9, p)
+    refuse_if(c, !right, BAD_NUMBER, p)
 }
 
 // A number from lo to hi is due.

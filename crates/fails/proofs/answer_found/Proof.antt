@@ -2,8 +2,9 @@
 use mathlib.Core.Path.{subst}
 use Rattle.reports.specs.Read.{Decides}
 use Rattle.words.specs.Table.{names}
-use Rattle.fails.proofs.Reporting.{lists-are, often-at, fails-failing, fails-faulty, fails-unlisted, listed-pattern, fails-listed}
+use Rattle.fails.proofs.Reporting.{often-at, fails-failing, fails-faulty, fails-unlisted, listed-pattern, fails-listed}
 use borrow.Author.Needs.{needs}
+use Rattle.index.proofs.Lists.{lists-are}
 use Rattle.fails.proofs.answer_found.Statement.{statement}
 use Rattle.fails.proofs.answer_found.Tie as tie
 

@@ -1,7 +1,8 @@
 -- `rebuild_found` meets its contract: 17, or the index and its holder from the tables.
 use mathlib.Core.Path.{refl}
 use Rattle.index.proofs.Names.{tables-short}
-use Rattle.services.proofs.Indexing.{lists-are, rebuild-failing, rebuild-stands}
+use Rattle.index.proofs.Lists.{lists-are}
+use Rattle.services.proofs.Indexing.{rebuild-failing, rebuild-stands}
 use borrow.Author.Needs.{needs}
 use Rattle.services.proofs.rebuild_found.Statement.{statement}
 use Rattle.services.proofs.rebuild_found.Tie as tie

@@ -1,5 +1,5 @@
 -- `unplayable` meets its contract: no cycle of a plain text fails, and any other is summed up.
-use Rattle.meaning.proofs.Gives.{no-not}
+use borrow.Author.Tests.{not-false}
 use Rattle.plays.proofs.Texts.{decides-sound}
 use Rattle.verdicts.proofs.Found.{runs}
 use Rattle.verdicts.proofs.unplayable.Statement.{statement}
@@ -29,7 +29,7 @@ returns-2 c =
     record {
       decides = λ f.
           decides-sound
-          (c .before .plain .ensures (no-not _ (c .if1 .left)) _ _ _ _ _ _ _ _ (runs f) (start .pre .notes .noted (f .it) (f .is)));
+          (c .before .plain .ensures (not-false _ (c .if1 .left)) _ _ _ _ _ _ _ _ (runs f) (start .pre .notes .noted (f .it) (f .is)));
     }
 
 pub unplayable-spec : {M : Type 1} → statement M
