@@ -21,7 +21,7 @@ use Rattle.pens.specs.Pens.{signedTimed, Writes}
 use Rattle.pens.proofs.Laws.{writes-both, writes-same}
 use Rattle.pens.specs.declared.Pen.{Pen}
 use Rattle.folds.proofs.Laws.{writes-nothing, laid-behind, laid-more}
-use Rattle.timings.specs.Spots.{bytesMost}
+use Rattle.spots.specs.Spots.{bytesMost}
 use Rattle.timings.specs.Lines.{titled}
 
 -- ---- each thing's pieces are its own, and then those behind

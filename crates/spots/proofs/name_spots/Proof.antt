@@ -1,9 +1,9 @@
 -- `name_spots` meets its contract: the signals of a name that is known lie below the bound.
 use Rattle.tokens.specs.Written.{bytes}
-use Rattle.timings.proofs.Entering.{name-entries, name-below}
+use Rattle.spots.proofs.Entering.{name-entries, name-below}
 use borrow.Author.Needs.{needs}
-use Rattle.timings.proofs.name_spots.Statement.{statement}
-use Rattle.timings.proofs.name_spots.Tie as tie
+use Rattle.spots.proofs.name_spots.Statement.{statement}
+use Rattle.spots.proofs.name_spots.Tie as tie
 
 old-name-requires : tie.Need-old-name-requires
 old-name-requires c κs = search needs

@@ -1,9 +1,9 @@
 -- `opening` meets its contract: token by token.
 use Rattle.tokens.specs.Written.{bytes}
-use Rattle.timings.proofs.Tabling.{opening-follows}
+use Rattle.spots.proofs.Tabling.{opening-follows}
 use borrow.Author.Needs.{needs}
-use Rattle.timings.proofs.opening.Statement.{statement}
-use Rattle.timings.proofs.opening.Tie as tie
+use Rattle.spots.proofs.opening.Statement.{statement}
+use Rattle.spots.proofs.opening.Tie as tie
 
 cursor-at-requires : tie.Need-cursor-at-requires
 cursor-at-requires c κs = search needs

@@ -3,12 +3,12 @@ use Prim.Native.Nat.{_-_, _≤_}
 use mathlib.Core.Path.{_≡_, refl, _∙_}
 use lib.ListN.{length, take}
 use Rattle.sets.proofs.Sets.{sized}
-use Rattle.timings.specs.Spots.{Stored}
-use Rattle.timings.proofs.Spotting.{stored-no-signals, stored-signal, stored-all, below-at}
+use Rattle.spots.specs.Spots.{Stored}
+use Rattle.spots.proofs.Spotting.{stored-no-signals, stored-signal, stored-all, below-at}
 use borrow.Author.Needs.{needs}
 use native.Mathlib.Omega.{arith}
-use Rattle.timings.proofs.keep_all.Statement.{statement}
-use Rattle.timings.proofs.keep_all.Tie as tie
+use Rattle.spots.proofs.keep_all.Statement.{statement}
+use Rattle.spots.proofs.keep_all.Tie as tie
 
 abbrev Inv-loop : tie.InvT-loop
 Inv-loop spots₀ w v set n i₀ spots i = (i ≤ n) × (length spots ≡ length spots₀) × Stored spots₀ (take i (set .v)) w v spots

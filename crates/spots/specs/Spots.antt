@@ -1,18 +1,20 @@
 -- Where the entries of a table stand: for each signal and character one more than the place of its CHARS, 0 where it has no waveform.
-use Prim.Native.Nat.{ℕ, _+_, _-_, _*_, _≤_, _<_}
+use Prim.Native.Nat.{ℕ, _+_, _-_, _*_, _<_}
 use mathlib.Core.Path.{_≡_}
 use mathlib.Core.Bool.{cond, not, _&&_}
 use mathlib.Core.List.{List}
-use lib.ListN.{length, getD, drop}
+use lib.ListN.{length, getD}
 use lib.Dec.{eqb}
+use Rattle.tokens.specs.Tokens.{Tok}
 use Rattle.meaning.specs.Bounds.{signalsMost}
 use Rattle.meaning.specs.Lists.{has}
 use Rattle.meaning.specs.Timing.{Wave}
+use Rattle.meaning.specs.Meaning.{firsts}
+use Rattle.words.specs.Table.{names}
 use Rattle.signals.specs.Names.{namesMost, rowLength, listAt}
 use Rattle.timing.specs.Watch.{Watched}
 use Rattle.timing.specs.declared.Watch.{Watch}
 use Rattle.timing.specs.Marks.{Below}
-use Rattle.folded.specs.Flat.{entriesOf}
 
 -- bytes that a character can be
 abbrev pub bytesMost : ℕ
@@ -41,9 +43,6 @@ pub record Listed (lists : List ℕ) (names : ℕ) : Type 0 where
   pub sized : length lists ≡ namesMost * rowLength
   pub below : (i : ℕ) → i < names → Below (listAt lists i)
 
--- r is the number of the first character from number i on that has a spot
-pub record Next (spots chars : List ℕ) (s i r : ℕ) : Type 0 where
-  pub on : i ≤ r
-  pub within : r ≤ length chars
-  pub here : r < length chars → spotAt spots s (getD chars r 0) ≡ 0 → ⊥
-  pub same : (text : List ℕ) (ws : List Wave) → Spots text spots ws → entriesOf s ws (drop i chars) ≡ entriesOf s ws (drop r chars)
+-- the signals of a text, of which the code has the names
+abbrev pub signalsIn : List ℕ → List ℕ → ℕ → List Tok
+signalsIn text places count = firsts (names text places count)

@@ -9,12 +9,12 @@ use Rattle.meaning.specs.Timing.{Wave, waveforms}
 use Rattle.held.proofs.Grammar.{moves-waveforms}
 use Rattle.signals.specs.Names.{namesOf}
 use Rattle.words.specs.Cursor.{stream}
-use Rattle.timings.specs.Answers.{Answers}
-use Rattle.timings.specs.Spots.{Spots}
-use Rattle.timings.proofs.Following.{Turns, turn, again, fewer, ended}
+use Rattle.spots.specs.Answers.{Answers}
+use Rattle.spots.specs.Spots.{Spots}
+use Rattle.spots.proofs.Following.{Turns, turn, again, fewer, ended}
 use borrow.Author.Needs.{needs}
-use Rattle.timings.proofs.table_spots.Statement.{statement}
-use Rattle.timings.proofs.table_spots.Tie as tie
+use Rattle.spots.proofs.table_spots.Statement.{statement}
+use Rattle.spots.proofs.table_spots.Tie as tie
 
 abbrev Inv-loop : tie.InvT-loop
 Inv-loop text places lists names spots₀ cursor₀ t8 t9 spots cursor = (length spots ≡ length spots₀) × ((ws a : List Wave) (us : Toks) → Spots text spots₀ ws → Answers text cursor₀ (until "}" (waveforms (namesOf text places lists names)) ws) a us → Turns text (waveforms (namesOf text places lists names)) (Spots text spots) cursor a us)

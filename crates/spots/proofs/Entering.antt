@@ -31,10 +31,10 @@ use Rattle.timing.proofs.EventTimes.{as-many}
 use Rattle.waves.specs.Waves.{OneEvent}
 use Rattle.waves.specs.declared.EventRead.{EventRead}
 use Rattle.waves.proofs.Lines.{line, added-length, went}
-use Rattle.timings.specs.Answers.{Answers, Behind}
-use Rattle.timings.specs.Spots.{Spots, Stored, Listed}
-use Rattle.timings.proofs.Following.{parts, behind, next, tested}
-use Rattle.timings.proofs.Spotting.{spots-more}
+use Rattle.spots.specs.Answers.{Answers, Behind}
+use Rattle.spots.specs.Spots.{Spots, Stored, Listed}
+use Rattle.spots.proofs.Following.{parts, behind, next, tested}
+use Rattle.spots.proofs.Spotting.{spots-more}
 
 -- ---- one event
 

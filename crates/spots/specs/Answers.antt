@@ -4,7 +4,7 @@ use mathlib.Core.Path.{_≡_}
 use mathlib.Core.Bool.{true}
 use mathlib.Core.List.{List}
 use Rattle.tokens.specs.Tokens.{Toks, toks}
-use Rattle.meaning.specs.Reader.{Reader, ok}
+use Rattle.meaning.specs.Reader.{Reader, ok, _>>=_, _>>_, due}
 use Rattle.words.specs.Cursor.{alive, stream}
 use Rattle.words.specs.declared.Cursor.{Cursor}
 
@@ -18,3 +18,8 @@ pub record Answers {A : Type 0} (text : List ℕ) (c : Cursor) (m : Reader A) (a
 pub record Behind (text : List ℕ) (r : Cursor) (us : Toks) : Type 0 where
   pub on : alive r ≡ true
   pub there : stream text r ≡ us
+
+-- a text begins with `STIL 1.0;`, and then these
+pub record Opens (text : List ℕ) (ts : Toks) : Type 0 where
+  pub last : ℕ
+  pub read : (do due "STIL"; due "1.0"; due ";") (toks text 0) ≡ ok last ts

@@ -9,12 +9,12 @@ use Rattle.meaning.specs.Timing.{Wave, entry}
 use Rattle.held.proofs.Grammar.{moves-entry}
 use Rattle.sets.specs.Sets.{listOf}
 use Rattle.words.specs.Cursor.{stream}
-use Rattle.timings.specs.Answers.{Answers}
-use Rattle.timings.specs.Spots.{Spots}
-use Rattle.timings.proofs.Following.{Turns, turn, again, fewer, ended}
+use Rattle.spots.specs.Answers.{Answers}
+use Rattle.spots.specs.Spots.{Spots}
+use Rattle.spots.proofs.Following.{Turns, turn, again, fewer, ended}
 use borrow.Author.Needs.{needs}
-use Rattle.timings.proofs.entries_spots.Statement.{statement}
-use Rattle.timings.proofs.entries_spots.Tie as tie
+use Rattle.spots.proofs.entries_spots.Statement.{statement}
+use Rattle.spots.proofs.entries_spots.Tie as tie
 
 abbrev Inv-loop : tie.InvT-loop
 Inv-loop text set spots₀ cursor₀ t6 t7 spots cursor = (length spots ≡ length spots₀) × ((ws a : List Wave) (us : Toks) → Spots text spots₀ ws → Answers text cursor₀ (until "}" (entry (listOf set)) ws) a us → Turns text (entry (listOf set)) (Spots text spots) cursor a us)

@@ -1,11 +1,11 @@
 -- `entry_spots` meets its contract: CHARS, the first event and the others, as the definition read them.
 use borrow.Author.Tests.{ltb-true}
 use Rattle.tokens.specs.Written.{bytes}
-use Rattle.timings.proofs.Entering.{entry-parts, entry-spots}
+use Rattle.spots.proofs.Entering.{entry-parts, entry-spots}
 use borrow.Author.Needs.{needs}
 use native.Mathlib.Omega.{arith}
-use Rattle.timings.proofs.entry_spots.Statement.{statement}
-use Rattle.timings.proofs.entry_spots.Tie as tie
+use Rattle.spots.proofs.entry_spots.Statement.{statement}
+use Rattle.spots.proofs.entry_spots.Tie as tie
 
 word-requires : tie.Need-word-requires
 word-requires c κs = search needs

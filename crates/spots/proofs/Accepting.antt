@@ -20,16 +20,9 @@ use Rattle.words.specs.Table.{named, names}
 use Rattle.signals.specs.Names.{listAt, namesOf, front, Fronted}
 use Rattle.signals.proofs.Tables.{known}
 use Rattle.waves.proofs.Lines.{went}
-use Rattle.folded.specs.Pieces.{laid}
-use Rattle.folded.specs.Flat.{sheets, flat}
-use Rattle.folded.specs.Layout.{timingPut}
 use Rattle.declared.proofs.Below.{tidy-below}
-use Rattle.pens.specs.Pens.{Writes}
-use Rattle.pens.specs.declared.Pen.{Pen}
-use Rattle.pens.proofs.Laws.{writes-same}
-use Rattle.timings.specs.Answers.{Answers, Behind}
-use Rattle.timings.specs.Spots.{Listed}
-use Rattle.timings.specs.Lines.{signalsIn, Opens}
+use Rattle.spots.specs.Answers.{Answers, Behind, Opens}
+use Rattle.spots.specs.Spots.{Listed, signalsIn}
 
 firsts-named : {A B : Type 0} (f : A → B) (xs : List (Tok × A)) → firsts (named f xs) ≡ firsts xs
 unfolding firsts named
@@ -73,8 +66,3 @@ timing-at {text} {c} {r} {places} {lists} {count} {total} m e o f =
       few = k .few;
       signals-are = sym (firsts-named (listAt lists) (names text places count)) ∙ ap (λ (q : Names × Names). firsts (q .0)) (w .is) ∙ a .signals;
     }
-
-pub flat-writes : {a d : List ℕ} {p r : Pen} (text : List ℕ) (m : Meaning) {ss : List Tok} → ss ≡ m .signals → Writes a p (laid (timingPut (sheets ss (m .tables)) [])) d r
-    → Writes a p (laid (timingPut (flat text m .tables) [])) d r
-unfolding flat
-flat-writes text m e w = writes-same (ap (λ (l : List Tok). laid (timingPut (sheets l (m .tables)) [])) e) w

@@ -16,7 +16,7 @@ use Rattle.words.specs.Cursor.{alive, stream, Goes}
 use Rattle.words.specs.declared.Cursor.{Cursor}
 use Rattle.waves.proofs.Lines.{went}
 use Rattle.waves.proofs.Turns.{until-on}
-use Rattle.timings.specs.Answers.{Answers, Behind}
+use Rattle.spots.specs.Answers.{Answers, Behind}
 
 -- ---- one reader and then the next
 

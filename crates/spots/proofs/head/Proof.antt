@@ -1,9 +1,9 @@
 -- `head` meets its contract: token by token.
 use Rattle.tokens.specs.Written.{bytes}
-use Rattle.timings.proofs.Tabling.{head-follows}
+use Rattle.spots.proofs.Tabling.{head-follows}
 use borrow.Author.Needs.{needs}
-use Rattle.timings.proofs.head.Statement.{statement}
-use Rattle.timings.proofs.head.Tie as tie
+use Rattle.spots.proofs.head.Statement.{statement}
+use Rattle.spots.proofs.head.Tie as tie
 
 slice-aggregate-due : tie.Need-slice-aggregate-due
 slice-aggregate-due c = search needs

@@ -3,12 +3,12 @@ use Prim.Native.Nat.{_-_}
 use mathlib.Core.Path.{_≡_, refl, _∙_}
 use mathlib.Core.List.{[], _∷_}
 use lib.ListN.{length, take, length-set}
-use Rattle.timings.specs.Spots.{Stored}
-use Rattle.timings.proofs.Spotting.{stored-no-chars, stored-char, stored-word}
+use Rattle.spots.specs.Spots.{Stored}
+use Rattle.spots.proofs.Spotting.{stored-no-chars, stored-char, stored-word}
 use borrow.Author.Needs.{needs}
 use native.Mathlib.Omega.{arith}
-use Rattle.timings.proofs.keep.Statement.{statement}
-use Rattle.timings.proofs.keep.Tie as tie
+use Rattle.spots.proofs.keep.Statement.{statement}
+use Rattle.spots.proofs.keep.Tie as tie
 
 abbrev Inv-loop : tie.InvT-loop
 Inv-loop spots₀ s w v i₀ spots i = (length spots ≡ length spots₀) × Stored spots₀ (s ∷ []) (take i w) v spots

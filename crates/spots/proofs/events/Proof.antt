@@ -9,12 +9,12 @@ use Rattle.meaning.specs.Reader.{until}
 use Rattle.meaning.specs.Timing.{Events, event}
 use Rattle.held.proofs.Grammar.{moves-event}
 use Rattle.words.specs.Cursor.{stream}
-use Rattle.timings.specs.Answers.{Answers}
-use Rattle.timings.proofs.Following.{Turns, again, fewer, ended}
-use Rattle.timings.proofs.Entering.{event-follows}
+use Rattle.spots.specs.Answers.{Answers}
+use Rattle.spots.proofs.Following.{Turns, again, fewer, ended}
+use Rattle.spots.proofs.Entering.{event-follows}
 use borrow.Author.Needs.{needs}
-use Rattle.timings.proofs.events.Statement.{statement}
-use Rattle.timings.proofs.events.Tie as tie
+use Rattle.spots.proofs.events.Statement.{statement}
+use Rattle.spots.proofs.events.Tie as tie
 
 abbrev Inv-loop : tie.InvT-loop
 Inv-loop text cursor₀ t5 t6 cursor = (n : ℕ) (s es : Events) (us : Toks) → 0 < n → n ≤ entryMost → length (s .0) ≡ n → Answers text cursor₀ (until "}" (event n) s) es us → Turns text (event n) (λ x. length (x .0) ≡ n) cursor es us

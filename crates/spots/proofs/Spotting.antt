@@ -1,12 +1,12 @@
--- Spots: stored one by one, those of an entry more, and what a spot tells of its signal and character.
+-- Spots: stored one by one, and those of an entry more.
 use Prim.Native.Nat.{ℕ, _+_, _-_, _*_, _≤_, _<_, min}
 use native.Mathlib.Omega.{arith}
 use mathlib.Core.Path.{_≡_, refl, sym, ap, _∙_}
 use mathlib.Core.Bool.{Bool, true, false, cond, not, _&&_, _||_}
-use mathlib.Core.Option.{Option, none, some}
+use mathlib.Core.Option.{Option, some}
 use mathlib.Core.List.{List, [], _∷_, _++_}
 use lib.Dec.{eqb, leb}
-use lib.ListN.{length, getD, replicate, take, drop, set, length-take}
+use lib.ListN.{length, getD, replicate, take, set, length-take}
 use lib.Seq.{getD-set-same, getD-set-other, getD-take, take-all}
 use borrow.Author.Tests.{eqb-true, eqb-false, eq-eqb, ne-eqb, leb-true, leb-false}
 use Rattle.tokens.specs.Tokens.{Toks, toks}
@@ -15,16 +15,12 @@ use Rattle.meaning.specs.Lists.{has}
 use Rattle.meaning.specs.Reader.{ok}
 use Rattle.meaning.specs.Timing.{Event, Wave, Events, taken, wavesFor}
 use Rattle.meaning.specs.Services.{waveOf}
-use Rattle.words.proofs.Words.{cut}
 use Rattle.timing.specs.Watch.{charsEvents, Watched}
 use Rattle.timing.specs.Marks.{Below}
 use Rattle.timing.proofs.Watching.{watched-more}
 use Rattle.timing.proofs.Marking.{has-taken}
-use Rattle.waves.specs.Waves.{EntryAt}
-use Rattle.waves.proofs.Entries.{entry-found}
-use Rattle.folded.specs.Flat.{entriesOf}
 use Rattle.declared.proofs.Numbers.{zeros}
-use Rattle.timings.specs.Spots.{bytesMost, spotsMost, spotAt, watchOf, Spots, Stored}
+use Rattle.spots.specs.Spots.{bytesMost, spotsMost, spotAt, watchOf, Spots, Stored}
 
 -- ---- one spot more
 
@@ -181,21 +177,3 @@ module _ {text spots spots′ : List ℕ} {ws : List Wave} {us : Toks} (sigs cs 
       by s b v false e o true false p q = rw e (lost v (rw q at (here v o)))
       by s b v false e o false true p q = rw e (lost v (rw (q, p) at (here v o)))
       by s b v false e o false false p q = rw e (lost v (rw q at (here v o)))
-
--- ---- what a spot tells
-
-module _ {text spots : List ℕ} {ws : List Wave} (chars : List ℕ) (s i : ℕ) (a : Spots text spots ws) (h : i < length chars) (q : getD chars i 0 < bytesMost) where
-  -- no waveform
-  pub spot-none : spotAt spots s (getD chars i 0) ≡ 0 → entriesOf s ws (drop i chars) ≡ entriesOf s ws (drop (i + 1) chars)
-  unfolding entriesOf
-  spot-none e =
-      let n : waveOf s (getD chars i 0) ws ≡ none = a .each s (getD chars i 0) q .no (ap not (eq-eqb _ 0 e)) in
-      rw (cut chars i h) (rw (n, entriesOf))
-
-  -- one, with its entry
-  pub spot-some : (spotAt spots s (getD chars i 0) ≡ 0 → ⊥)
-      → (es : List Event) × EntryAt text (spotAt spots s (getD chars i 0) - 1) (getD chars i 0) es × (entriesOf s ws (drop i chars) ≡ (getD chars i 0, es) ∷ entriesOf s ws (drop (i + 1) chars))
-  unfolding entriesOf
-  spot-some e =
-      let f = a .each s (getD chars i 0) q .yes (ap not (ne-eqb _ 0 e)) in
-      (_, entry-found f (f .wave), rw (cut chars i h) (rw (f .wave, entriesOf)))
