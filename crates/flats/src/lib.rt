@@ -21,8 +21,8 @@ use stretches::TAIL;
 use texts::PATTERNS;
 use texts::Verdict;
 use tokens::TEXT_MOST;
-use verdicts::NO_ROOM;
 use verdicts::NOT_PLAYABLE;
+use words::NO_ROOM;
 
 // Bytes of a window: many rows, since each window reads the text anew.
 const WINDOW: usize = 262_144;

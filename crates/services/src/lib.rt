@@ -31,9 +31,9 @@ use texts::Verdict;
 use timing::Watch;
 use tokens::TEXT_MOST;
 use tokens::TOO_LONG;
-use verdicts::NO_ROOM;
 use verdicts::NOT_PLAYABLE;
 use verdicts::Wanted;
+use words::NO_ROOM;
 use words::TOO_MANY;
 
 // The numbers of 64 spans: more are rare.

@@ -16,10 +16,8 @@ use plays::Failing;
 use texts::Verdict;
 use timing::Watch;
 
-// Refusals that more than one service has.
+// Refusal: a cycle cannot be played.
 pub const NOT_PLAYABLE: u8 = 17;
-
-pub const NO_ROOM: u8 = 19;
 
 // What is wanted of a text beside its counts: a name by its number, and where a waveform stands.
 pub struct Wanted {
