@@ -12,6 +12,7 @@ ghost use Rattle.meaning.specs.Charts.{chartMost, Asked, askedIn, called, chart
 ghost use Rattle.waves.specs.Waves.{EntryAt};
 ghost use Rattle.charts.specs.Serving.{toldAll, Accepted, Sights, Outlines, Serves};
 use timing::Watch;
+use words::NO_ROOM;
 
 // Waveforms of a list at most, and the numbers that ask for one: a table, a signal and a character.
 pub const MOST: usize = 64;
@@ -26,10 +27,8 @@ const LAST: u64 = 18_446_744_073_709_551_615;
 // A character's greatest number.
 const CHAR: u64 = 255;
 
-// Refusals, all at place 0.
+// Refusal, at place 0 as all here.
 pub const NO_SUCH: u8 = 18;
-
-const NO_ROOM: u8 = 19;
 
 // Where a waveform's entry stands, if there is one (`found`).
 struct Sighted {

@@ -26,8 +26,8 @@ ghost use Rattle.fails.specs.Service.{rowsOf, sparedTold, Reports, Answe
 use heads::Known;
 use measures::DEPTH;
 use references::Before;
-use verdicts::NO_ROOM;
 use words::Cursor;
+use words::NO_ROOM;
 
 const NOT_IN_PATTERN: u8 = 24;
 

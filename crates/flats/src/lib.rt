@@ -21,7 +21,7 @@ use stretches::TAIL;
 use texts::PATTERNS;
 use texts::Verdict;
 use tokens::TEXT_MOST;
-use verdicts::NO_ROOM;
+use words::NO_ROOM;
 
 // Bytes of a window: many rows, since each window reads the text anew.
 const WINDOW: usize = 262_144;

@@ -31,8 +31,8 @@ use texts::Verdict;
 use timing::Watch;
 use tokens::TEXT_MOST;
 use tokens::TOO_LONG;
-use verdicts::NO_ROOM;
 use verdicts::Wanted;
+use words::NO_ROOM;
 use words::TOO_MANY;
 
 // The numbers of 64 spans: more are rare.

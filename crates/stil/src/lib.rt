@@ -36,8 +36,8 @@ use services::Indexed;
 use services::Located;
 use services::Saved;
 use tokens::TEXT_MOST;
-use verdicts::NO_ROOM;
 use views::Shown;
+use words::NO_ROOM;
 
 // A refusal as one number: 32 times its place and its number.
 fn pack(no: u8, place: usize) -> u64

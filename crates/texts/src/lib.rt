@@ -44,7 +44,7 @@ const NOT_DEFINED: u8 = 15;
 
 const TOO_LARGE: u8 = 16;
 
-const NO_ROOM: usize = 19;
+const NO_ROOM: usize = words::NO_ROOM as usize;
 
 // The blocks of a text: the cursor behind them, how many there are of what they declare, and where the watched waveform is found.
 pub struct Parts {

@@ -20,9 +20,6 @@ const NOT_PLAYABLE: u8 = 17;
 
 const ACROSS_EDGE: u8 = 25;
 
-// The refusal that more than one service has.
-pub const NO_ROOM: u8 = 19;
-
 // What is wanted of a text beside its counts: a name by its number, and where a waveform stands.
 pub struct Wanted {
     pub table: bool,
