@@ -25,7 +25,7 @@ use Rattle.plays.specs.declared.Failing.{Failing}
 use Rattle.verdicts.specs.Judged.{whichOf}
 use Rattle.verdicts.specs.Found.{meantBy, Unplayable, Crosses}
 use Rattle.verdicts.specs.Judged.{numbered}
-use Rattle.verdicts.proofs.Naming.{firsts-named}
+use Rattle.words.proofs.Names.{firsts-named}
 
 -- 1 to 16 are the meaning's
 pub meaning-refused : (text : List ℕ) {n p : ℕ} → sound text ≡ refused n p → meaning text ≡ refused n p

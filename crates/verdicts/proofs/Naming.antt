@@ -37,9 +37,3 @@ module _ (text places : List ℕ) where
 
     pub name-missing : count ≤ n → nameAt (firsts (names text places count)) n ≡ refused noSuch 0
     name-missing h = past-from 0 count n h
-
--- names are the same, whatever they stand for
-pub firsts-named : {A B : Type 0} (f : A → B) (xs : List (Tok × A)) → firsts (named f xs) ≡ firsts xs
-unfolding firsts named
-firsts-named f [] = refl
-firsts-named f (x ∷ xs) = ap (λ (l : List Tok). x .0 ∷ l) (firsts-named f xs)
