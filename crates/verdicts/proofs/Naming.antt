@@ -9,7 +9,7 @@ use Rattle.tokens.specs.Tokens.{Tok}
 use Rattle.meaning.specs.Refusals.{noSuch}
 use Rattle.meaning.specs.Meaning.{Answer, given, refused, firsts}
 use Rattle.meaning.specs.Services.{nameAt}
-use Rattle.words.specs.Table.{nameOf, namesFrom, names, named}
+use Rattle.words.specs.Table.{nameOf, namesFrom, names}
 
 -- what is told of a name
 abbrev told : Tok → Answer (ℕ × ℕ)
