@@ -1,5 +1,5 @@
 pub mod Following
 pub mod Spotting
-mod Entering
+pub mod Entering
 pub mod Tabling
 pub mod Accepting
