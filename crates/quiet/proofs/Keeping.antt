@@ -6,7 +6,6 @@ use mathlib.Core.Bool.{Bool, true, false, not, _&&_}
 use mathlib.Core.List.{List, []}
 use Rattle.tokens.specs.Tokens.{Toks}
 use Rattle.meaning.specs.Reader.{Reader, ahead}
-use Rattle.meaning.specs.Timing.{Wave, Tables}
 use Rattle.held.proofs.Rest.{Moves}
 use Rattle.words.specs.Cursor.{alive, stream}
 use Rattle.words.specs.declared.Cursor.{Cursor}

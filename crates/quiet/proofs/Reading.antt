@@ -2,19 +2,16 @@
 use Prim.Native.Nat.{ℕ, _≤_, _<_}
 use native.Mathlib.Omega.{arith}
 use mathlib.Core.Path.{_≡_, refl, sym, ap, _∙_, subst}
-use mathlib.Core.Bool.{_||_}
 use mathlib.Core.Option.{Option, none, some}
 use mathlib.Core.List.{List, [], _∷_, _++_}
 use lib.ListN.{length}
-use lib.Dec.{leb}
 use Rattle.tokens.specs.Tokens.{Tok, Toks, toks}
 use Rattle.meaning.specs.Bounds.{entryMost}
-use Rattle.meaning.specs.Lists.{repeats}
 use Rattle.meaning.specs.Reader.{Reader, ok, after, _>>=_, give, word, due, until, option}
 use Rattle.meaning.specs.Names.{name, known, oldName}
 use Rattle.meaning.specs.Signals.{Names, signals}
 use Rattle.meaning.specs.Groups.{groups}
-use Rattle.meaning.specs.Timing.{Events, Wave, Table, Tables, event, blanks, taken, wavesFor, entry, waveforms, timing}
+use Rattle.meaning.specs.Timing.{Events, Wave, Tables, event, blanks, wavesFor, entry, waveforms, timing}
 use Rattle.meaning.specs.Document.{Read, document}
 use Rattle.meaning.proofs.Gives.{bind-go, give-ok}
 use Rattle.held.proofs.Rest.{moving, moves-leaves, moves-bind, moves-due, moves-word, moves-name, moves-old, leaves-option}
@@ -31,7 +28,7 @@ use Rattle.waves.proofs.Lines.{line, added-length, went}
 use Rattle.spots.specs.Answers.{Answers, Behind, Opens}
 use Rattle.spots.proofs.Following.{parts, behind, next, tested, finished}
 use Rattle.spots.proofs.Entering.{entry-parts}
-use Rattle.quiet.specs.Quiet.{earliest, Inside, Each, EventsIn, Lined, WavesIn, TablesIn}
+use Rattle.quiet.specs.Quiet.{earliest, Inside, Lined, WavesIn, TablesIn}
 use Rattle.quiet.proofs.Each.{each-++, each-more}
 use Rattle.quiet.proofs.Adding.{added-in, time-is, blanks-in, waves-for}
 

@@ -27,7 +27,10 @@ fn within(t: u64, start: u64, period: u64) -> bool
     if t < start {
         return false;
     }
-    t - start < period
+    if period <= t - start {
+        return false;
+    }
+    true
 }
 
 // Do all events that were read lie within their cycles; where they do, the cursor stands behind them.

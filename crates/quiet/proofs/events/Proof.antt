@@ -7,7 +7,7 @@ use Rattle.meaning.specs.Reader.{until}
 use Rattle.words.specs.Cursor.{stream}
 use Rattle.spots.specs.Answers.{Answers}
 use Rattle.spots.proofs.Following.{Turns, again, fewer, ended}
-use borrow.Author.Tests.{not-false, not-true}
+use borrow.Author.Tests.{not-false}
 use Rattle.meaning.specs.Bounds.{entryMost}
 use Rattle.meaning.specs.Timing.{Events, event}
 use Rattle.held.proofs.Grammar.{moves-event}
