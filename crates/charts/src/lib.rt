@@ -13,15 +13,14 @@ ghost use Rattle.waves.specs.Waves.{EntryAt};
 ghost use Rattle.charts.specs.Serving.{toldAll, Accepted, Sights, Outlines, Serves};
 use timing::Watch;
 use words::NO_ROOM;
+use words::START;
 
 // Waveforms of a list at most, and the numbers that ask for one: a table, a signal and a character.
 pub const MOST: usize = 64;
 
 const ASK: usize = 3;
 
-// The cycle's start, counted as times are, and the largest number of 64 bits.
-const START: u64 = 1_000_000_000;
-
+// The largest number of 64 bits.
 const LAST: u64 = 18_446_744_073_709_551_615;
 
 // A character's greatest number.

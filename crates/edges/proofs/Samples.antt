@@ -1,5 +1,4 @@
 -- Samples of the third turn, of a Shift's turns, and of times with a sign: the definitions compute them. Those of whole texts stand beside the definitions.
-use Prim.Native.Nat.{ℕ}
 use mathlib.Core.Path.{_≡_, refl}
 use mathlib.Core.Option.{Option, none, some}
 use mathlib.Core.List.{List, [], _∷_}

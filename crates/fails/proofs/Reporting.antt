@@ -7,16 +7,13 @@ use mathlib.Core.Option.{Option, none, some}
 use mathlib.Core.List.{List, [], _∷_, _++_}
 use lib.Dec.{leb}
 use lib.ListN.{length}
-use borrow.Author.Tests.{le-leb, lt-leb, leb-true}
-use Rattle.tokens.specs.Tokens.{Tok, Toks, toks}
+use borrow.Author.Tests.{le-leb, leb-true}
+use Rattle.tokens.specs.Tokens.{Tok}
 use Rattle.tokens.proofs.Bools.{never}
 use Rattle.meaning.specs.Refusals.{noRoom}
-use Rattle.meaning.specs.Reader.{Res, ok}
-use Rattle.meaning.specs.Names.{find}
 use Rattle.meaning.specs.Run.{cycles}
 use Rattle.meaning.specs.Statements.{Decl, Decls, Env, numbered}
-use Rattle.meaning.specs.Document.{Read, document}
-use Rattle.meaning.specs.Meaning.{Answer, given, refused, answering, Meaning, meaning}
+use Rattle.meaning.specs.Meaning.{Answer, given, refused, answering}
 use Rattle.words.specs.Cursor.{span}
 use Rattle.words.specs.Table.{nameOf, namesFrom, names, named}
 use Rattle.signals.specs.Names.{listAt}
@@ -30,17 +27,16 @@ use Rattle.verdicts.specs.declared.Unfit.{Unfit}
 use Rattle.heads.specs.declared.Known.{Known}
 use Rattle.index.specs.Index.{Line, linesFrom, linesOf, indexOf}
 use Rattle.index.specs.Lines.{blocksIn}
-use Rattle.labels.specs.Table.{Held}
 use Rattle.references.specs.References.{pastBy, past}
 use Rattle.references.specs.Filled.{noted}
-use Rattle.reports.specs.Report.{Record, Report, reported, Fail, notInPattern, answeredOf, answeredAll}
+use Rattle.reports.specs.Report.{Record, reported, Fail, notInPattern, answeredOf, answeredAll}
 use Rattle.reports.specs.Read.{Holds}
 use Rattle.verdicts.specs.Found.{Plays}
 use Rattle.verdicts.proofs.Found.{meaning-refused}
-use Rattle.fails.specs.Fails.{Told, answers, refuses, telling, linesNamed, onlyLine, listedOnce, declarations, pastIn, failsOf, failsIn, Rows, Failed, inFront, roomFor, failsOut, fails}
+use Rattle.fails.specs.Fails.{Told, answers, refuses, telling, linesNamed, onlyLine, pastIn, failsOf, failsIn, Rows, Failed, inFront, roomFor, failsOut, fails}
 use Rattle.fails.specs.Once.{Often}
-use Rattle.fails.specs.Judged.{Records, Judges}
-use Rattle.fails.specs.Written.{Stand, Roomy, Writes}
+use Rattle.fails.specs.Judged.{Judges}
+use Rattle.fails.specs.Written.{Roomy, Writes}
 use Rattle.fails.specs.Referred.{Pattern, Refers}
 use Rattle.fails.specs.Service.{rowsOf, rowAfter, sparedTold, Reports, Answering}
 use Rattle.fails.specs.declared.Times.{Times}

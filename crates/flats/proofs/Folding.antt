@@ -2,14 +2,14 @@
 use Prim.Native.Nat.{ℕ, _+_, _-_, _≤_, _<_}
 use native.Mathlib.Nat.{zero-add}
 use native.Mathlib.Omega.{arith}
-use mathlib.Core.Path.{_≡_, refl, sym, ap, ap₂, _∙_, subst}
+use mathlib.Core.Path.{_≡_, refl, sym, ap, ap₂, _∙_}
 use mathlib.Core.Bool.{Bool, true, false, not, _&&_, _||_}
-use mathlib.Core.List.{List, [], _++_}
+use mathlib.Core.List.{List, _++_}
 use lib.Dec.{leb, ltb}
 use lib.ListN.{length, take, drop}
 use borrow.Author.Tests.{le-leb, lt-leb, ltb-true, ltb-false}
 use Rattle.tokens.specs.Refusals.{textMost}
-use Rattle.meaning.specs.Bounds.{patternsMost, signalsMost}
+use Rattle.meaning.specs.Bounds.{patternsMost}
 use Rattle.meaning.specs.Refusals.{noRoom}
 use Rattle.meaning.specs.Run.{cycles}
 use Rattle.meaning.specs.Meaning.{Answer, given, refused, answering, Meaning, meaning}
@@ -18,7 +18,7 @@ use Rattle.timing.specs.declared.Watch.{Watch}
 use Rattle.texts.specs.Texts.{sound}
 use Rattle.texts.specs.Tables.{Found}
 use Rattle.texts.specs.declared.Verdict.{Verdict}
-use Rattle.plays.specs.Plays.{Ground, ground}
+use Rattle.plays.specs.Plays.{ground}
 use Rattle.verdicts.specs.declared.Unfit.{Unfit}
 use Rattle.pages.specs.Pages.{Puts as Put}
 use Rattle.verdicts.specs.Found.{meantBy, Plays}
@@ -26,8 +26,8 @@ use Rattle.verdicts.proofs.Found.{meaning-refused, runs, names-are, counts-met}
 use Rattle.folded.specs.Flat.{patternsOf, flat}
 use Rattle.folded.specs.Layout.{written}
 use Rattle.folded.specs.Fold.{foldedMost, manyPatterns, manyCycles, Folded as Bytes, foldedIn, folded, fold}
-use Rattle.flats.specs.Meant.{Meant, SomeMeant}
-use Rattle.flats.specs.Flattens.{flatIn, flatOf, Stands, Puts, Flattens, bufferOf, Folds}
+use Rattle.flats.specs.Meant.{Meant}
+use Rattle.flats.specs.Flattens.{flatIn, flatOf, Puts, Flattens, Folds}
 use Rattle.verdicts.specs.Buffers.{afterwards, spared}
 use Rattle.flats.specs.declared.Flat.{Flat}
 use Rattle.flats.specs.declared.Folded.the-variants.{Text, Refused}

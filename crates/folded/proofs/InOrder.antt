@@ -8,10 +8,10 @@ use mathlib.Core.Option.{Option, none, some}
 use mathlib.Core.List.{List, [], _∷_}
 use Rattle.meaning.specs.Timing.{Tables}
 use Rattle.meaning.specs.Body.{Body, done, vec, set′, inner}
-use Rattle.meaning.specs.Run.{Cycle, cyclesOf, alone}
+use Rattle.meaning.specs.Run.{Cycle, cyclesOf}
 use Rattle.meaning.specs.Edges.{periodAt, firstFailingPair, listedCycles, firstAmong, firstInRun}
 use Rattle.meaning.specs.Meaning.{allWaves, tableAt, playable, firstFailing}
-use Rattle.meaning.proofs.Turns.{orElse, fails-++}
+use Rattle.meaning.proofs.Turns.{fails-++}
 use Rattle.meaning.proofs.Everywhere.{Runs}
 use Rattle.edges.proofs.Texts.{joined, run-parted}
 use Rattle.edges.proofs.Parted.{or-both, SameTables, SameRows, no-rows, one-row, parts-in-order, rows-in-order}

@@ -16,7 +16,7 @@ use Rattle.meaning.specs.Document.{Read, document}
 use Rattle.meaning.specs.Run.{size, visits, cyclesOf}
 use Rattle.meaning.specs.Edges.{firstInRun}
 use Rattle.meaning.specs.Meaning.{Answer, given, refused, answering, runOf, firstFailing, Meaning, firsts, fitting, ordered, meaningOf, judged, accept, meaning}
-use Rattle.meaning.proofs.Everywhere.{Every, Runs, runs}
+use Rattle.meaning.proofs.Everywhere.{Every, runs}
 use Rattle.meaning.proofs.Depth.{patterns-within, run-within}
 use Rattle.meaning.proofs.Visits.{visits-by-depth}
 

@@ -1,13 +1,13 @@
 -- What a reader's answers have in common: whatever a reader answers, it has P.
-use mathlib.Core.Path.{_≡_, refl, sym, ap, _∙_, subst}
-use Prim.Native.Nat.{ℕ, zero, suc, _+_, _≤_}
+use mathlib.Core.Path.{_≡_, refl, ap, subst}
+use Prim.Native.Nat.{ℕ, zero, suc, _≤_}
 use native.Mathlib.Omega.{arith}
 use Prim.Native.String.{String}
-use mathlib.Core.Bool.{Bool, true, false, not, _&&_}
+use mathlib.Core.Bool.{Bool, true, false, _&&_}
 use mathlib.Core.Option.{Option, none, some}
 use mathlib.Core.List.{List, [], _∷_}
 use lib.Dec.{leb}
-use borrow.Author.Tests.{leb-true, not-false}
+use borrow.Author.Tests.{leb-true}
 use Rattle.tokens.specs.Written.{bytes, same}
 use Rattle.tokens.specs.Tokens.{Tok, Toks, left, tok, stop}
 use Rattle.meaning.specs.Refusals.{badNumber}
@@ -46,10 +46,6 @@ any-ok (tok u vs) {t} {us} e = let p : u ≡ t = cc in let q : vs ≡ us = cc in
 pub bind-go : {A B : Type 0} (m : Reader A) (f : A → Reader B) (ts : Toks) (a : A) (vs : Toks) → m ts ≡ ok a vs → (m >>= f) ts ≡ f a vs
 unfolding _>>=_ after
 bind-go {A} m f ts a vs e = ap (λ (r : Res A). after r f) e
-
--- a test that refuses what is not so has passed
-pub no-not : (b : Bool) → not b ≡ false → b ≡ true
-no-not = not-false
 
 -- whatever it answers has P
 pub record Gives {A : Type 0} (P : A → Type 0) (m : Reader A) : Type 0 where

@@ -5,15 +5,13 @@ ghost use Rattle.pages.specs.Pages.{decimal};
 ghost use Rattle.folded.specs.Layout.{timed};
 ghost use Rattle.meaning.specs.Timing.{uncounted};
 ghost use Rattle.pens.specs.Pens.{signedTimed, Writes};
+use words::START;
 
 // How many bytes stand in the page; or there was no room for all (`full`).
 pub struct Pen {
     pub at: usize,
     pub full: bool,
 }
-
-// The cycle's start, counted as an event's time is.
-const START: u64 = 1_000_000_000;
 
 // Picoseconds of a nanosecond.
 const NANO: u64 = 1_000;

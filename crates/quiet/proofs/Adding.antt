@@ -7,7 +7,7 @@ use mathlib.Core.Option.{Option, none, some}
 use mathlib.Core.List.{List, [], _∷_, _++_}
 use lib.ListN.{length, getD}
 use Rattle.meaning.specs.Timing.{Event, rises, addEvents, blanks, wavesOf, wavesFor}
-use Rattle.edges.specs.Edges.{lastBehind}
+use Rattle.meaning.specs.Edges.{lastBehind}
 use Rattle.edges.proofs.Behind.{last-++}
 use Rattle.quiet.specs.Quiet.{earliest, Inside, Each, EventsIn, WavesIn}
 use Rattle.quiet.proofs.Each.{each-++, each-more}

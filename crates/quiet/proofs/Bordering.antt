@@ -10,7 +10,7 @@ use Rattle.meaning.specs.Timing.{Event, Wave, Tables}
 use Rattle.meaning.specs.Body.{Body}
 use Rattle.meaning.specs.Meaning.{tableAt}
 use Rattle.meaning.specs.Services.{waveOf}
-use Rattle.edges.specs.Edges.{Category, belongs, timesIn, firstOf, lastBehind, firstTime, lastTime, periodAt, firstInRun}
+use Rattle.meaning.specs.Edges.{Category, belongs, timesIn, firstOf, lastBehind, firstTime, lastTime, periodAt, firstInRun}
 use Rattle.edges.specs.Bordered.{Bordered}
 use Rattle.edges.proofs.Bordered.{any, border-runs}
 use Rattle.quiet.specs.Quiet.{earliest, Inside, Each, EventsIn, WavesIn, TablesIn}

@@ -1,31 +1,26 @@
--- What is read again, part by part: an event, an entry, a name's entries, a table, and Timing of a text that was read.
+-- What is read again, part by part: an event, an entry, a name's entries, a table.
 use Prim.Native.Nat.{ℕ, _≤_, _<_}
 use native.Mathlib.Omega.{arith}
-use mathlib.Core.Path.{_≡_, refl, sym, ap, _∙_, subst}
+use mathlib.Core.Path.{_≡_, sym, _∙_, subst}
 use mathlib.Core.Option.{Option, none, some}
 use mathlib.Core.List.{List, [], _∷_, _++_}
 use lib.ListN.{length}
-use Rattle.tokens.specs.Tokens.{Tok, Toks, toks}
+use Rattle.tokens.specs.Tokens.{Tok, Toks}
 use Rattle.meaning.specs.Bounds.{entryMost}
-use Rattle.meaning.specs.Reader.{Reader, ok, after, _>>=_, give, word, due, until, option}
+use Rattle.meaning.specs.Reader.{Reader, after, _>>=_, give, word, due, until}
 use Rattle.meaning.specs.Names.{name, known, oldName}
-use Rattle.meaning.specs.Signals.{Names, signals}
-use Rattle.meaning.specs.Groups.{groups}
-use Rattle.meaning.specs.Timing.{Events, Wave, Tables, event, blanks, wavesFor, entry, waveforms, timing}
-use Rattle.meaning.specs.Document.{Read, document}
-use Rattle.meaning.proofs.Gives.{bind-go, give-ok}
-use Rattle.held.proofs.Rest.{moving, moves-leaves, moves-bind, moves-due, moves-word, moves-name, moves-old, leaves-option}
-use Rattle.held.proofs.Grammar.{moves-event, moves-signals, moves-groups}
-use Rattle.held.proofs.Places.{rest-stream}
-use Rattle.held.proofs.Parts.{parts as document-parts}
+use Rattle.meaning.specs.Signals.{Names}
+use Rattle.meaning.specs.Timing.{Events, Wave, Tables, event, blanks, wavesFor, entry, waveforms}
+use Rattle.meaning.proofs.Gives.{give-ok}
+use Rattle.held.proofs.Rest.{moves-leaves, moves-due, moves-word, moves-name, moves-old}
+use Rattle.held.proofs.Grammar.{moves-event}
 use Rattle.words.specs.Cursor.{Goes, ahead as aheadTok}
 use Rattle.words.specs.declared.Cursor.{Cursor}
-use Rattle.signals.specs.Names.{front, Fronted}
 use Rattle.timing.proofs.EventTimes.{as-many}
 use Rattle.waves.specs.Waves.{OneEvent}
 use Rattle.waves.specs.declared.EventRead.{EventRead}
-use Rattle.waves.proofs.Lines.{line, added-length, went}
-use Rattle.spots.specs.Answers.{Answers, Behind, Opens}
+use Rattle.waves.proofs.Lines.{line, added-length}
+use Rattle.spots.specs.Answers.{Answers, Behind}
 use Rattle.spots.proofs.Following.{parts, behind, next, tested, finished}
 use Rattle.spots.proofs.Entering.{entry-parts}
 use Rattle.quiet.specs.Quiet.{earliest, Inside, Lined, WavesIn, TablesIn}
@@ -114,20 +109,3 @@ name-reads ns ws x g h =
 
 pub one-more : (tabs : Tables) {it : Tables} (t : Tok) (n : ℕ) (ws : List Wave) → it ≡ tabs ++ (t, record { period = n; waves = ws }) ∷ [] → TablesIn tabs → WavesIn n ws → TablesIn it
 one-more tabs t n ws e h k = subst TablesIn (sym e) (each-more _ tabs (t, record { period = n; waves = ws }) h k)
-
--- ---- Timing of a text that was read
-
-pub timing-read : {text : List ℕ} {c r : Cursor} {places lists : List ℕ} {count total : ℕ} (d : Read) (ts : Toks) → document (toks text 0) ≡ ok d ts
-    → ((ts : Toks) → Opens text ts → Behind text c ts) → Fronted text c r places lists count total → (ns : Names) × (us : Toks) × Answers text r (timing ns) (d .tables) us
-unfolding front give
-timing-read {text} {c} {r} d ts e o f =
-    let p = document-parts (toks text 0) .all d ts e in
-    let b = o (p .signals-at) (record { last = p .opening-end; read = p .opening-read }) in
-    let fronted : front (p .signals-at) ≡ ok (d .signals, p .names) (p .timing-at) =
-    bind-go signals (λ ss. option "SignalGroups" groups ss >>= λ ns. give (ss, ns)) (p .signals-at) (d .signals) (p .groups-at) (p .signals-read)
-    ∙ bind-go (option "SignalGroups" groups (d .signals)) (λ ns. give (d .signals, ns)) (p .groups-at) (p .names) (p .timing-at) (p .groups-read) in
-    let w = went (f .goes) (b .on) (ap front (b .there) ∙ fronted) in
-    let x = rest-stream text (moves-leaves (moves-bind _ _ (moves-due _) λ x. search moving) .rest _ _ _ (p .opening-read)) (0, refl) in
-    let y = rest-stream text (moves-leaves moves-signals .rest _ _ _ (p .signals-read)) x in
-    let z = rest-stream text (leaves-option "SignalGroups" groups (λ ns. moves-leaves (moves-groups ns)) _ .rest _ _ _ (p .groups-read)) y in
-    (p .names, p .bodies-at, record { on = w .on; placed = (z .0, w .behind ∙ z .1); gives = ap (timing (p .names)) (w .behind) ∙ p .timing-read })

@@ -5,6 +5,7 @@ use mathlib.Core.Bool.{true}
 use mathlib.Core.List.{List, [], _∷_}
 use lib.ListN.{length}
 use Rattle.tokens.specs.Tokens.{Tok, Toks}
+use Rattle.meaning.specs.Bounds.{timeMost}
 use Rattle.meaning.specs.Reader.{Reader}
 use Rattle.meaning.specs.Timing.{Event, Events, Wave, Table, Tables}
 use Rattle.words.specs.declared.Cursor.{Cursor}
@@ -13,7 +14,7 @@ use Rattle.quiet.specs.declared.Look.{Look}
 
 -- the time of a cycle's start, as times are counted
 abbrev pub earliest : ℕ
-earliest = 0
+earliest = timeMost
 
 -- a time in the cycle from a start on
 pub record Inside (start period t : ℕ) : Type 0 where

@@ -12,13 +12,11 @@ ghost use Rattle.meaning.specs.Signals.{Names};
 ghost use Rattle.meaning.specs.Timing.{Tables, event as eventOf, entry as entryOf, waveforms as waveformsOf, table as tableOf, timing as timingOf};
 ghost use Rattle.meaning.specs.Body.{Body};
 ghost use Rattle.meaning.specs.Document.{Read, document};
-ghost use Rattle.edges.specs.Edges.{firstInRun};
+ghost use Rattle.meaning.specs.Edges.{firstInRun};
 ghost use Rattle.spots.specs.Answers.{Answers};
 ghost use Rattle.quiet.specs.Quiet.{Inside, Lined, WavesIn, TablesIn, Coming, Keeps};
 use words::Cursor;
-
-// The time of a cycle's start, as times are counted.
-const EARLIEST: u64 = 0;
+use words::START;
 
 // Does a time lie within a cycle of this start and period.
 fn within(t: u64, start: u64, period: u64) -> bool
@@ -48,7 +46,7 @@ fn events(text: &[u8], c: Cursor, period: u64) -> Look
     while words::until(text, cursor, b"}") {
         let e = waves::event(text, cursor, 0);
         cursor = e.cursor;
-        if !within(e.time, EARLIEST, period) {
+        if !within(e.time, START, period) {
             return Look {
                 cursor,
                 inside: false,
@@ -71,7 +69,7 @@ fn entry(text: &[u8], c: Cursor, period: u64) -> Look
     let e = words::due(text, d, b"{");
     let first = waves::event(text, e, 0);
     let cursor = first.cursor;
-    if !within(first.time, EARLIEST, period) {
+    if !within(first.time, START, period) {
         return Look {
             cursor,
             inside: false,

@@ -6,14 +6,14 @@ use mathlib.Core.Bool.{Bool, true, false, _||_}
 use mathlib.Core.List.{List, [], _∷_, _++_}
 use lib.ListN.{length}
 use lib.Dec.{ltb, leb}
-use borrow.Author.Tests.{leb-false}
+use borrow.Author.Tests.{not-false, leb-false}
 use Rattle.tokens.specs.Tokens.{Tok, Toks, toks}
 use Rattle.meaning.specs.Bounds.{entryMost}
 use Rattle.meaning.specs.Lists.{repeats}
 use Rattle.meaning.specs.Reader.{Reader, ok, after, _>>=_, give, any, isWord, word, due, until}
 use Rattle.meaning.specs.Names.{oldName}
 use Rattle.meaning.specs.Timing.{Wave, Events, event, blanks, taken, wavesFor, entry, waveforms}
-use Rattle.meaning.proofs.Gives.{bind-ok, bind-go, give-ok, gives-if, no-not}
+use Rattle.meaning.proofs.Gives.{bind-ok, bind-go, give-ok, gives-if}
 use Rattle.meaning.proofs.SameTokens.{stands-there}
 use Rattle.held.proofs.Rest.{moves-leaves, moves-word, moves-due, moves-old}
 use Rattle.held.proofs.Grammar.{moves-event}
@@ -56,7 +56,7 @@ unfolding word
 word-some ts {t} {us} e =
     let i = bind-ok _ _ ts t us e in
     let j = bind-ok _ _ (i .1) t us (i .3) in
-    rw (give-ok (j .3) .0) at (word-real (i .0 .word) (no-not _ (gives-if _ _ _ .all _ _ _ (j .2))))
+    rw (give-ok (j .3) .0) at (word-real (i .0 .word) (not-false _ (gives-if _ _ _ .all _ _ _ (j .2))))
 
 -- it is ahead of a cursor from which one is read
 word-ahead : (text : List ℕ) (c : Cursor) {t : Tok} {us : Toks} → word (stream text c) ≡ ok t us → ltb (c .at) (c .end) ≡ true

@@ -2,12 +2,12 @@
 use Prim.Native.Nat.{ℕ}
 use mathlib.Core.Path.{_≡_, refl, sym, ap, _∙_}
 use mathlib.Core.Bool.{Bool, true, false}
-use mathlib.Core.Option.{Option, none, some}
+use mathlib.Core.Option.{Option}
 use mathlib.Core.List.{List}
 use lib.ListN.{length}
 use Rattle.meaning.specs.Refusals.{notPlayable, acrossEdge}
 use Rattle.meaning.specs.Edges.{firstInRun}
-use Rattle.meaning.specs.Meaning.{Answer, given, refused, answering, firsts, Meaning, ordered, meaning}
+use Rattle.meaning.specs.Meaning.{Answer, given, refused, answering, firsts, ordered, meaning}
 use Rattle.meaning.specs.Services.{Counts, counts, namesOf}
 use Rattle.meaning.proofs.Listed.{length-firsts}
 use Rattle.words.specs.Table.{names}

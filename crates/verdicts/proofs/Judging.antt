@@ -1,8 +1,6 @@
 -- From what was decided, played and copied to what is told of any text: refused as the definition refuses it, or accepted, with its counts and names.
 use Prim.Native.Nat.{ℕ}
-use native.Mathlib.Omega.{arith}
 use mathlib.Core.Path.{_≡_, sym, ap, _∙_}
-use mathlib.Core.Bool.{true, false}
 use mathlib.Core.List.{List}
 use Rattle.meaning.specs.Meaning.{refused}
 use Rattle.meaning.specs.Services.{nameAt}

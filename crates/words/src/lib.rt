@@ -655,6 +655,12 @@ pub fn number_in(text: &[u8], c: Cursor, lo: u32, hi: u32) -> Numbered
     Numbered { cursor, n: v.n }
 }
 
+// The largest time, in ps.
+const TIME_MOST: u32 = 1_000_000_000;
+
+// A cycle's start, where times are counted from the earliest that there may be.
+pub const START: u64 = TIME_MOST as u64;
+
 // A time in quotes, from lo on, is due.
 pub fn quoted(text: &[u8], c: Cursor, lo: u32) -> Numbered
     ensures { λ r. ⌜ Goes (now (text .entry)) c (quotedDue lo) (r .cursor) (r .n) ⌝ }
@@ -662,27 +668,24 @@ pub fn quoted(text: &[u8], c: Cursor, lo: u32) -> Numbered
     let d = due(text, c, b"'");
     let e = word(text, d);
     let v = time(bytes_of(text, d.at, d.end));
-    let f = within(e, v, lo, 1_000_000_000, d.at);
+    let f = within(e, v, lo, TIME_MOST, d.at);
     let cursor = due(text, f, b"'");
     Numbered { cursor, n: v.n }
 }
 
 // ---- times with a sign, counted from the earliest that there may be
 
-// How far before the cycle's start that is, and the latest one behind it.
-const TIME_MOST: u64 = 1_000_000_000;
-
 // A time behind the cycle's start, or before it (`minus`).
 fn counted(n: u64, minus: bool) -> u64
     ensures { λ r. ⌜ (n ≤ timeMost → r ≡ countedOf (signOf minus n)) ⌝ }
 {
-    if TIME_MOST < n {
-        return TIME_MOST;
+    if START < n {
+        return START;
     }
     if minus {
-        return TIME_MOST - n;
+        return START - n;
     }
-    TIME_MOST + n
+    START + n
 }
 
 // The word of a time is due, behind its sign.
@@ -691,7 +694,7 @@ fn time_of(text: &[u8], c: Cursor, minus: bool) -> Numbered
 {
     let d = word(text, c);
     let v = time(bytes_of(text, c.at, c.end));
-    let cursor = within(d, v, 0, 1_000_000_000, c.at);
+    let cursor = within(d, v, 0, TIME_MOST, c.at);
     let n = counted(v.n, minus);
     Numbered { cursor, n }
 }
