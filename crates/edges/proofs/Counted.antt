@@ -17,7 +17,7 @@ use Rattle.edges.specs.Edges.{Category, drive, compare, belongs, timesIn
 use Rattle.edges.specs.Signed.{Signed, plus, minus, counted, uncounted, signedBefore, eventsFrom, wavesFrom, tablesFrom}
 
 -- two tests that hold together
-ltb-alike : (a b c d : ℕ) → (a < b → c < d) → (c < d → a < b) → ltb a b ≡ ltb c d
+pub ltb-alike : (a b c d : ℕ) → (a < b → c < d) → (c < d → a < b) → ltb a b ≡ ltb c d
 ltb-alike a b c d f g = by (ltb a b) refl (ltb c d) refl
   where
     by : (x : Bool) → ltb a b ≡ x → (y : Bool) → ltb c d ≡ y → x ≡ y

@@ -38,7 +38,7 @@ gives-within a b (some m) p = record { all = λ ts n us e. by ts n us (leb a m) 
     by ts n us true false h e = let z : _≡_ {A = ℕ} 0 1 = cc in absurd (omega arith)
     by ts n us false y h e = let z : _≡_ {A = ℕ} 0 1 = cc in absurd (omega arith)
 
-gives-quoted : (a : ℕ) → Gives (λ n. n ≤ timeMost) (quoted a)
+pub gives-quoted : (a : ℕ) → Gives (λ n. n ≤ timeMost) (quoted a)
 unfolding quoted
 gives-quoted a =
     gives-after _ _ _ λ p. gives-after _ _ _ λ t. gives-bind (λ n. n ≤ timeMost) _ _ _ (gives-within a timeMost _ _) λ n h. gives-after _ _ _ λ q. gives-give _ n h

@@ -1,0 +1,4 @@
+mod Looking
+mod Adding
+mod Filling
+mod Fitting
