@@ -1,13 +1,18 @@
 -- Numbers put one by one, slot by slot, table by table.
-use Prim.Native.Nat.{ℕ, _+_, _*_, _<_}
+use Prim.Native.Nat.{ℕ, _+_, _*_, _/_, _%_, _<_, _≤_}
 use native.Mathlib.Omega.{arith}
-use mathlib.Core.Path.{_≡_, refl, sym, ap, _∙_}
+use mathlib.Core.Path.{_≡_, refl, sym, ap, _∙_, subst}
+use mathlib.Core.Bool.{Bool, true, false}
+use mathlib.Core.Option.{Option}
 use mathlib.Core.List.{List}
+use lib.Dec.{leb, eqb}
+use borrow.Author.Tests.{le-leb, eqb-true, eqb-false}
 use lib.ListN.{length, getD, set, length-set}
 use lib.Seq.{getD-set-same, getD-set-other}
-use Rattle.edges.specs.Edges.{Category, drive, compare}
-use Rattle.spans.specs.Spans.{slotsMost, timesMost, side, timeAt}
-use Rattle.spans.specs.Parts.{Put}
+use Rattle.meaning.specs.Timing.{Event, Wave}
+use Rattle.edges.specs.Edges.{Category, drive, compare, eventsOf}
+use Rattle.spans.specs.Spans.{charFirst, charsWide, tableWide, slotsMost, timesMost, inside, coded, timeAt}
+use Rattle.spans.specs.Parts.{Put, Upto}
 
 -- ---- one slot
 
@@ -27,3 +32,39 @@ put-two row n d c h k =
         getD-set-other (set row (n * 2) d) (n * 2 + 1) (m * 2 + 0) c 0 (λ p. omega arith) ∙ getD-set-other row (n * 2) (m * 2 + 0) d 0 (λ p. q (omega arith))
     other m compare q =
         getD-set-other (set row (n * 2) d) (n * 2 + 1) (m * 2 + 1) c 0 (λ p. q (omega arith)) ∙ getD-set-other row (n * 2) (m * 2 + 1) d 0 (λ p. omega arith)
+
+-- ---- slot by slot
+
+pub char-inside : (i : ℕ) → inside (charFirst + i % charsWide) ≡ true
+char-inside i =
+    let l : leb charFirst (charFirst + i % charsWide) ≡ true = le-leb charFirst (charFirst + i % charsWide) (omega arith) in
+    let r : leb (charFirst + i % charsWide) 122 ≡ true = le-leb (charFirst + i % charsWide) 122 (omega arith) in
+    rw (l, r)
+
+module _ (f : Category → List Event → Option ℕ) (j : ℕ) (ws : List Wave) where
+  abbrev Here : List ℕ → ℕ → Category → Type 0
+  Here row m k = timeAt row (j * tableWide + m) k ≡ coded (f k (eventsOf (m / charsWide) (charFirst + m % charsWide) ws))
+
+  pub upto-none : (row : List ℕ) → Upto f j ws 0 row row
+  upto-none row = record { here = λ m k h. absurd (omega arith); below = λ m k h. refl; above = λ m k h. refl }
+
+  pub upto-more : (i : ℕ) {before mid after : List ℕ} {d c : ℕ} → Upto f j ws i before mid → Put mid (j * tableWide + i) d c after
+      → d ≡ coded (f drive (eventsOf (i / charsWide) (charFirst + i % charsWide) ws)) → c ≡ coded (f compare (eventsOf (i / charsWide) (charFirst + i % charsWide) ws))
+      → Upto f j ws (i + 1) before after
+  upto-more i {before} {mid} {after} {d} {c} x p e g =
+      record {
+        here = λ m k h. by m k h (eqb m i) refl;
+        below = λ m k h. p .others m k (λ q. omega arith) ∙ x .below m k h;
+        above = λ m k h. p .others m k (λ q. omega arith) ∙ x .above m k (omega arith);
+      }
+    where
+      own : (k : Category) → Here after i k
+      own drive = p .drives ∙ e
+      own compare = p .compares ∙ g
+
+      by : (m : ℕ) (k : Category) → m < i + 1 → (b : Bool) → eqb m i ≡ b → Here after m k
+      by m k h true q = subst (λ (n : ℕ). Here after n k) (sym (eqb-true m i q)) (own k)
+      by m k h false q = let n = eqb-false m i q in p .others (j * tableWide + m) k (λ z. n (omega arith)) ∙ x .here m k (omega (arith, n))
+
+  pub upto-all : {i : ℕ} {before after : List ℕ} → i ≡ tableWide → Upto f j ws i before after → Upto f j ws tableWide before after
+  upto-all {before = before} {after = after} e x = subst (λ (n : ℕ). Upto f j ws n before after) e x

@@ -2,3 +2,4 @@ mod Looking
 mod Adding
 mod Filling
 mod Fitting
+mod Tables
