@@ -31,20 +31,20 @@ unfolding bytes
 table-requires c κs = 
     let start = c .before .before .before .before .before .before .before .before .before .before .before .before .before in
     let ns = namesOf (start .args .text .now) (start .args .places .now) (start .args .lists .now) (start .args .names) in
-    let t = timing-first ns (start .pre .2 .2) (c .before .before .before .before .before .due .ensures) (c .before .before .before .due2 .ensures) in
-    (start .pre .0, ([], t .0, t .1, record { count = refl; spans = spans-none (start .pre .1) }, t .2))
+    let t = timing-first ns (start .pre .1 .1 .2) (c .before .before .before .before .before .due .ensures) (c .before .before .before .due2 .ensures) in
+    (start .pre .0, ([], t .0, t .1, record { count = refl; spans = spans-none (start .pre .1 .0) }, t .2))
 
 others-requires : tie.Need-others-requires
 unfolding bytes
 others-requires c κs = 
     let start = c .before .before .before .before .before .before .before .before .before .before .before .before .before .before .before .before .before .before .before .before .before .before .before in
     let ns = namesOf (start .args .text .now) (start .args .places .now) (start .args .lists .now) (start .args .names) in
-    let t = timing-first ns (start .pre .2 .2) (c .before .before .before .before .before .before .before .before .before .before .before .before .before .before .before .due .ensures) (c .before .before .before .before .before .before .before .before .before .before .before .before .before .due2 .ensures) in
-    let w = c .before .before .before .before .before .before .before .before .before .table .ensures [] (t .0) (t .1) (record { count = refl; spans = spans-none (start .pre .1) }) (t .2) in
+    let t = timing-first ns (start .pre .1 .1 .2) (c .before .before .before .before .before .before .before .before .before .before .before .before .before .before .before .due .ensures) (c .before .before .before .before .before .before .before .before .before .before .before .before .before .due2 .ensures) in
+    let w = c .before .before .before .before .before .before .before .before .before .table .ensures [] (t .0) (t .1) (record { count = refl; spans = spans-none (start .pre .1 .0) }) (t .2) in
     let k = c .before .before .before .before .before .before .before .before .before .table .kept in
     (
       (still-sized (start .pre .0 .0) (k .1 .1 .1 .1 .1 .1 .0, k .1 .1 .1 .1 .1 .1 .1 .0, k .1 .1 .1 .1 .1 .1 .1 .1 .0), start .pre .0 .1),
-      (t .0, start .pre .2 .0, start .pre .2 .1, w .1, behind (table ns []) (until "}" (table ns)) (moves-leaves (moves-table ns [])) (t .2) (t .3) (w .0)),
+      (t .0, start .pre .1 .1 .0, start .pre .1 .1 .1, w .1, behind (table ns []) (until "}" (table ns)) (moves-leaves (moves-table ns [])) (t .2) (t .3) (w .0)),
     )
 
 same-length : tie.Need-same-length
@@ -63,7 +63,7 @@ returns c =
     let ns = namesOf (start .args .text .now) (start .args .places .now) (start .args .lists .now) (start .args .names) in
     λ it us x. (
       let t = timing-first ns x (c .before .before .before .before .before .before .before .before .before .before .before .before .before .before .before .before .before .before .before .before .before .before .due .ensures) (c .before .before .before .before .before .before .before .before .before .before .before .before .before .before .before .before .before .before .before .before .due2 .ensures) in
-      let w = c .before .before .before .before .before .before .before .before .before .before .before .before .before .before .before .before .table .ensures [] (t .0) (t .1) (record { count = refl; spans = spans-none (start .pre .1) }) (t .2) in
+      let w = c .before .before .before .before .before .before .before .before .before .before .before .before .before .before .before .before .table .ensures [] (t .0) (t .1) (record { count = refl; spans = spans-none (start .pre .1 .0) }) (t .2) in
       c .before .before .before .before .before .before .others .ensures (t .0) it us (w .1) (behind (table ns []) (until "}" (table ns)) (moves-leaves (moves-table ns [])) (t .2) (t .3) (w .0)))
 
 pub fill-spec : {M : Type 1} → statement M
