@@ -7,6 +7,8 @@ use mathlib.Core.Option.{Option, none, some}
 use mathlib.Core.List.{List, [], _∷_, _++_}
 use lib.Dec.{leb, eqb}
 use borrow.Author.Tests.{leb-true, le-leb, eqb-true, ne-eqb}
+use lib.ListN.{getD}
+use Rattle.tokens.specs.Tokens.{Tok}
 use Rattle.tokens.specs.Bytes.{between, digit, letter}
 use Rattle.meaning.specs.Bounds.{entryMost}
 use Rattle.meaning.specs.Refusals.{tooMany}
@@ -17,7 +19,7 @@ use Rattle.meaning.specs.Run.{unassigned}
 use Rattle.meaning.specs.Services.{waveOf}
 use Rattle.meaning.proofs.Gives.{known-ok, no-not, Gives, gives-bind, gives-after, gives-give, gives-if, gives-until}
 use Rattle.meaning.proofs.Choices.{gives-refuse, gives-either}
-use Rattle.timing.specs.Watch.{Watched}
+use Rattle.timing.specs.Watch.{numberOf, Watched}
 use Rattle.timing.proofs.EventReading.{gives-quoted}
 use Rattle.waves.specs.Waves.{EntryAt}
 use Rattle.waves.proofs.Entries.{entry-found}
@@ -185,6 +187,21 @@ outside-none s b ws g h = events-none s b ws (by (waveOf s b ws) refl)
 module _ {text : List ℕ} (s b : ℕ) (spot : ℕ) (ws : List Wave) (x : Watched text (watchOf s b) (not (eqb spot 0)) (spot - 1) ws) where
   pub spot-nothing : spot ≡ 0 → eventsOf s b ws ≡ []
   spot-nothing e = events-none s b ws (x .no (rw e))
+
+  -- another signal with the same spot has the same events
+  pub spot-same : (o : ℕ) → Watched text (watchOf o b) (not (eqb spot 0)) (spot - 1) ws → eventsOf o b ws ≡ eventsOf s b ws
+  unfolding eventsOf
+  spot-same o y =
+      ap (λ (w : Option (List Event)). elim (eqb b unassigned) as (λ z. List Event) [ true ↦ [] | false ↦ elim w [ none ↦ [] | some es ↦ es ] ]) (by (not (eqb spot 0)) x y)
+    where
+      by : (f : Bool) → Watched text (watchOf s b) f (spot - 1) ws → Watched text (watchOf o b) f (spot - 1) ws → waveOf o b ws ≡ waveOf s b ws
+      by false x y = y .no refl ∙ sym (x .no refl)
+      by true x y =
+          let u = x .yes refl in
+          let v = y .yes refl in
+          let e = sym (v .there) ∙ u .there in
+          let q : _≡_ {A = Tok × Events} (record { at = spot - 1; word = v .chars }, v .events) (record { at = spot - 1; word = u .chars }, u .events) = cc in
+          v .wave ∙ ap (λ (p : Tok × Events). some (getD (p .1 .0) (numberOf b (p .0 .word)) [])) q ∙ sym (u .wave)
 
   pub spot-entry : (spot ≡ 0 → ⊥) → (es : List Event) × EntryAt text (spot - 1) b es × (Fit ws → inside b ≡ true → Timely es × (eventsOf s b ws ≡ es))
   spot-entry h =

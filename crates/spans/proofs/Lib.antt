@@ -1,5 +1,5 @@
 mod Looking
 mod Adding
-mod Filling
 mod Fitting
+mod Filling
 mod Tables

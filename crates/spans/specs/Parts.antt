@@ -41,6 +41,13 @@ pub record Put (before : List ℕ) (n d c : ℕ) (after : List ℕ) : Type 0 whe
   pub compares : timeAt after n compare ≡ c
   pub others : (m : ℕ) (k : Category) → (m ≡ n → ⊥) → timeAt after m k ≡ timeAt before m k
 
+-- what stands at a slot
+pub record Filled (firsts lasts : List ℕ) (n : ℕ) (r : Both) : Type 0 where
+  pub first-drive : r .drive .first ≡ timeAt firsts n drive
+  pub last-drive : r .drive .last ≡ timeAt lasts n drive
+  pub first-compare : r .compare .first ≡ timeAt firsts n compare
+  pub last-compare : r .compare .last ≡ timeAt lasts n compare
+
 -- the first i slots of table j hold the times f of these waveforms, and nothing else changed
 pub record Upto (f : Category → List Event → Option ℕ) (j : ℕ) (ws : List Wave) (i : ℕ) (before after : List ℕ) : Type 0 where
   pub here : (m : ℕ) (k : Category) → m < i → timeAt after (j * tableWide + m) k ≡ coded (f k (eventsOf (m / charsWide) (charFirst + m % charsWide) ws))

@@ -1,6 +1,6 @@
 // The first and last time of each waveform in each category, read from Timing once more: tables for holding a cycle against the one before.
 ghost use mathlib.Core.Path.{_≡_};
-ghost use Prim.Native.Nat.{ℕ, suc, _+_, _-_, _*_, _≤_, _<_};
+ghost use Prim.Native.Nat.{ℕ, suc, _+_, _-_, _*_, _/_, _%_, _<_};
 ghost use mathlib.Core.Bool.{Bool, true, false, cond, not, _&&_};
 ghost use mathlib.Core.Option.{Option};
 ghost use mathlib.Core.List.{List, [], _∷_, _++_};
@@ -17,8 +17,8 @@ ghost use Rattle.waves.specs.Waves.{EntryAt};
 ghost use Rattle.spots.specs.Answers.{Answers, Behind};
 ghost use Rattle.spots.specs.Spots.{spotsMost, watchOf, Spots, Listed};
 ghost use Rattle.edges.specs.Edges.{Category, belongs, firstTime, lastTime, before as beforeOf, follows, eventsOf, periodAt};
-ghost use Rattle.spans.specs.Spans.{inside as insideOf, tableWide, timesMost, slotsMost, slotOf, coded as codedOf, timeAt, Sized, Spans};
-ghost use Rattle.spans.specs.Parts.{timesBelow, Timely, Fit, Spanning, Spanned, Put, Upto, Held};
+ghost use Rattle.spans.specs.Spans.{charFirst, charsWide, inside as insideOf, tableWide, timesMost, slotsMost, slotOf, coded as codedOf, timeAt, Sized, Spans};
+ghost use Rattle.spans.specs.Parts.{timesBelow, Timely, Fit, Spanning, Spanned, Put, Filled, Upto, Held};
 use words::Cursor;
 
 // Characters that have times: from the first digit to the last letter.
@@ -27,6 +27,9 @@ const FIRST: usize = 48;
 const CHARS: usize = 75;
 
 const TABLE: usize = sets::MOST * CHARS;
+
+// Places of entries that are told apart where the times of a table are shared.
+const OWNERS: usize = 256;
 
 // How long the arrays are: first times and last times, two numbers for each table, signal and character; and a period for each table.
 pub const TIMES: usize = timing::TABLES * TABLE * 2;
@@ -191,7 +194,49 @@ fn put(row: &mut [u32], n: usize, drive: u32, compare: u32)
     row[n * 2 + 1] = compare;
 }
 
-// The times of a table's waveforms, from its spots.
+// Those of a slot that is filled.
+fn filled<'a>(firsts: &'a [u32], lasts: &'a [u32], n: usize) -> Both
+    requires { ⌜ (length (now firsts) ≡ timesMost) × (length (now lasts) ≡ timesMost) × (n < slotsMost) ⌝ }
+    ensures { λ r. ⌜ Filled (now (firsts .entry)) (now (lasts .entry)) n r ⌝ }
+{
+    let at = n * 2;
+    let drive = Span {
+        first: firsts[at],
+        last: lasts[at],
+    };
+    let compare = Span {
+        first: firsts[at + 1],
+        last: lasts[at + 1],
+    };
+    Both { drive, compare }
+}
+
+// Those of slot i of table j. Where an earlier signal has the same entry they are its, so that a group's entries are read once.
+fn slot<'a>(
+    text: &'a [u8],
+    spots: &'a [usize],
+    firsts: &'a [u32],
+    lasts: &'a [u32],
+    j: usize,
+    i: usize,
+    earlier: usize,
+) -> Both
+    requires { ⌜ (length (now spots) ≡ spotsMost) × (length (now firsts) ≡ timesMost) × (length (now lasts) ≡ timesMost) × (j < tablesMost) × (i < tableWide) ⌝ }
+    requires { ⌜ ((ws : List Wave) × Spots (now text) (now spots) ws) ⌝ }
+    ensures { λ r. ⌜ ((ws : List Wave) (f l : List ℕ) → Spots (now (text .entry)) (now (spots .entry)) ws → Fit ws → Upto firstTime j ws i f (now (firsts .entry)) → Upto lastTime j ws i l (now (lasts .entry)) → Spanned r (eventsOf (i / charsWide) (charFirst + i % charsWide) ws)) ⌝ }
+{
+    let s = i / CHARS;
+    let char = FIRST + i % CHARS;
+    let spot = spots[s * spots::BYTES + char];
+    if earlier < s {
+        if spots[earlier * spots::BYTES + char] == spot {
+            return filled(firsts, lasts, j * TABLE + (earlier * CHARS + i % CHARS));
+        }
+    }
+    of_spot(text, spot, char as u8)
+}
+
+// The times of a table's waveforms, from its spots. Of each place, as far as they differ, the last signal that had it is kept.
 fn table_times<'a>(
     text: &'a [u8],
     spots: &'a [usize],
@@ -203,15 +248,18 @@ fn table_times<'a>(
     requires { ⌜ ((ws : List Wave) × Spots (now text) (now spots) ws) ⌝ }
     ensures { λ r. ⌜ ((ws : List Wave) → Spots (now (text .entry)) (now (spots .entry)) ws → Fit ws → Upto firstTime j ws tableWide (now (firsts .entry)) (now (firsts .exit)) × Upto lastTime j ws tableWide (now (lasts .entry)) (now (lasts .exit))) ⌝ }
 {
+    let mut owners = [0usize; OWNERS];
     let mut i = 0;
     while i < TABLE {
-        let char = FIRST + i % CHARS;
-        let at = i / CHARS * spots::BYTES + char;
-        let x = of_spot(text, spots[at], char as u8);
+        let s = i / CHARS;
+        let place = spots[s * spots::BYTES + (FIRST + i % CHARS)] % OWNERS;
+        let earlier = owners[place];
+        let x = slot(text, spots, &firsts[..], &lasts[..], j, i, earlier);
         let drive = x.drive;
         let compare = x.compare;
         put(firsts, j * TABLE + i, drive.first, compare.first);
         put(lasts, j * TABLE + i, drive.last, compare.last);
+        owners[place] = s;
         i += 1;
     }
 }

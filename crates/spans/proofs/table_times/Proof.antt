@@ -1,5 +1,5 @@
 -- `table_times` meets its contract. The invariant: the first i slots of the table hold its times.
-use Prim.Native.Nat.{_-_, _≤_, _+_, _/_, _%_}
+use Prim.Native.Nat.{_-_, _≤_}
 use native.Mathlib.Omega.{arith}
 use mathlib.Core.Path.{_≡_, refl, _∙_}
 use mathlib.Core.List.{List}
@@ -9,43 +9,46 @@ use Rattle.edges.specs.Edges.{firstTime, lastTime}
 use Rattle.spots.specs.Spots.{Spots}
 use Rattle.spans.specs.Spans.{tableWide}
 use Rattle.spans.specs.Parts.{Fit, Upto}
-use Rattle.spans.proofs.Filling.{char-inside, upto-none, upto-more, upto-all}
+use Rattle.spans.proofs.Filling.{upto-none, upto-more, upto-all}
 use borrow.Author.Needs.{needs}
 use Rattle.spans.proofs.table_times.Statement.{statement}
 use Rattle.spans.proofs.table_times.Tie as tie
 
 abbrev Inv-loop : tie.InvT-loop
-Inv-loop text spots j firsts₀ lasts₀ i₀ firsts lasts i = (i ≤ tableWide) × (length firsts ≡ length firsts₀) × (length lasts ≡ length lasts₀) × ((ws : List Wave) → Spots text spots ws → Fit ws → Upto firstTime j ws i firsts₀ firsts × Upto lastTime j ws i lasts₀ lasts)
+Inv-loop text spots j firsts₀ lasts₀ owners₀ i₀ firsts lasts owners i = (i ≤ tableWide) × (length firsts ≡ length firsts₀) × (length lasts ≡ length lasts₀) × ((ws : List Wave) → Spots text spots ws → Fit ws → Upto firstTime j ws i firsts₀ firsts × Upto lastTime j ws i lasts₀ lasts)
 
 abbrev μ-loop : tie.MeasureT-loop
-μ-loop text spots j firsts₀ lasts₀ i₀ firsts lasts i = tableWide - i
+μ-loop text spots j firsts₀ lasts₀ owners₀ i₀ firsts lasts owners i = tableWide - i
 
 loop-holds : tie.Need-loop-holds Inv-loop μ-loop
 loop-holds c = (omega arith, refl, refl, λ ws x g. (upto-none firstTime _ ws _, upto-none lastTime _ ws _))
 
-add-char : tie.Need-add-char Inv-loop μ-loop
-add-char c = search needs
+mul-place : tie.Need-mul-place Inv-loop μ-loop
+mul-place c = search needs
 
-mul-at : tie.Need-mul-at Inv-loop μ-loop
-mul-at c = search needs
+add-place : tie.Need-add-place Inv-loop μ-loop
+add-place c = search needs
 
-add-at : tie.Need-add-at Inv-loop μ-loop
-add-at c = search needs
+add-place-2 : tie.Need-add-place-2 Inv-loop μ-loop
+add-place-2 c = search needs
 
-mul-of-spot : tie.Need-mul-of-spot Inv-loop μ-loop
-mul-of-spot c = search needs
+mul-place-2 : tie.Need-mul-place-2 Inv-loop μ-loop
+mul-place-2 c = search needs
 
-shared-slice-read-of-spot : tie.Need-shared-slice-read-of-spot Inv-loop μ-loop
-shared-slice-read-of-spot c = search needs
+shared-slice-read-place : tie.Need-shared-slice-read-place Inv-loop μ-loop
+shared-slice-read-place c = search needs
 
-cast-of-spot : tie.Need-cast-of-spot Inv-loop μ-loop
-cast-of-spot c = search needs
+mul-earlier : tie.Need-mul-earlier Inv-loop μ-loop
+mul-earlier c = search needs
 
-of-spot-requires : tie.Need-of-spot-requires Inv-loop μ-loop
-of-spot-requires c κs =
-    let p = c .before .before .before .before .before .before .before .pre .1 in
-    let i = c .before .before .loop .i in
-    (i / 75, p .0, p .1 .each (i / 75) (48 + i % 75) (omega arith))
+array-read-earlier : tie.Need-array-read-earlier Inv-loop μ-loop
+array-read-earlier c = search needs
+
+slot-requires : tie.Need-slot-requires Inv-loop μ-loop
+slot-requires c κs = 
+    let start = c .before .before .before .before .before .before .before .before .before in
+    let loop = c .before .before .before .before .loop in
+    ((start .pre .0 .0, loop .inv .1 ∙ start .pre .0 .1, loop .inv .2 ∙ start .pre .0 .2, start .pre .0 .3, omega arith), start .pre .1)
 
 mul-put : tie.Need-mul-put Inv-loop μ-loop
 mul-put c = search needs
@@ -65,6 +68,12 @@ add-put-2 c = search needs
 put-requires-2 : tie.Need-put-requires-2 Inv-loop μ-loop
 put-requires-2 c κs = search needs
 
+mul-owners : tie.Need-mul-owners Inv-loop μ-loop
+mul-owners c = search needs
+
+array-write-owners : tie.Need-array-write-owners Inv-loop μ-loop
+array-write-owners c = search needs
+
 add-i : tie.Need-add-i Inv-loop μ-loop
 add-i c = search needs
 
@@ -72,18 +81,20 @@ loop-less : tie.Need-loop-less Inv-loop μ-loop
 loop-less c = search needs
 
 loop-again : tie.Need-loop-again Inv-loop μ-loop
-loop-again c =
-    let loop = c .before .before .before .before .before .before .before .before .before .before .before .before .before .loop in
+loop-again c = 
+    let loop = c .before .before .before .before .before .before .before .before .before .before .before .before .before .before .before .loop in
     let i = loop .i in
     (
       omega arith,
       c .before .before .before .before .before .before .put .kept .0 ∙ loop .inv .1,
       c .before .before .put2 .kept .0 ∙ loop .inv .2,
       λ ws x g. (
-        let spot = c .before .before .before .before .before .before .before .before .before .before .of-spot .ensures (i / 75) ws (x .each (i / 75) (48 + i % 75) (omega arith)) g (char-inside i) in (
-        upto-more firstTime _ ws i (loop .inv .3 ws x g .0) (c .before .before .before .before .before .before .put .ensures) (spot .drives .first) (spot .compares .first),
-        upto-more lastTime _ ws i (loop .inv .3 ws x g .1) (c .before .before .put2 .ensures) (spot .drives .last) (spot .compares .last),
-      )),
+        let y = loop .inv .3 ws x g in
+        let spot = c .before .before .before .before .before .before .before .before .before .before .slot .ensures ws _ _ x g (y .0) (y .1) in
+        (
+          upto-more firstTime _ ws i (y .0) (c .before .before .before .before .before .before .put .ensures) (spot .drives .first) (spot .compares .first),
+          upto-more lastTime _ ws i (y .1) (c .before .before .put2 .ensures) (spot .drives .last) (spot .compares .last),
+        )),
     )
 
 same-length : tie.Need-same-length Inv-loop μ-loop
@@ -93,7 +104,7 @@ same-length-2 : tie.Need-same-length-2 Inv-loop μ-loop
 same-length-2 c = c .before .loop .inv .2
 
 returns : tie.Need-returns Inv-loop μ-loop
-returns c =
+returns c = 
     let loop = c .before .loop in
     let e : loop .i ≡ tableWide = omega arith in
     λ ws x g. (upto-all firstTime _ ws e (loop .inv .3 ws x g .0), upto-all lastTime _ ws e (loop .inv .3 ws x g .1))
@@ -105,19 +116,22 @@ table-times-spec =
     Inv-loop
     μ-loop
     loop-holds
-    add-char
-    mul-at
-    add-at
-    mul-of-spot
-    shared-slice-read-of-spot
-    cast-of-spot
-    of-spot-requires
+    mul-place
+    add-place
+    add-place-2
+    mul-place-2
+    shared-slice-read-place
+    mul-earlier
+    array-read-earlier
+    slot-requires
     mul-put
     add-put
     put-requires
     mul-put-2
     add-put-2
     put-requires-2
+    mul-owners
+    array-write-owners
     add-i
     loop-less
     loop-again
