@@ -353,3 +353,17 @@ pub fn fill<'a>(
     let d = table(text, b, places, lists, names, 0, firsts, lasts, periods);
     others(text, d, places, lists, names, firsts, lasts, periods);
 }
+
+// The times of an accepted text.
+pub fn of_text(text: &[u8], firsts: &mut [u32], lasts: &mut [u32], periods: &mut [u64])
+    requires { ⌜ Sized (now firsts) (now lasts) (now periods) ⌝ }
+    requires { ⌜ ((i : ℕ) → (getD (now firsts) i 0 ≡ 0) × (getD (now lasts) i 0 ≡ 0) × (getD (now periods) i 0 ≡ 0)) ⌝ }
+    requires { ⌜ ((m : Meaning) × (meaning (now text) ≡ given m)) ⌝ }
+    ensures { λ r. ⌜ ((m : Meaning) → meaning (now (text .entry)) ≡ given m → Spans (m .tables) (now (firsts .exit)) (now (lasts .exit)) (now (periods .exit))) ⌝ }
+{
+    let mut places = [0usize; signals::PLACES];
+    let mut lists = [0u16; signals::LISTS];
+    let c = spots::opening(text);
+    let f = signals::front(text, c, &mut places, &mut lists);
+    fill(text, f.cursor, &places, &lists, f.names, firsts, lasts, periods);
+}
