@@ -3,3 +3,4 @@ mod Adding
 mod Fitting
 mod Filling
 mod Tables
+mod Calming

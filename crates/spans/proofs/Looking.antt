@@ -9,8 +9,10 @@ use lib.ListN.{getD}
 use lib.Dec.{leb, ltb, eqb}
 use borrow.Author.Tests.{leb-true, lt-ltb, eq-eqb, ne-eqb}
 use Rattle.meaning.specs.Bounds.{signalsMost, tablesMost}
-use Rattle.meaning.specs.Timing.{Event, Tables}
+use Rattle.meaning.specs.Timing.{Event, Wave, Tables}
+use Rattle.meaning.specs.Run.{unassigned}
 use Rattle.meaning.specs.Meaning.{tableAt}
+use Rattle.meaning.specs.Services.{waveOf}
 use Rattle.edges.specs.Edges.{Category, drive, compare, timesIn, firstOf, lastBehind, firstTime, lastTime, before, apart, follows, eventsOf, periodAt}
 use Rattle.edges.proofs.Counted.{ltb-alike}
 use Rattle.spans.specs.Spans.{charFirst, inside, coded, slotOf, timeAt, Spans}
@@ -74,6 +76,15 @@ module _ (period last first : ℕ) where
 
 -- ---- what the arrays tell
 
+-- without a waveform there are no events
+pub events-none : (s b : ℕ) (ws : List Wave) → waveOf s b ws ≡ none → eventsOf s b ws ≡ []
+unfolding eventsOf
+events-none s b ws e = by (eqb b unassigned)
+  where
+    by : (x : Bool) → _≡_ {A = List Event} (elim x [ true ↦ [] | false ↦ elim (waveOf s b ws) [ none ↦ [] | some es ↦ es ] ]) []
+    by true = refl
+    by false = rw e
+
 module _ {firsts lasts periods : List ℕ} (tabs : Tables) (x : Spans tabs firsts lasts periods) where
   first-number : (j s c : ℕ) (k : Category) {r : ℕ} → j < tablesMost → s < signalsMost → r ≡ cond (inside c) (timeAt firsts (slotOf j s c) k) 0
       → r ≡ coded (firstTime k (eventsOf s c (tableAt tabs j)))
@@ -82,7 +93,7 @@ module _ {firsts lasts periods : List ℕ} (tabs : Tables) (x : Spans tabs first
     where
       by : (b : Bool) → inside c ≡ b → r ≡ cond b (timeAt firsts (slotOf j s c) k) 0 → r ≡ coded (firstTime k (eventsOf s c (tableAt tabs j)))
       by true q e = e ∙ x .first j s c k h g q
-      by false q e = e ∙ sym (ap (λ (es : List Event). coded (firstTime k es)) (x .none j s c q))
+      by false q e = e ∙ sym (ap (λ (es : List Event). coded (firstTime k es)) (events-none s c (tableAt tabs j) (x .outside j s c q)))
 
   last-number : (j s c : ℕ) (k : Category) {r : ℕ} → j < tablesMost → s < signalsMost → r ≡ cond (inside c) (timeAt lasts (slotOf j s c) k) 0
       → r ≡ coded (lastTime k (eventsOf s c (tableAt tabs j)))
@@ -91,7 +102,7 @@ module _ {firsts lasts periods : List ℕ} (tabs : Tables) (x : Spans tabs first
     where
       by : (b : Bool) → inside c ≡ b → r ≡ cond b (timeAt lasts (slotOf j s c) k) 0 → r ≡ coded (lastTime k (eventsOf s c (tableAt tabs j)))
       by true q e = e ∙ x .last j s c k h g q
-      by false q e = e ∙ sym (ap (λ (es : List Event). coded (lastTime k es)) (x .none j s c q))
+      by false q e = e ∙ sym (ap (λ (es : List Event). coded (lastTime k es)) (events-none s c (tableAt tabs j) (x .outside j s c q)))
 
   -- the code's answer for one category
   abbrev Apart : ℕ → ℕ → ℕ → Bool → Type 0

@@ -23,27 +23,24 @@ use Rattle.spots.specs.Answers.{Answers, Behind}
 use Rattle.spots.proofs.Tabling.{TableParts, table-ends}
 use Rattle.edges.specs.Edges.{Category, timesIn, firstOf, lastBehind, firstTime, lastTime, eventsOf, periodAt}
 use Rattle.spans.specs.Spans.{charFirst, charsWide, tableWide, inside, coded, slotOf, timeAt, Sized, Spans}
-use Rattle.spans.specs.Parts.{Fit, Upto, Held}
-use Rattle.spans.proofs.Looking.{inside-low, inside-high}
+use Rattle.spans.specs.Parts.{Fit, Beyond, Upto, Held}
+use Rattle.spans.proofs.Looking.{inside-low, inside-high, events-none}
 use Rattle.spans.proofs.Fitting.{waves-fit, outside-none}
 
 -- ---- none
 
 no-events : (s b : ℕ) → eventsOf s b [] ≡ []
-unfolding eventsOf waveOf
-no-events s b = by (eqb b 0)
-  where
-    by : (x : Bool) → _≡_ {A = List Event} (elim x [ true ↦ [] | false ↦ [] ]) []
-    by true = refl
-    by false = refl
+unfolding waveOf
+no-events s b = events-none s b [] refl
 
 pub spans-none : {firsts lasts periods : List ℕ} → ((i : ℕ) → (getD firsts i 0 ≡ 0) × (getD lasts i 0 ≡ 0) × (getD periods i 0 ≡ 0)) → Spans [] firsts lasts periods
-unfolding tableAt periodAt firstTime lastTime timesIn firstOf lastBehind
+unfolding tableAt periodAt waveOf firstTime lastTime timesIn firstOf lastBehind
 spans-none z =
     record {
       first = λ j s b k h g e. z _ .0 ∙ sym (ap (λ (es : List Event). coded (firstTime k es)) (no-events s b));
       last = λ j s b k h g e. z _ .1 ∙ sym (ap (λ (es : List Event). coded (lastTime k es)) (no-events s b));
-      none = λ j s b e. no-events s b;
+      outside = λ j s b e. refl;
+      beyond = λ j s b e. refl;
       period = λ j h. z j .2;
     }
 
@@ -92,7 +89,7 @@ upto-other f j i s b k ws {row} {after} x n h e = by (ltb i j) refl
     by true q = x .below (slotOf i s b) k (omega (arith, ltb-true i j q, inside-low b e, inside-high b e))
     by false q = x .above (slotOf i s b) k (omega (arith, ltb-false i j q, n, inside-low b e, inside-high b e))
 
-module _ (tabs : Tables) (t : Tok) (n : ℕ) (ws : List Wave) {firsts firsts′ lasts lasts′ periods : List ℕ} (x : Spans tabs firsts lasts periods) (fit : Fit ws)
+module _ (tabs : Tables) (t : Tok) (n : ℕ) (ws : List Wave) {firsts firsts′ lasts lasts′ periods : List ℕ} (x : Spans tabs firsts lasts periods) (fit : Fit ws) (past : Beyond ws)
     (few : length tabs < tablesMost) (room : length tabs < length periods) (a : Upto firstTime (length tabs) ws tableWide firsts firsts′) (b : Upto lastTime (length tabs) ws tableWide lasts lasts′) where
   one : Tok × Table
   one = (t, record { period = n; waves = ws })
@@ -103,7 +100,8 @@ module _ (tabs : Tables) (t : Tok) (n : ℕ) (ws : List Wave) {firsts firsts′ 
       record {
         first = λ j s c k h g e. by-first j s c k h g e (eqb j (length tabs)) refl;
         last = λ j s c k h g e. by-last j s c k h g e (eqb j (length tabs)) refl;
-        none = λ j s c e. by-none j s c e (eqb j (length tabs)) refl;
+        outside = λ j s c e. by-outside j s c e (eqb j (length tabs)) refl;
+        beyond = λ j s c e. by-beyond j s c e (eqb j (length tabs)) refl;
         period = λ j h. by-period j h (eqb j (length tabs)) refl;
       }
     where
@@ -131,9 +129,13 @@ module _ (tabs : Tables) (t : Tok) (n : ℕ) (ws : List Wave) {firsts firsts′ 
           upto-other lastTime (length tabs) j s c k ws b (eqb-false j (length tabs) q) g e ∙ x .last j s c k h g e
           ∙ sym (ap (λ (l : List Wave). coded (lastTime k (eventsOf s c l))) (other j q))
 
-      by-none : (j s c : ℕ) → inside c ≡ false → (y : Bool) → eqb j (length tabs) ≡ y → eventsOf s c (tableAt (tabs ++ one ∷ []) j) ≡ []
-      by-none j s c e true q = ap (eventsOf s c) (own j q) ∙ outside-none s c ws fit e
-      by-none j s c e false q = ap (eventsOf s c) (other j q) ∙ x .none j s c e
+      by-outside : (j s c : ℕ) → inside c ≡ false → (y : Bool) → eqb j (length tabs) ≡ y → waveOf s c (tableAt (tabs ++ one ∷ []) j) ≡ none
+      by-outside j s c e true q = ap (waveOf s c) (own j q) ∙ outside-none s c ws fit e
+      by-outside j s c e false q = ap (waveOf s c) (other j q) ∙ x .outside j s c e
+
+      by-beyond : (j s c : ℕ) → signalsMost ≤ s → (y : Bool) → eqb j (length tabs) ≡ y → waveOf s c (tableAt (tabs ++ one ∷ []) j) ≡ none
+      by-beyond j s c e true q = ap (waveOf s c) (own j q) ∙ past s c e
+      by-beyond j s c e false q = ap (waveOf s c) (other j q) ∙ x .beyond j s c e
 
       by-period : (j : ℕ) → j < tablesMost → (y : Bool) → eqb j (length tabs) ≡ y → getD (set periods (length tabs) n) j 0 ≡ periodAt (tabs ++ one ∷ []) j
       by-period j h true q =
@@ -154,13 +156,13 @@ table-few {text} {c} ns tabs {it} {us} x =
 
 -- the arrays hold one table more
 pub held-more : {tabs it : Tables} {j : ℕ} {firsts firsts′ lasts lasts′ periods : List ℕ} (t : Tok) (n : ℕ) (ws : List Wave) → Held j tabs firsts lasts periods
-    → it ≡ tabs ++ (t, record { period = n; waves = ws }) ∷ [] → Fit ws → length tabs < tablesMost → length periods ≡ tablesMost
+    → it ≡ tabs ++ (t, record { period = n; waves = ws }) ∷ [] → Fit ws → Beyond ws → length tabs < tablesMost → length periods ≡ tablesMost
     → Upto firstTime j ws tableWide firsts firsts′ → Upto lastTime j ws tableWide lasts lasts′ → Held (j + 1) it firsts′ lasts′ (set periods j n)
-held-more {tabs} {it} {j} {firsts} {firsts′} {lasts} {lasts′} {periods} t n ws h is fit few sized =
+held-more {tabs} {it} {j} {firsts} {firsts′} {lasts} {lasts′} {periods} t n ws h is fit past few sized =
     subst (λ (i : ℕ). Upto firstTime i ws tableWide firsts firsts′ → Upto lastTime i ws tableWide lasts lasts′ → Held (i + 1) it firsts′ lasts′ (set periods i n)) (h .count)
     λ a b. record {
       count = ap length is ∙ length-append tabs _;
-      spans = subst (λ (l : Tables). Spans l firsts′ lasts′ (set periods (length tabs) n)) (sym is) (spans-more tabs t n ws (h .spans) fit few (omega arith) a b);
+      spans = subst (λ (l : Tables). Spans l firsts′ lasts′ (set periods (length tabs) n)) (sym is) (spans-more tabs t n ws (h .spans) fit past few (omega arith) a b);
     }
 
 pub still-sized : {firsts firsts′ lasts lasts′ periods periods′ : List ℕ} → Sized firsts lasts periods → (length firsts′ ≡ length firsts) × (length lasts′ ≡ length lasts) × (length periods′ ≡ length periods)

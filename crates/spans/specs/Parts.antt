@@ -1,11 +1,13 @@
 -- Parts of the tables of times, as the code fills them.
-use Prim.Native.Nat.{ℕ, _+_, _*_, _≤_, _<_, _/_, _%_}
+use Prim.Native.Nat.{ℕ, suc, _+_, _*_, _≤_, _<_, _/_, _%_}
 use mathlib.Core.Path.{_≡_}
 use mathlib.Core.Bool.{Bool, true}
-use mathlib.Core.Option.{Option}
+use mathlib.Core.Option.{Option, none}
 use mathlib.Core.List.{List, [], _∷_}
-use lib.ListN.{length}
+use lib.ListN.{length, getD}
+use Rattle.meaning.specs.Bounds.{signalsMost}
 use Rattle.meaning.specs.Timing.{Event, Wave, Tables}
+use Rattle.meaning.specs.Services.{waveOf}
 use Rattle.edges.specs.Edges.{Category, drive, compare, firstTime, lastTime, eventsOf}
 use Rattle.spans.specs.Spans.{charFirst, charsWide, tableWide, inside, coded, timeAt, Spans}
 use Rattle.spans.specs.declared.Span.{Span}
@@ -24,6 +26,10 @@ Timely (e ∷ es) = (e .time < timesBelow) × Timely es
 abbrev pub Fit : List Wave → Type 0
 Fit [] = Unit {0}
 Fit (w ∷ ws) = ((inside (w .char) ≡ true) × Timely (w .events)) × Fit ws
+
+-- and no waveform of a signal for which there is no slot
+abbrev pub Beyond : List Wave → Type 0
+Beyond ws = (s b : ℕ) → signalsMost ≤ s → waveOf s b ws ≡ none
 
 -- the numbers of some events in a category
 pub record Spanning (k : Category) (x : Span) (es : List Event) : Type 0 where
@@ -58,3 +64,8 @@ pub record Upto (f : Category → List Event → Option ℕ) (j : ℕ) (ws : Lis
 pub record Held (j : ℕ) (tabs : Tables) (firsts lasts periods : List ℕ) : Type 0 where
   pub count : length tabs ≡ j
   pub spans : Spans tabs firsts lasts periods
+
+-- no event of table j comes before the border, or a period behind it
+pub record Calm (j period border : ℕ) (firsts lasts : List ℕ) : Type 0 where
+  pub soon : (m t : ℕ) → m < tableWide * 2 → getD firsts (j * tableWide * 2 + m) 0 ≡ suc t → border ≤ t
+  pub late : (m t : ℕ) → m < tableWide * 2 → getD lasts (j * tableWide * 2 + m) 0 ≡ suc t → t < period + border

@@ -1,8 +1,8 @@
 // The first and last time of each waveform in each category, read from Timing once more: tables for holding a cycle against the one before.
 ghost use mathlib.Core.Path.{_≡_};
-ghost use Prim.Native.Nat.{ℕ, suc, _+_, _-_, _*_, _/_, _%_, _<_};
+ghost use Prim.Native.Nat.{ℕ, suc, _+_, _-_, _*_, _/_, _%_, _≤_, _<_};
 ghost use mathlib.Core.Bool.{Bool, true, false, cond, not, _&&_};
-ghost use mathlib.Core.Option.{Option};
+ghost use mathlib.Core.Option.{Option, none};
 ghost use mathlib.Core.List.{List, [], _∷_, _++_};
 ghost use lib.ListN.{length, getD};
 ghost use lib.Dec.{eqb};
@@ -10,15 +10,16 @@ ghost use Rattle.tokens.specs.Tokens.{Toks};
 ghost use Rattle.meaning.specs.Bounds.{signalsMost, tablesMost};
 ghost use Rattle.meaning.specs.Reader.{until as untilOf};
 ghost use Rattle.meaning.specs.Timing.{Event, Wave, Tables, waveforms as waveformsOf, table as tableOf, timing as timingOf};
+ghost use Rattle.meaning.specs.Body.{Body};
 ghost use Rattle.meaning.specs.Meaning.{tableAt, given, Meaning, meaning};
 ghost use Rattle.signals.specs.Names.{namesOf};
 ghost use Rattle.timing.specs.Watch.{Watched};
 ghost use Rattle.waves.specs.Waves.{EntryAt};
 ghost use Rattle.spots.specs.Answers.{Answers, Behind};
 ghost use Rattle.spots.specs.Spots.{spotsMost, watchOf, Spots, Listed};
-ghost use Rattle.edges.specs.Edges.{Category, belongs, firstTime, lastTime, before as beforeOf, follows, eventsOf, periodAt};
+ghost use Rattle.edges.specs.Edges.{Category, belongs, firstTime, lastTime, before as beforeOf, follows, eventsOf, periodAt, firstInRun};
 ghost use Rattle.spans.specs.Spans.{charFirst, charsWide, inside as insideOf, tableWide, timesMost, slotsMost, slotOf, coded as codedOf, timeAt, Sized, Spans};
-ghost use Rattle.spans.specs.Parts.{timesBelow, Timely, Fit, Spanning, Spanned, Put, Filled, Upto, Held};
+ghost use Rattle.spans.specs.Parts.{timesBelow, Timely, Fit, Beyond, Spanning, Spanned, Put, Filled, Upto, Held, Calm};
 use words::Cursor;
 
 // Characters that have times: from the first digit to the last letter.
@@ -277,7 +278,7 @@ fn waveforms<'a>(
 ) -> Cursor
     requires { ⌜ (length (now firsts) ≡ timesMost) × (length (now lasts) ≡ timesMost) × (j < tablesMost) × Listed (now lists) names ⌝ }
     requires { ⌜ ((ws : List Wave) × (us : Toks) × Answers (now text) c (untilOf "}" (waveformsOf (namesOf (now text) (now places) (now lists) names)) []) ws us) ⌝ }
-    ensures { λ r. ⌜ ((ws : List Wave) (us : Toks) → Answers (now (text .entry)) c (untilOf "}" (waveformsOf (namesOf (now (text .entry)) (now (places .entry)) (now (lists .entry)) names)) []) ws us → Behind (now (text .entry)) r us × (Upto firstTime j ws tableWide (now (firsts .entry)) (now (firsts .exit)) × Upto lastTime j ws tableWide (now (lasts .entry)) (now (lasts .exit)))) ⌝ }
+    ensures { λ r. ⌜ ((ws : List Wave) (us : Toks) → Answers (now (text .entry)) c (untilOf "}" (waveformsOf (namesOf (now (text .entry)) (now (places .entry)) (now (lists .entry)) names)) []) ws us → Behind (now (text .entry)) r us × (Upto firstTime j ws tableWide (now (firsts .entry)) (now (firsts .exit)) × Upto lastTime j ws tableWide (now (lasts .entry)) (now (lasts .exit))) × Beyond ws) ⌝ }
 {
     let mut spots = [0usize; spots::SPOTS];
     let cursor = spots::table_spots(text, c, places, lists, names, &mut spots);
@@ -366,4 +367,65 @@ pub fn of_text(text: &[u8], firsts: &mut [u32], lasts: &mut [u32], periods: &mut
     let c = spots::opening(text);
     let f = signals::front(text, c, &mut places, &mut lists);
     fill(text, f.cursor, &places, &lists, f.names, firsts, lasts, periods);
+}
+
+// ---- nothing to look at
+
+// No first time before the border.
+fn soon(first: u32, border: u32) -> bool
+    ensures { λ r. ⌜ (r ≡ true → (t : ℕ) → first ≡ suc t → border ≤ t) ⌝ }
+{
+    (first == 0) | (border < first)
+}
+
+// No last time a period behind the border.
+fn late(period: u64, last: u32, border: u32) -> bool
+    ensures { λ r. ⌜ (r ≡ true → (t : ℕ) → last ≡ suc t → t < period + border) ⌝ }
+{
+    if last <= border {
+        return true;
+    }
+    ((last - border) as u64) <= period
+}
+
+// Is that so of table j?
+fn calm_table<'a>(firsts: &'a [u32], lasts: &'a [u32], j: usize, period: u64, border: u32) -> bool
+    requires { ⌜ (length (now firsts) ≡ timesMost) × (length (now lasts) ≡ timesMost) × (j < tablesMost) ⌝ }
+    ensures { λ r. ⌜ (r ≡ true → Calm j period border (now (firsts .entry)) (now (lasts .entry))) ⌝ }
+{
+    let start = j * TABLE * 2;
+    let mut i = 0;
+    while i < TABLE * 2 {
+        let at = start + i;
+        if !soon(firsts[at], border) {
+            return false;
+        }
+        if !late(period, lasts[at], border) {
+            return false;
+        }
+        i += 1;
+    }
+    true
+}
+
+// True only where no event of the first tables comes before the border or a period behind it, so that no two cycles can fail: a border is any
+// time, as the start of a cycle.
+pub fn calm<'a>(
+    firsts: &'a [u32],
+    lasts: &'a [u32],
+    periods: &'a [u64],
+    tables: usize,
+    border: u32,
+) -> bool
+    requires { ⌜ Sized (now firsts) (now lasts) (now periods) × (tables ≤ tablesMost) ⌝ }
+    ensures { λ r. ⌜ (r ≡ true → (tabs : Tables) → length tabs ≤ tables → Spans tabs (now (firsts .entry)) (now (lasts .entry)) (now (periods .entry)) → (n : ℕ) (b : Body) → firstInRun tabs n b ≡ none) ⌝ }
+{
+    let mut j = 0;
+    while j < tables {
+        if !calm_table(firsts, lasts, j, periods[j], border) {
+            return false;
+        }
+        j += 1;
+    }
+    true
 }

@@ -61,7 +61,7 @@ returns c =
       let x = table-parts ns tabs y (c .before .before .before .before .before .before .before .before .before .before .before .due .ensures) (c .before .before .before .before .before .before .before .before .before .before .name .ensures) (c .before .before .before .before .before .before .before .before .before .head .ensures) in
       let w = c .before .before .before .before .before .before .waveforms .ensures (x .waves) (x .rest) (x .read) in
       let e = table-ends ns tabs x (w .0) (c .due2 .ensures) in
-      (e .1, held-more _ (c .before .before .before .before .before .before .before .before .before .head .result .n) (x .waves) h (e .0) (waves-fit ns .all _ (x .waves) (x .rest) (x .read .gives)) (x .few) (start .pre .0 .0 .each) (w .1 .0) (w .1 .1)))
+      (e .1, held-more _ (c .before .before .before .before .before .before .before .before .before .head .result .n) (x .waves) h (e .0) (waves-fit ns .all _ (x .waves) (x .rest) (x .read .gives)) (w .2) (x .few) (start .pre .0 .0 .each) (w .1 .0) (w .1 .1)))
 
 pub table-spec : {M : Type 1} → statement M
 table-spec =
