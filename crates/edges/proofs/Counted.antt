@@ -18,7 +18,7 @@ use Rattle.meaning.specs.Edges.{Category, drive, compare, belongs, timesIn, fir
 use Rattle.edges.specs.Signed.{signedBefore, eventsFrom, wavesFrom, tablesFrom}
 
 -- two tests that hold together
-ltb-alike : (a b c d : ℕ) → (a < b → c < d) → (c < d → a < b) → ltb a b ≡ ltb c d
+pub ltb-alike : (a b c d : ℕ) → (a < b → c < d) → (c < d → a < b) → ltb a b ≡ ltb c d
 ltb-alike a b c d f g = by (ltb a b) refl (ltb c d) refl
   where
     by : (x : Bool) → ltb a b ≡ x → (y : Bool) → ltb c d ≡ y → x ≡ y

@@ -3,3 +3,4 @@ pub mod Spotting
 pub mod Entering
 pub mod Tabling
 pub mod Accepting
+pub mod Joined

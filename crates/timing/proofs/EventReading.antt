@@ -3,16 +3,14 @@ use Prim.Native.Nat.{ℕ, _≤_, _<_, min}
 use native.Mathlib.Omega.{arith}
 use mathlib.Core.Path.{_≡_, refl, sym, ap, _∙_}
 use mathlib.Core.Bool.{Bool, true, false, not, _&&_}
-use mathlib.Core.Option.{Option, none, some}
 use mathlib.Core.List.{List}
 use lib.ListN.{length}
 use lib.Dec.{eqb, leb}
 use borrow.Author.Tests.{eqb-true, eqb-false, eq-eqb, ne-eqb, leb-true, leb-false, le-leb, lt-leb}
 use Rattle.tokens.specs.Tokens.{Toks, left}
 use Rattle.meaning.specs.Bounds.{entryMost}
-use Rattle.meaning.specs.Refusals.{badNumber, tooMany, badWaveform}
+use Rattle.meaning.specs.Refusals.{tooMany, badWaveform}
 use Rattle.meaning.specs.Reader.{Res, Reader, ok, refuse, _>>=_, refuseIf, due, ahead}
-use Rattle.meaning.specs.Names.{within}
 use Rattle.meaning.specs.Timing.{Events, quoted, Signed, plus, minus, countedMost, timeOf, signedQuoted, letters, spread, oneEvent, event}
 use Rattle.meaning.proofs.Takes.{Takes, Keeps}
 use Rattle.meaning.proofs.Taking.{takes-keeps, takes-due, takes-word, takes-bind, takes-ahead, keeps-bind, keeps-if, keeps-known, keeps-give, keeps-within}

@@ -22,13 +22,13 @@ ghost use Rattle.timing.specs.Watch.{Placed, looked, Noted, Kept};
 
 // ---- letters of events
 
-fn drives(e: u8) -> bool
+pub fn drives(e: u8) -> bool
     ensures { λ r. ⌜ r ≡ drivesOf e ⌝ }
 {
     (68 == e) | ((85 == e) | ((90 == e) | ((80 == e) | false)))
 }
 
-fn compares(e: u8) -> bool
+pub fn compares(e: u8) -> bool
     ensures { λ r. ⌜ r ≡ comparesOf e ⌝ }
 {
     (76 == e)

@@ -1,17 +1,13 @@
 -- The lines of Timing, put together from what was written.
 use Prim.Native.Nat.{ℕ, suc, _+_, _-_, _≤_, _<_}
 use native.Mathlib.Omega.{arith}
-use native.Mathlib.Numerals.{add-one}
 use mathlib.Core.Path.{_≡_, refl, sym, ap, ap₂, _∙_}
 use mathlib.Core.List.{List, [], _∷_, _++_, append-assoc, append-nil}
-use lib.ListN.{length, getD, take, drop, length-take, drop-of-length-le}
-use lib.Seq.{take-suc}
+use lib.ListN.{length, getD, take, drop, drop-of-length-le}
 use Rattle.tokens.specs.Written.{bytes}
 use Rattle.meaning.specs.Timing.{Event, Wave, Signed, plus, minus, uncounted}
 use Rattle.meaning.specs.Bounds.{entryMost}
-use Rattle.meaning.specs.Services.{lettersOf}
-use Rattle.waves.specs.Waves.{countsOf, Reads}
-use Rattle.waves.proofs.Fronts.{times-front, letters-front}
+use Rattle.waves.specs.Waves.{Reads}
 use Rattle.folded.specs.Pieces.{Piece, only, word, laid, each, lf, quote, semicolon, closing}
 use Rattle.meaning.specs.Meaning.{firsts}
 use Rattle.words.specs.Table.{nameOf, namesFrom, names}
@@ -22,6 +18,7 @@ use Rattle.pens.proofs.Laws.{writes-both, writes-same}
 use Rattle.pens.specs.declared.Pen.{Pen}
 use Rattle.folds.proofs.Laws.{writes-nothing, laid-behind, laid-more}
 use Rattle.spots.specs.Spots.{bytesMost}
+use Rattle.spots.proofs.Joined.{joined, joined-next, joined-read}
 use Rattle.timings.specs.Lines.{titled}
 
 -- ---- each thing's pieces are its own, and then those behind
@@ -67,23 +64,6 @@ event-writes t {l} f g h = writes-same (event-line (uncounted t) l) (writes-both
 
 -- ---- the first events, of times and letters in two arrays
 
-unfoldable pub joined : List ℕ → List ℕ → List Event
-joined [] ls = []
-joined (t ∷ ts) [] = []
-joined (t ∷ ts) (l ∷ ls) = record { time = t; letter = l } ∷ joined ts ls
-
-pub joined-all : (es : List Event) → joined (countsOf es) (lettersOf es) ≡ es
-unfolding joined countsOf lettersOf
-joined-all [] = refl
-joined-all (e ∷ es) = ap (λ (l : List Event). e ∷ l) (joined-all es)
-
-joined-more : (ts ls : List ℕ) (t l : ℕ) → length ts ≡ length ls → joined (ts ++ t ∷ []) (ls ++ l ∷ []) ≡ joined ts ls ++ record { time = t; letter = l } ∷ []
-unfolding joined
-joined-more [] [] t l h = refl
-joined-more [] (y ∷ ls) t l h = absurd (omega arith)
-joined-more (x ∷ ts) [] t l h = absurd (omega arith)
-joined-more (x ∷ ts) (y ∷ ls) t l h = ap (λ (k : List Event). record { time = x; letter = y } ∷ k) (joined-more ts ls t l (omega arith))
-
 -- those up to number i
 abbrev pub eventsTo : List ℕ → List ℕ → ℕ → List ℕ
 eventsTo ts ls i = laid (each eventPut (joined (take i ts) (take i ls)) [])
@@ -92,9 +72,7 @@ module _ (ts ls : List ℕ) (i : ℕ) (h : i < length ts) (k : i < length ls) wh
   events-next : eventsTo ts ls i ++ laid (eventPut (record { time = getD ts i 0; letter = getD ls i 0 }) []) ≡ eventsTo ts ls (i + 1)
   events-next =
       sym (laid-more eventPut own-event (joined (take i ts) (take i ls)) (record { time = getD ts i 0; letter = getD ls i 0 }))
-      ∙ ap (λ (l : List Event). laid (each eventPut l []))
-      (sym (ap₂ joined (ap (λ (n : ℕ). take n ts) (add-one i) ∙ take-suc ts i 0 h) (ap (λ (n : ℕ). take n ls) (add-one i) ∙ take-suc ls i 0 k)
-      ∙ joined-more (take i ts) (take i ls) (getD ts i 0) (getD ls i 0) (omega (arith, length-take i ts, length-take i ls))))
+      ∙ ap (λ (l : List Event). laid (each eventPut l [])) (sym (joined-next ts ls i h k))
 
   pub events-more : {a b d : List ℕ} {p q r : Pen} → Writes a p (eventsTo ts ls i) b q
       → Writes b q (laid (eventPut (record { time = getD ts i 0; letter = getD ls i 0 }) [])) d r → Writes a p (eventsTo ts ls (i + 1)) d r
@@ -109,7 +87,7 @@ entry-line c es = sym (ap (λ (l : List ℕ). c ∷ 123 ∷ l) (laid-behind even
 pub entry-writes : {a b d e : List ℕ} {p q s r : Pen} {c n i : ℕ} {es : List Event} {ts₀ ts ls₀ ls : List ℕ} → Reads es n ts₀ ts ls₀ ls → length ts₀ ≡ entryMost → length ls₀ ≡ entryMost
     → i ≡ n → Writes a p (c ∷ 123 ∷ []) b q → Writes b q (eventsTo ts ls i) d s → Writes d s (125 ∷ []) e r → Writes a p (laid (entryPut (c, es) [])) e r
 entry-writes {c = c} {n = n} {i = i} {es = es} {ts = ts} {ls = ls} x h k z f g l =
-    let q : joined (take i ts) (take i ls) ≡ es = rw z (ap₂ joined (times-front x h) (letters-front x k) ∙ joined-all es) in
+    let q : joined (take i ts) (take i ls) ≡ es = rw z (joined-read x h k) in
     writes-same (entry-line c es) (writes-both (writes-both f (writes-same (ap (λ (l : List Event). laid (each eventPut l [])) q) g)) l)
 
 -- ---- NAME{CHARACTER{'T'E;..}..}
