@@ -1,14 +1,10 @@
 -- A text that 1 to 16 leave, with the tables that hold it; and 17 and 25.
 use Prim.Native.Nat.{ℕ}
 use mathlib.Core.Path.{_≡_}
-use mathlib.Core.Bool.{true, false}
-use mathlib.Core.Option.{none, some}
+use mathlib.Core.Option.{none}
 use mathlib.Core.List.{List}
 use lib.ListN.{length}
 use Rattle.meaning.specs.Bounds.{tablesMost}
-use Rattle.meaning.specs.Body.{Body}
-use Rattle.meaning.specs.Document.{Read}
-use Rattle.meaning.specs.Edges.{firstInRun}
 use Rattle.meaning.specs.Meaning.{given, refused, Meaning, meaningOf, meaning}
 use Rattle.timing.specs.Marks.{tableSize}
 use Rattle.timing.specs.declared.Watch.{Watch}
@@ -16,17 +12,13 @@ use Rattle.texts.specs.declared.Verdict.{Verdict}
 use Rattle.texts.specs.Texts.{Sound}
 use Rattle.texts.specs.Tables.{Found, NotesSound}
 use Rattle.plays.specs.Run.{Decides}
+use Rattle.crossings.specs.Run.{Decides as DecidesPair}
 use Rattle.plays.specs.declared.Failing.{Failing}
 use Rattle.verdicts.specs.declared.Unfit.{Unfit}
 
 -- an accepted text
 abbrev pub meantBy : Sound → Meaning
 meantBy x = meaningOf (x .read) (x .run)
-
--- THE PROMISE of a search for pairs: refusal 25, given exactly when a pair of neighbouring cycles is not in order, with the place of the first one's later V
-pub record DecidesPair (d : Read) (run : Body) (r : Failing) : Type 0 where
-  pub fails : r .failed ≡ true → firstInRun (d .tables) (length (d .signals)) run ≡ some (r .place)
-  pub sound : r .failed ≡ false → firstInRun (d .tables) (length (d .signals)) run ≡ none
 
 -- a waveform that no text has
 abbrev pub noWaveform : Watch
