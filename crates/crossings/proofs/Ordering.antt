@@ -8,7 +8,6 @@ use mathlib.Core.Option.{Option, none, some}
 use mathlib.Core.List.{List, [], _∷_}
 use lib.ListN.{length, getD, take, drop, length-drop, drop-of-length-le}
 use lib.Seq.{getD-take, getD-drop, length-take-le}
-use borrow.Author.Tests.{lt-ltb, le-ltb}
 use Rattle.meaning.specs.Bounds.{tablesMost}
 use Rattle.meaning.specs.Timing.{Wave, Tables}
 use Rattle.meaning.specs.Run.{Cycle}
@@ -16,15 +15,8 @@ use Rattle.meaning.specs.Meaning.{tableAt}
 use Rattle.words.proofs.Words.{cut}
 use Rattle.edges.specs.Edges.{follows, eventsOf, allFollow, periodAt, inOrder}
 use Rattle.pins.specs.Shown.{tableOf}
+use Rattle.pins.proofs.Callers.{table-some, table-none}
 use Rattle.crossings.specs.Rows.{cycleIn}
-
-table-some : (k : ℕ) → k < tablesMost → tableOf k ≡ some k
-unfolding tableOf
-table-some k h = rw (lt-ltb k tablesMost h, tableOf)
-
-table-none : (k : ℕ) → tablesMost ≤ k → tableOf k ≡ none
-unfolding tableOf
-table-none k h = rw (le-ltb k tablesMost h, tableOf)
 
 module _ (tabs : Tables) (n p j : ℕ) (first : List ℕ) (a q k : ℕ) (second : List ℕ) (b : ℕ) where
   abbrev earlier : Cycle

@@ -79,3 +79,104 @@ module _ {tabs : Tables} {n rows : ℕ} {x y : Seen} {c : Cycle} {f : Bool} (h :
     sound = λ e. one-sound tabs (rowAt n x 0) c (sym (h .is) ∙ not-false f q);
     noted = λ e. k;
   }
+
+-- ---- lengths
+
+pub long-none : {x : Seen} → Long x x
+long-none = record { pins-long = refl; marks-long = refl }
+
+pub long-then : {x y z : Seen} → Long x y → Long y z → Long x z
+long-then a b = record { pins-long = b .pins-long ∙ a .pins-long; marks-long = b .marks-long ∙ a .marks-long }
+
+pub long-ample : {x y : Seen} → Long x y → Ample x → Ample y
+long-ample l a = record { pins-long = l .pins-long ∙ a .pins-long; marks-long = l .marks-long ∙ a .marks-long }
+
+pub long-stored : {n r : ℕ} {o : Option Cycle} {x y : Seen} → Stored n r o x y → Long x y
+long-stored s = record { pins-long = s .pins-long; marks-long = s .marks-long }
+
+-- ---- rows of cycles one behind the other
+
+pub first-++ : (o : Option Cycle) (a b : List Cycle) → firstSeen (firstSeen o a) b ≡ firstSeen o (a ++ b)
+unfolding firstSeen
+first-++ (some d) a b = refl
+first-++ none [] b = refl
+first-++ none (c ∷ a) b = refl
+
+module _ {n rows : ℕ} {x : Seen} where
+  pub noted-none : Noted n rows x x []
+  unfolding lastBehind firstSeen
+  noted-none = record { last = refl; first = λ i a b. stays (rowAt n x i) }
+    where
+      stays : (o : Option Cycle) → o ≡ firstSeen o []
+      stays none = refl
+      stays (some c) = refl
+
+  pub noted-then : {y z : Seen} {a b : List Cycle} → Noted n rows x y a → Noted n rows y z b → Noted n rows x z (a ++ b)
+  noted-then {y} {z} {a} {b} h k = record {
+    last = k .last ∙ ap (λ (o : Option Cycle). lastBehind o b) (h .last) ∙ sym (last-++ (rowAt n x 0) a b);
+    first = λ i l m. k .first i l m ∙ ap (λ (o : Option Cycle). firstSeen o b) (h .first i l m) ∙ first-++ (rowAt n x i) a b;
+  }
+
+-- where the first row passed, both fail as the second does
+joins : (tabs : Tables) (o q : Option Cycle) (a b : List Cycle) → failingBehind tabs o a ≡ none → q ≡ lastBehind o a → failingBehind tabs o (a ++ b) ≡ failingBehind tabs q b
+unfolding orElse
+joins tabs o q a b h e =
+    failing-++ tabs o a b ∙ ap (λ (v : Option ℕ). orElse v (failingBehind tabs (lastBehind o a) b)) h ∙ ap (λ (u : Option Cycle). failingBehind tabs u b) (sym e)
+
+pub stays-failing : (tabs : Tables) (o : Option Cycle) (a b : List Cycle) {p : ℕ} → failingBehind tabs o a ≡ some p → failingBehind tabs o (a ++ b) ≡ some p
+unfolding orElse
+stays-failing tabs o a b h = failing-++ tabs o a b ∙ ap (λ (v : Option ℕ). orElse v (failingBehind tabs (lastBehind o a) b)) h
+
+module _ {tabs : Tables} {n rows : ℕ} {x : Seen} where
+  pub passed-none : {p : ℕ} → Passed tabs n rows x x false p []
+  unfolding failingBehind
+  passed-none = record { fails = λ e. absurd (differ (sym e)); sound = λ e. refl; noted = λ e. noted-none }
+
+  pub passed-both : {y z : Seen} {p q : ℕ} {f : Bool} {a b : List Cycle} → Passed tabs n rows x y false p a → Passed tabs n rows y z f q b → Passed tabs n rows x z f q (a ++ b)
+  passed-both {y} {z} {p} {q} {f} {a} {b} h k =
+      let same = joins tabs (rowAt n x 0) (rowAt n y 0) a b (h .sound refl) (h .noted refl .last) in
+      record { fails = λ e. same ∙ k .fails e; sound = λ e. same ∙ k .sound e; noted = λ e. noted-then (h .noted refl) (k .noted e) }
+
+  -- nothing more is told
+  pub passed-failing : {z : Seen} {p : ℕ} {f : Bool} {l : List Cycle} → f ≡ true → failingBehind tabs (rowAt n x 0) l ≡ some p → Passed tabs n rows x z f p l
+  passed-failing e h = record { fails = λ q. h; sound = λ q. absurd (differ (sym e ∙ q)); noted = λ q. absurd (differ (sym e ∙ q)) }
+
+  pub passed-same : {z : Seen} {p : ℕ} {f : Bool} {l m : List Cycle} → l ≡ m → Passed tabs n rows x z f p m → Passed tabs n rows x z f p l
+  passed-same e k = rw e k
+
+  -- fewer rows are in use
+  pub passed-less : {z : Seen} {p more : ℕ} {f : Bool} {l : List Cycle} → rows ≤ more → Passed tabs n more x z f p l → Passed tabs n rows x z f p l
+  passed-less h k = record {
+    fails = k .fails;
+    sound = k .sound;
+    noted = λ e. (let m = k .noted e in record { last = m .last; first = λ i a b. m .first i a (omega arith) });
+  }
+
+  -- it does not matter which failing is meant
+  pub passed-as : {z : Seen} {p q : ℕ} {f g : Bool} {l : List Cycle} → f ≡ g → p ≡ q → Passed tabs n rows x z f p l → Passed tabs n rows x z g q l
+  passed-as e d k = rw (← e, ← d) k
+
+-- the rows in use are as they were
+pub record Same (n rows : ℕ) (x y : Seen) : Type 0 where
+  pub each : (i : ℕ) → i < rows → rowAt n y i ≡ rowAt n x i
+
+module _ {tabs : Tables} {n rows : ℕ} {x y z : Seen} where
+  pub passed-from : {p : ℕ} {f : Bool} {l : List Cycle} → 0 < rows → Same n rows x y → Passed tabs n rows y z f p l → Passed tabs n rows x z f p l
+  passed-from {p} {f} {l} some-row h k =
+      let zero-same = h .each 0 some-row in
+      record {
+        fails = λ e. ap (λ (o : Option Cycle). failingBehind tabs o l) (sym zero-same) ∙ k .fails e;
+        sound = λ e. ap (λ (o : Option Cycle). failingBehind tabs o l) (sym zero-same) ∙ k .sound e;
+        noted = λ e. (
+            let m = k .noted e in
+            record {
+              last = m .last ∙ ap (λ (o : Option Cycle). lastBehind o l) zero-same;
+              first = λ i a b. m .first i a b ∙ ap (λ (o : Option Cycle). firstSeen o l) (h .each i b);
+            });
+      }
+
+pub same-stored : {n r rows : ℕ} {o : Option Cycle} {x y : Seen} → rows ≤ r → r < rowsMost → Stored n r o x y → Same n rows x y
+same-stored h l s = record { each = λ i b. s .others i (omega arith) (λ e. omega arith) }
+
+pub same-then : {n rows : ℕ} {x y z : Seen} → Same n rows x y → Same n rows y z → Same n rows x z
+same-then h k = record { each = λ i b. k .each i b ∙ h .each i b }

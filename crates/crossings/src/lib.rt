@@ -7,19 +7,58 @@ ghost use mathlib.Core.Option.{none, some};
 ghost use mathlib.Core.List.{List, [], _∷_};
 ghost use Prim.Native.Nat.{ℕ, _+_, _*_, _-_, _<_, _≤_};
 ghost use lib.ListN.{length, getD, take};
-ghost use Rattle.meaning.specs.Bounds.{signalsMost};
+ghost use Rattle.words.specs.Cursor.{alive, stream};
+ghost use Rattle.meaning.specs.Bounds.{signalsMost, depthMost};
 ghost use Rattle.meaning.specs.Timing.{Tables};
 ghost use Rattle.edges.specs.Edges.{inOrder};
 ghost use Rattle.spans.specs.Spans.{Spans, Sized};
-ghost use Rattle.pins.specs.Shown.{tableOf};
-ghost use Rattle.crossings.specs.Rows.{rowsMost, seen, Ample, cycleIn, rowAt, firstSeen, Copied, Marked, Stored, Noted, Long, Passed, clock, Runs, Wound, Fine, Closed};
+ghost use Rattle.pins.specs.Shown.{Roomy, Others};
+ghost use Rattle.plays.specs.Plays.{ground, arrays};
+ghost use Rattle.crossings.specs.Rows.{rowsMost, seen, Ample, cycleIn, rowAt, firstSeen, Copied, Marked, Stored, Noted, Long, Passed, clock, Fine, Closed, rowsOf};
+ghost use Rattle.crossings.specs.Crossings.{Stood, Promised, Vectored, Stepped, Shifted, Looped, Used, Entered};
+use heads::Known;
 use measures::DEPTH;
+use plays::Played;
 use timing::TABLES;
+use words::Cursor;
 
 // The last cycle's row, and two for each body in a body: the first cycle of a turn, and what the turn found.
 const ROWS: usize = DEPTH * 2 + 1;
 // Of each row its table, the place of its V, and whether there is a cycle.
 const NUMBERS: usize = 3;
+
+// How a body is played: its Shift so often, in so many levels of bodies at most, at a level of its own.
+pub struct Frame {
+    pub turns: usize,
+    pub depth: usize,
+    pub level: usize,
+}
+
+// A statement without a cycle, up to the cursor.
+fn gone(cursor: Cursor, table: usize) -> Played
+    ensures { λ r. ⌜ r ≡ record { cursor = cursor; failed = false; place = 0; table = table; ends = false } ⌝ }
+{
+    Played {
+        cursor,
+        failed: false,
+        place: 0,
+        table,
+        ends: false,
+    }
+}
+
+// A statement with a body in it, which was played, up to the cursor.
+fn on_to(cursor: Cursor, r: Played) -> Played
+    ensures { λ z. ⌜ z ≡ record { cursor = cursor; failed = r .failed; place = r .place; table = r .table; ends = false } ⌝ }
+{
+    Played {
+        cursor,
+        failed: r.failed,
+        place: r.place,
+        table: r.table,
+        ends: false,
+    }
+}
 
 // ---- rows
 
@@ -262,4 +301,556 @@ fn same(
         s += 1;
     }
     true
+}
+
+// The turn's first cycle once more behind its last one.
+fn finish(
+    spots: &[u32],
+    times: &[u32],
+    periods: &[u64],
+    shown: &[u8],
+    marks: &[usize],
+    row: usize,
+    signals: usize,
+    r: Played,
+) -> Played
+    requires { ⌜ Sized (now spots) (now times) (now periods) × (signals ≤ signalsMost) × Ample (seen (now shown) (now marks)) × (row < rowsMost) ⌝ }
+    ensures { λ z. ⌜ (z .cursor ≡ r .cursor) × (z .table ≡ r .table) × ((tabs : Tables) → Spans tabs (now (spots .entry)) (now (times .entry)) (now (periods .entry)) → Closed tabs signals row (seen (now (shown .entry)) (now (marks .entry))) (z .failed) (z .place)) ⌝ }
+{
+    let cursor = r.cursor;
+    let failed = closes(spots, times, periods, shown, marks, row, signals);
+    Played {
+        cursor,
+        failed,
+        place: marks[row * NUMBERS + 1],
+        table: r.table,
+        ends: false,
+    }
+}
+
+// ---- one statement
+
+// How many rows are in use in a body in which bodies may stand so deep.
+fn rows_of(depth: usize) -> usize
+    requires { ⌜ depth ≤ depthMost ⌝ }
+    ensures { λ r. ⌜ r ≡ rowsOf depth ⌝ }
+{
+    (DEPTH - depth) * 2 + 1
+}
+
+// A V, t times, each cycle held against the one before.
+fn vectors(
+    text: &[u8],
+    given: &[u8],
+    values: &mut [u8],
+    feeds: &mut [usize],
+    level: usize,
+    signals: usize,
+    table: usize,
+    place: usize,
+    t: usize,
+    spots: &[u32],
+    times: &[u32],
+    periods: &[u64],
+    shown: &mut [u8],
+    marks: &mut [usize],
+    used: usize,
+) -> bool
+    requires { ⌜ Roomy signals (now values) (now feeds) level × (length (now given) ≡ signalsMost) × Sized (now spots) (now times) (now periods) × Ample (seen (now shown) (now marks)) × (used ≤ rowsMost) ⌝ }
+    ensures { λ r. ⌜ Others level (now (values .entry)) (now (values .exit)) (now (feeds .entry)) (now (feeds .exit)) × Long (seen (now (shown .entry)) (now (marks .entry))) (seen (now (shown .exit)) (now (marks .exit))) × Vectored (now (text .entry)) (now (given .entry)) (clock (now (spots .entry)) (now (times .entry)) (now (periods .entry))) signals level table place t used (now (values .entry)) (now (values .exit)) (now (feeds .entry)) (now (feeds .exit)) (seen (now (shown .entry)) (now (marks .entry))) (seen (now (shown .exit)) (now (marks .exit))) r ⌝ }
+{
+    let mut i = 0;
+    while i < t {
+        pins::put(text, given, values, feeds, level, signals);
+        if cycle(
+            spots,
+            times,
+            periods,
+            values,
+            signals,
+            table,
+            place,
+            shown,
+            marks,
+            used,
+        ) {
+            return true;
+        }
+        i += 1;
+    }
+    false
+}
+
+// Shift { V { .. } }: the V as often as the frame says, and the `}` behind it.
+fn shift<'a>(
+    text: &'a [u8],
+    c: Cursor,
+    places: &'a [usize],
+    lists: &'a [u16],
+    tplaces: &'a [usize],
+    book: &'a [usize],
+    rows: &'a [u16],
+    waves: &'a [u8],
+    known: Known,
+    signals: usize,
+    spots: &'a [u32],
+    times: &'a [u32],
+    periods: &'a [u64],
+    frame: Frame,
+    table: usize,
+    values: &mut [u8],
+    feeds: &mut [usize],
+    args: &mut [usize],
+    shown: &mut [u8],
+    marks: &mut [usize],
+) -> Played
+    requires { ⌜ (alive c ≡ true) × Stood (ground (now text) (now places) (now lists) (now tplaces) (now book) (now rows) (now waves) known signals) (clock (now spots) (now times) (now periods)) (stream (now text) c) (frame .depth) (frame .level) table (arrays (now values) (now feeds) (now args)) (seen (now shown) (now marks)) ⌝ }
+    ensures { λ r. ⌜ Shifted (ground (now (text .entry)) (now (places .entry)) (now (lists .entry)) (now (tplaces .entry)) (now (book .entry)) (now (rows .entry)) (now (waves .entry)) known signals) (clock (now (spots .entry)) (now (times .entry)) (now (periods .entry))) (stream (now (text .entry)) c) (frame .depth) (frame .level) table (frame .turns) (arrays (now (values .entry)) (now (feeds .entry)) (now (args .entry))) (arrays (now (values .exit)) (now (feeds .exit)) (now (args .exit))) (seen (now (shown .entry)) (now (marks .entry))) (seen (now (shown .exit)) (now (marks .exit))) r ⌝ }
+{
+    let mut given = [0; sets::MOST];
+    let h = heads::head(
+        text,
+        c,
+        places,
+        lists,
+        tplaces,
+        book,
+        rows,
+        known,
+        true,
+        DEPTH,
+        false,
+        &mut given,
+        args,
+    );
+    let failed = vectors(
+        text,
+        &given,
+        values,
+        feeds,
+        frame.level,
+        signals,
+        table,
+        c.at,
+        frame.turns,
+        spots,
+        times,
+        periods,
+        shown,
+        marks,
+        rows_of(frame.depth),
+    );
+    let behind = h.cursor;
+    let cursor = words::due(text, behind, b"}");
+    Played {
+        cursor,
+        failed,
+        place: c.at,
+        table,
+        ends: false,
+    }
+}
+
+// Loop N { .. }: one turn, where it leaves what it found, and else two; and the next turn's first cycle, if there is one.
+fn turns<'a>(
+    text: &'a [u8],
+    c: Cursor,
+    places: &'a [usize],
+    lists: &'a [u16],
+    tplaces: &'a [usize],
+    book: &'a [usize],
+    rows: &'a [u16],
+    waves: &'a [u8],
+    known: Known,
+    signals: usize,
+    spots: &'a [u32],
+    times: &'a [u32],
+    periods: &'a [u64],
+    frame: Frame,
+    n: usize,
+    table: usize,
+    values: &mut [u8],
+    feeds: &mut [usize],
+    args: &mut [usize],
+    shown: &mut [u8],
+    marks: &mut [usize],
+) -> Played
+    requires { ⌜ (alive c ≡ true) × (0 < n) × (0 < frame .depth) × (frame .depth ≤ depthMost) × Stood (ground (now text) (now places) (now lists) (now tplaces) (now book) (now rows) (now waves) known signals) (clock (now spots) (now times) (now periods)) (stream (now text) c) (frame .depth - 1) (frame .level) table (arrays (now values) (now feeds) (now args)) (seen (now shown) (now marks)) ⌝ }
+    ensures { λ r. ⌜ Looped (ground (now (text .entry)) (now (places .entry)) (now (lists .entry)) (now (tplaces .entry)) (now (book .entry)) (now (rows .entry)) (now (waves .entry)) known signals) (clock (now (spots .entry)) (now (times .entry)) (now (periods .entry))) (stream (now (text .entry)) c) (frame .depth) (frame .level) table (frame .turns) n (arrays (now (values .entry)) (now (feeds .entry)) (now (args .entry))) (arrays (now (values .exit)) (now (feeds .exit)) (now (args .exit))) (seen (now (shown .entry)) (now (marks .entry))) (seen (now (shown .exit)) (now (marks .exit))) r ⌝ }
+{
+    let inner = Frame {
+        turns: frame.turns,
+        depth: frame.depth - 1,
+        level: frame.level,
+    };
+    let first = rows_of(frame.depth);
+    forget(marks, first);
+    store(values, signals, table, 0, shown, marks, first + 1);
+    let a = statements(
+        text,
+        c,
+        places,
+        lists,
+        tplaces,
+        book,
+        rows,
+        waves,
+        known,
+        signals,
+        spots,
+        times,
+        periods,
+        inner,
+        table,
+        values,
+        feeds,
+        args,
+        shown,
+        marks,
+    );
+    if a.failed | (n < 2) {
+        return a;
+    }
+    if same(values, a.table, shown, marks, first + 1, signals) {
+        return finish(spots, times, periods, shown, marks, first, signals, a);
+    }
+    forget(marks, first);
+    let b = statements(
+        text,
+        c,
+        places,
+        lists,
+        tplaces,
+        book,
+        rows,
+        waves,
+        known,
+        signals,
+        spots,
+        times,
+        periods,
+        inner,
+        a.table,
+        values,
+        feeds,
+        args,
+        shown,
+        marks,
+    );
+    if b.failed | (n < 3) {
+        return b;
+    }
+    finish(spots, times, periods, shown, marks, first, signals, b)
+}
+
+// Macro or Call: the body of number i, its Shift played t times, from its own first byte. A macro runs in place; from a procedure the caller's pins and table come back.
+fn enter<'a>(
+    text: &'a [u8],
+    places: &'a [usize],
+    lists: &'a [u16],
+    tplaces: &'a [usize],
+    book: &'a [usize],
+    rows: &'a [u16],
+    waves: &'a [u8],
+    known: Known,
+    signals: usize,
+    spots: &'a [u32],
+    times: &'a [u32],
+    periods: &'a [u64],
+    frame: Frame,
+    i: usize,
+    t: usize,
+    table: usize,
+    values: &mut [u8],
+    feeds: &mut [usize],
+    args: &mut [usize],
+    shown: &mut [u8],
+    marks: &mut [usize],
+) -> Played
+    requires { ⌜ Used (ground (now text) (now places) (now lists) (now tplaces) (now book) (now rows) (now waves) known signals) (clock (now spots) (now times) (now periods)) i (frame .depth) (frame .level) table (arrays (now values) (now feeds) (now args)) (seen (now shown) (now marks)) ⌝ }
+    ensures { λ r. ⌜ Entered (ground (now (text .entry)) (now (places .entry)) (now (lists .entry)) (now (tplaces .entry)) (now (book .entry)) (now (rows .entry)) (now (waves .entry)) known signals) (clock (now (spots .entry)) (now (times .entry)) (now (periods .entry))) i (frame .depth) (frame .level) table t (arrays (now (values .entry)) (now (feeds .entry)) (now (args .entry))) (arrays (now (values .exit)) (now (feeds .exit)) (now (args .exit))) (seen (now (shown .entry)) (now (marks .entry))) (seen (now (shown .exit)) (now (marks .exit))) r ⌝ }
+{
+    let inner = Frame {
+        turns: t,
+        depth: frame.depth - 1,
+        level: frame.level + 1,
+    };
+    let c = words::cursor_at(text, measures::start_at(book, i));
+    if i < measures::PROCEDURES {
+        return statements(
+            text,
+            c,
+            places,
+            lists,
+            tplaces,
+            book,
+            rows,
+            waves,
+            known,
+            signals,
+            spots,
+            times,
+            periods,
+            inner,
+            table,
+            values,
+            feeds,
+            args,
+            shown,
+            marks,
+        );
+    }
+    pins::leave(values, inner.level);
+    let r = statements(
+        text,
+        c,
+        places,
+        lists,
+        tplaces,
+        book,
+        rows,
+        waves,
+        known,
+        signals,
+        spots,
+        times,
+        periods,
+        inner,
+        table,
+        values,
+        feeds,
+        args,
+        shown,
+        marks,
+    );
+    pins::come_back(values, inner.level);
+    let cursor = r.cursor;
+    Played {
+        cursor,
+        failed: r.failed,
+        place: r.place,
+        table,
+        ends: false,
+    }
+}
+
+// The statement at the cursor, or the `}` there.
+fn statement<'a>(
+    text: &'a [u8],
+    c: Cursor,
+    places: &'a [usize],
+    lists: &'a [u16],
+    tplaces: &'a [usize],
+    book: &'a [usize],
+    rows: &'a [u16],
+    waves: &'a [u8],
+    known: Known,
+    signals: usize,
+    spots: &'a [u32],
+    times: &'a [u32],
+    periods: &'a [u64],
+    frame: Frame,
+    table: usize,
+    values: &mut [u8],
+    feeds: &mut [usize],
+    args: &mut [usize],
+    shown: &mut [u8],
+    marks: &mut [usize],
+) -> Played
+    requires { ⌜ (alive c ≡ true) × Stood (ground (now text) (now places) (now lists) (now tplaces) (now book) (now rows) (now waves) known signals) (clock (now spots) (now times) (now periods)) (stream (now text) c) (frame .depth) (frame .level) table (arrays (now values) (now feeds) (now args)) (seen (now shown) (now marks)) ⌝ }
+    ensures { λ r. ⌜ Stepped (ground (now (text .entry)) (now (places .entry)) (now (lists .entry)) (now (tplaces .entry)) (now (book .entry)) (now (rows .entry)) (now (waves .entry)) known signals) (clock (now (spots .entry)) (now (times .entry)) (now (periods .entry))) (stream (now (text .entry)) c) (frame .depth) (frame .level) table (frame .turns) (arrays (now (values .entry)) (now (feeds .entry)) (now (args .entry))) (arrays (now (values .exit)) (now (feeds .exit)) (now (args .exit))) (seen (now (shown .entry)) (now (marks .entry))) (seen (now (shown .exit)) (now (marks .exit))) r ⌝ }
+{
+    let mut given = [0; sets::MOST];
+    let h = heads::head(
+        text,
+        c,
+        places,
+        lists,
+        tplaces,
+        book,
+        rows,
+        known,
+        true,
+        DEPTH,
+        false,
+        &mut given,
+        args,
+    );
+    let cursor = h.cursor;
+    let what = h.what;
+    match what {
+        heads::What::Ends => Played {
+            cursor,
+            failed: false,
+            place: 0,
+            table,
+            ends: true,
+        },
+        heads::What::Vector(place) => {
+            let failed = vectors(
+                text,
+                &given,
+                values,
+                feeds,
+                frame.level,
+                signals,
+                table,
+                place,
+                1,
+                spots,
+                times,
+                periods,
+                shown,
+                marks,
+                rows_of(frame.depth),
+            );
+            Played {
+                cursor,
+                failed,
+                place,
+                table,
+                ends: false,
+            }
+        }
+        heads::What::Assigns => {
+            pins::put(text, &given, values, feeds, frame.level, signals);
+            gone(cursor, table)
+        }
+        heads::What::Chooses(k) => gone(cursor, k),
+        heads::What::Loops(n) => {
+            let r = turns(
+                text,
+                cursor,
+                places,
+                lists,
+                tplaces,
+                book,
+                rows,
+                waves,
+                known,
+                signals,
+                spots,
+                times,
+                periods,
+                frame,
+                n,
+                table,
+                values,
+                feeds,
+                args,
+                shown,
+                marks,
+            );
+            let behind = r.cursor;
+            on_to(behind, r)
+        }
+        heads::What::Shifts => shift(
+            text,
+            cursor,
+            places,
+            lists,
+            tplaces,
+            book,
+            rows,
+            waves,
+            known,
+            signals,
+            spots,
+            times,
+            periods,
+            frame,
+            table,
+            values,
+            feeds,
+            args,
+            shown,
+            marks,
+        ),
+        heads::What::Uses(i, t) => {
+            pins::supply(&given, args, feeds, frame.level + 1);
+            let r = enter(
+                text,
+                places,
+                lists,
+                tplaces,
+                book,
+                rows,
+                waves,
+                known,
+                signals,
+                spots,
+                times,
+                periods,
+                frame,
+                i,
+                t,
+                table,
+                values,
+                feeds,
+                args,
+                shown,
+                marks,
+            );
+            on_to(cursor, r)
+        }
+    }
+}
+
+// Statements from the cursor on, up to their `}`.
+fn statements<'a>(
+    text: &'a [u8],
+    c: Cursor,
+    places: &'a [usize],
+    lists: &'a [u16],
+    tplaces: &'a [usize],
+    book: &'a [usize],
+    rows: &'a [u16],
+    waves: &'a [u8],
+    known: Known,
+    signals: usize,
+    spots: &'a [u32],
+    times: &'a [u32],
+    periods: &'a [u64],
+    frame: Frame,
+    table: usize,
+    values: &mut [u8],
+    feeds: &mut [usize],
+    args: &mut [usize],
+    shown: &mut [u8],
+    marks: &mut [usize],
+) -> Played
+    requires { ⌜ (alive c ≡ true) × Stood (ground (now text) (now places) (now lists) (now tplaces) (now book) (now rows) (now waves) known signals) (clock (now spots) (now times) (now periods)) (stream (now text) c) (frame .depth) (frame .level) table (arrays (now values) (now feeds) (now args)) (seen (now shown) (now marks)) ⌝ }
+    ensures { λ r. ⌜ Promised (ground (now (text .entry)) (now (places .entry)) (now (lists .entry)) (now (tplaces .entry)) (now (book .entry)) (now (rows .entry)) (now (waves .entry)) known signals) (clock (now (spots .entry)) (now (times .entry)) (now (periods .entry))) (stream (now (text .entry)) c) (frame .depth) (frame .level) table (frame .turns) (arrays (now (values .entry)) (now (feeds .entry)) (now (args .entry))) (arrays (now (values .exit)) (now (feeds .exit)) (now (args .exit))) (seen (now (shown .entry)) (now (marks .entry))) (seen (now (shown .exit)) (now (marks .exit))) r ⌝ }
+{
+    let mut cursor = c;
+    let mut chosen = table;
+    loop {
+        let r = statement(
+            text,
+            cursor,
+            places,
+            lists,
+            tplaces,
+            book,
+            rows,
+            waves,
+            known,
+            signals,
+            spots,
+            times,
+            periods,
+            frame,
+            chosen,
+            values,
+            feeds,
+            args,
+            shown,
+            marks,
+        );
+        if r.failed | r.ends {
+            return r;
+        }
+        cursor = r.cursor;
+        chosen = r.table;
+    }
 }

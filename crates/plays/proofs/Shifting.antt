@@ -47,7 +47,7 @@ tells-given text book rows given args tables Shifts p a h = let z : _≡_ {A = �
 tells-given text book rows given args tables (UsesBody i t) p a h = let e = h .3 in let z : _≡_ {A = ℕ} 0 1 = cc in absurd (omega arith)
 
 -- the token ahead stands where the cursor does
-token-at : (text : List ℕ) (c : Cursor) (t : Tok) (vs : Toks) → stream text c ≡ tok t vs → c .at ≡ t .at
+pub token-at : (text : List ℕ) (c : Cursor) (t : Tok) (vs : Toks) → stream text c ≡ tok t vs → c .at ≡ t .at
 token-at text c t vs e = by (ltb (c .at) (c .end)) refl
   where
     by : (b : Bool) → ltb (c .at) (c .end) ≡ b → c .at ≡ t .at
