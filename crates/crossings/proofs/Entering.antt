@@ -8,7 +8,6 @@ use Rattle.tokens.specs.Tokens.{Toks}
 use Rattle.meaning.specs.Body.{Args, macro, procedure, Body}
 use Rattle.meaning.specs.Run.{State, bare, entering, play}
 use Rattle.meaning.specs.Statements.{Env}
-use Rattle.words.specs.declared.Cursor.{Cursor}
 use Rattle.heads.specs.Heads.{kindOf}
 use Rattle.pins.specs.Shown.{Leaves, Returns}
 use Rattle.plays.specs.declared.Played.{Played}
@@ -31,13 +30,13 @@ module _ (t : ℕ) {g : Ground} {i more level table : ℕ} {x : Arrays} {E : Env
         record { pins-are = q .pins-are; table-is = q .table-is; args-are = feeding-kept (u .shows .args-are) (λ j l. kept .arguments level j l (omega arith)) });
   })
 
-  pub procedure-tells : {left back : List ℕ} (cursor : Cursor) → kindOf i ≡ procedure → Sized g level x → Leaves (level + 1) (x .values) left
+  pub procedure-tells : {left back : List ℕ} → kindOf i ≡ procedure → Sized g level x → Leaves (level + 1) (x .values) left
       → Kept (level + 1) (arrays left (x .feeds) (x .args)) y → Returns (level + 1) (y .values) back
       → Plays g (E .tables) (level + 1) (rowsOf (more - 1)) y v w us r (play t b (record { pins = bare (s .pins); table = s .table; args = a }))
-      → Tells g (E .tables) level (rowsOf more) (arrays back (y .feeds) (y .args)) v w (record { cursor = cursor; failed = r .failed; place = r .place; table = table; ends = false })
+      → Tells g (E .tables) level (rowsOf more) (arrays back (y .feeds) (y .args)) v w (record { cursor = r .cursor; failed = r .failed; place = r .place; table = table; ends = false })
       (entering (kindOf i) a (play t b) s)
   unfolding entering
-  procedure-tells cursor e sized l kept back p = rw e (record {
+  procedure-tells e sized l kept back p = rw e (record {
     passed = passed-less (omega arith) (p .tells .passed);
     shows = λ h. record {
       pins-are = u .shows .pins-are ∙ sym (pins-back level l kept back (g .signals) (sized .roomy .few) (omega (arith, sized .roomy .few, sized .roomy .values-long)));

@@ -1,11 +1,11 @@
 -- The turns of a Loop: one that leaves what it found, or two, and the first cycle once more behind the last one.
-use Prim.Native.Nat.{ℕ, zero, suc, _+_, _-_, _<_, _≤_}
+use Prim.Native.Nat.{ℕ, zero, suc, _+_, _*_, _-_, _<_, _≤_}
 use native.Mathlib.Omega.{arith}
 use mathlib.Core.Path.{_≡_, refl, sym, ap, ap₂, _∙_, subst}
 use mathlib.Core.Bool.{Bool, true, false, _||_}
 use mathlib.Core.Option.{Option, none, some}
 use mathlib.Core.List.{List, [], _∷_, _++_, append-nil, append-assoc}
-use lib.Dec.{ltb}
+use lib.Dec.{eqb, ltb}
 use lib.ListN.{length, getD, take}
 use borrow.Author.Tests.{ltb-true, ltb-false}
 use Rattle.tokens.specs.Tokens.{Toks}
@@ -18,12 +18,14 @@ use Rattle.meaning.proofs.Turns.{Plain, plain-twice, keeps, steady, orElse}
 use Rattle.edges.specs.Edges.{lastBehind, failingBehind}
 use Rattle.edges.proofs.Loops.{opening, opening-loop, loop-failing, loop-last, loop-left, steady-failing, steady-last}
 use Rattle.words.specs.Cursor.{alive, stream}
-use Rattle.pins.specs.Shown.{tableOf}
+use Rattle.pins.specs.Shown.{tableOf, Shows, Roomy}
 use Rattle.plays.specs.declared.Played.{Played}
-use Rattle.plays.specs.Plays.{Ground, Arrays, Showing}
-use Rattle.plays.proofs.Fitting.{neither}
-use Rattle.crossings.specs.Rows.{rowsMost, rowsOf, Seen, cycleIn, rowAt, Stored, firstSeen, atMostOne, Noted, Passed, Closed}
+use Rattle.plays.specs.Plays.{Ground, Arrays, Showing, Standing}
+use Rattle.plays.proofs.Fitting.{neither, fits-again}
+use Rattle.crossings.specs.Rows.{rowsMost, rowsOf, Seen, Ample, cycleIn, rowOf, rowAt, Stored, firstSeen, atMostOne, Noted, Passed, Closed}
 use Rattle.crossings.specs.Crossings.{Told, Plays}
+use Rattle.crossings.proofs.Storing.{window}
+use Rattle.crossings.proofs.Stepping.{same-played}
 use Rattle.crossings.proofs.Passing.{differ, first-++, noted-then, stays-failing, passed-both, passed-failing, passed-less, Same, passed-from, same-stored, same-then}
 
 -- ---- first cycles
@@ -252,3 +254,36 @@ module _ (t n more : ℕ) (b : Body) (s : State) {g : Ground} {tabs : Tables} {l
 
               ends : play t b (play t b s .0) .0 ≡ again n (play t b) s .0
               ends = plain-twice t b plain s ∙ sym (loop-left tabs t b plain s none (suc (suc (n - 3)))) ∙ ap (λ (k : ℕ). again k (play t b) s .0) many
+
+-- ---- the next turn
+
+-- the body is held where it was, and can be played again
+pub turned-standing : (t : ℕ) {g : Ground} {ts us : Toks} {more level table rows : ℕ} {x y : Arrays} {E : Env} {b : Body} {s : State} {v w : Seen} {r : Played} → Standing g ts more level table x E b us s
+    → Plays g (E .tables) level rows y v w us r (play t b s) → r .failed ≡ false → Standing g ts more level (r .table) y E b us (play t b s .0)
+turned-standing t {b = b} {s = s} st p e = record { holding = st .holding; holds = st .holds; fits = fits-again (same-played t b (st .fits .good) s) (st .fits); shows = p .tells .shows e }
+
+-- a row that holds a cycle has its parts
+there-is : (there : ℕ) (c d : Cycle) → rowOf there c ≡ some d → c ≡ d
+unfolding rowOf
+there-is there c d e = by (eqb there 0) e
+  where
+    by : (w : Bool) → _≡_ {A = Option Cycle} (elim w [ true ↦ none | false ↦ some c ]) (some d) → c ≡ d
+    by true e = let z : _≡_ {A = ℕ} 0 1 = cc in absurd (omega arith)
+    by false e = cc
+
+-- where the pins and the table are those that were stored before the turn, it left what it found
+pub turn-same : (t r : ℕ) (b : Body) (s : State) {text : List ℕ} {n level table table′ : ℕ} {values values′ feeds feeds′ : List ℕ} {v : Seen} → Plain b → Shows text n values table feeds level s
+    → Shows text n values′ table′ feeds′ level (play t b s .0) → rowAt n v r ≡ some (cycleIn n 0 table values 0) → Roomy n values′ feeds′ level → Ample v → r < rowsMost
+    → (getD (v .marks) (r * 3) 0 ≡ table′) × ((i : ℕ) → i < n → getD (v .pins) (r * signalsMost + i) 0 ≡ getD values′ i 0) → play t b s .0 ≡ s
+unfolding rowAt
+turn-same t r b s {text} {n} {level} {table} {table′} {values} {values′} {feeds} {feeds′} {v} plain before after row roomy ample h same =
+    let c = there-is _ _ _ row in
+    let table-same : tableOf table′ ≡ tableOf table = ap tableOf (sym (same .0)) ∙ ap (λ (c : Cycle). c .table) c in
+    let there = window n (r * signalsMost) 0 (v .pins) values′ (omega (arith, ample .pins-long, roomy .few)) (omega (arith, roomy .few, roomy .values-long)) (λ i k. same .1 i k ∙ ap (λ (j : ℕ). getD values′ j 0) (none-before i)) in
+    let pins-same : play t b s .0 .pins ≡ s .pins = after .pins-are ∙ sym there ∙ ap (λ (c : Cycle). c .pins) c ∙ sym (before .pins-are) in
+    let chosen : play t b s .0 .table ≡ s .table = after .table-is ∙ table-same ∙ sym (before .table-is) in
+    let arguments = keeps t b plain s in
+    λ i. record { pins = pins-same i; table = chosen i; args = arguments i }
+  where
+    none-before : (i : ℕ) → i ≡ 0 + i
+    none-before i = omega arith

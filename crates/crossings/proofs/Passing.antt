@@ -1,7 +1,7 @@
 -- Cycles gone through: a pair, rows of cycles one behind the other, and rows of which more or fewer are in use.
 use Prim.Native.Nat.{ℕ, _+_, _*_, _<_, _≤_}
 use native.Mathlib.Omega.{arith}
-use mathlib.Core.Path.{_≡_, refl, sym, ap, _∙_}
+use mathlib.Core.Path.{_≡_, refl, sym, ap, _∙_, subst}
 use mathlib.Core.Bool.{Bool, true, false, not}
 use mathlib.Core.Option.{Option, none, some}
 use mathlib.Core.List.{List, [], _∷_, _++_}
@@ -180,3 +180,6 @@ same-stored h l s = record { each = λ i b. s .others i (omega arith) (λ e. ome
 
 pub same-then : {n rows : ℕ} {x y z : Seen} → Same n rows x y → Same n rows y z → Same n rows x z
 same-then h k = record { each = λ i b. k .each i b ∙ h .each i b }
+
+pub stored-at : {n r q : ℕ} {o : Option Cycle} {x y : Seen} → r ≡ q → Stored n r o x y → Stored n q o x y
+stored-at {n} {r} {q} {o} {x} {y} e s = subst (λ (k : ℕ). Stored n k o x y) e s

@@ -24,9 +24,9 @@ put-requires : tie.Need-put-requires Inv-loop μ-loop
 put-requires c κs = (roomy-kept (c .before .before .before .before .before .before .before .before .before .before .before .before .before .pre .0) (c .before .before .before .loop .inv .others), c .before .before .before .before .before .before .before .before .before .before .before .before .before .pre .1)
 
 cycle-requires : tie.Need-cycle-requires Inv-loop μ-loop
-cycle-requires c κs = 
-      let room = roomy-kept (c .before .before .before .before .before .before .before .before .before .before .before .before .before .before .before .before .before .before .before .before .before .pre .0) (others-then (c .before .before .before .before .before .before .before .before .before .before .before .loop .inv .others) (c .before .before .before .before .before .before .before .put .ensures .0)) in
-      (c .before .before .before .before .before .before .before .before .before .before .before .before .before .before .before .before .before .before .before .before .before .pre .2, room .few, omega (arith, room .values-long), long-ample (c .before .before .before .before .before .before .before .before .before .before .before .loop .inv .long) (c .before .before .before .before .before .before .before .before .before .before .before .before .before .before .before .before .before .before .before .before .before .pre .3), c .before .before .before .before .before .before .before .before .before .before .before .before .before .before .before .before .before .before .before .before .before .pre .4)
+cycle-requires c κs =
+    let room = roomy-kept (c .before .before .before .before .before .before .before .before .before .before .before .before .before .before .before .before .before .before .before .before .before .pre .0) (others-then (c .before .before .before .before .before .before .before .before .before .before .before .loop .inv .others) (c .before .before .before .before .before .before .before .put .ensures .0)) in
+    (c .before .before .before .before .before .before .before .before .before .before .before .before .before .before .before .before .before .before .before .before .before .pre .2, room .few, omega (arith, room .values-long), long-ample (c .before .before .before .before .before .before .before .before .before .before .before .loop .inv .long) (c .before .before .before .before .before .before .before .before .before .before .before .before .before .before .before .before .before .before .before .before .before .pre .3), c .before .before .before .before .before .before .before .before .before .before .before .before .before .before .before .before .before .before .before .before .before .pre .4)
 
 same-length : tie.Need-same-length Inv-loop μ-loop
 same-length c = c .before .before .before .before .before .before .before .before .before .before .before .before .before .put .ensures .0 .values-long ∙ c .before .before .before .before .before .before .before .before .before .before .before .before .before .before .before .before .before .loop .inv .others .values-long
