@@ -101,18 +101,18 @@ pub record Passed (tabs : Tables) (n rows : ℕ) (x y : Seen) (failed : Bool) (p
 -- ---- the times of events, as `spans` has them
 
 pub record Clock : Type 0 where
-  pub spots : List ℕ
-  pub times : List ℕ
+  pub firsts : List ℕ
+  pub lasts : List ℕ
   pub periods : List ℕ
 
 abbrev pub clock : List ℕ → List ℕ → List ℕ → Clock
-clock spots times periods = record { spots = spots; times = times; periods = periods }
+clock firsts lasts periods = record { firsts = firsts; lasts = lasts; periods = periods }
 
 abbrev pub Runs : Tables → Clock → Type 0
-Runs tabs k = Spans tabs (k .spots) (k .times) (k .periods)
+Runs tabs k = Spans tabs (k .firsts) (k .lasts) (k .periods)
 
 abbrev pub Wound : Clock → Type 0
-Wound k = Sized (k .spots) (k .times) (k .periods)
+Wound k = Sized (k .firsts) (k .lasts) (k .periods)
 
 -- the cycle c is held against the last one
 pub record Fine (tabs : Tables) (n : ℕ) (x : Seen) (c : Cycle) (fine : Bool) : Type 0 where

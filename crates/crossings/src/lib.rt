@@ -151,10 +151,10 @@ fn note(
 // ---- a pair
 
 // Is the cycle whose pins stand from b on, under table k, in order behind that from a on, under table j?
-fn in_order(
-    spots: &[u32],
-    times: &[u32],
-    periods: &[u64],
+fn in_order<'a>(
+    firsts: &'a [u32],
+    lasts: &'a [u32],
+    periods: &'a [u64],
     first: &[u8],
     a: usize,
     j: usize,
@@ -163,8 +163,8 @@ fn in_order(
     k: usize,
     signals: usize,
 ) -> bool
-    requires { ⌜ Sized (now spots) (now times) (now periods) × (signals ≤ signalsMost) × (a + signals ≤ length (now first)) × (b + signals ≤ length (now second)) ⌝ }
-    ensures { λ r. ⌜ ((tabs : Tables) → Spans tabs (now (spots .entry)) (now (times .entry)) (now (periods .entry)) → (p q : ℕ) → r ≡ inOrder tabs (cycleIn signals p j (now (first .entry)) a) (cycleIn signals q k (now (second .entry)) b)) ⌝ }
+    requires { ⌜ Sized (now firsts) (now lasts) (now periods) × (signals ≤ signalsMost) × (a + signals ≤ length (now first)) × (b + signals ≤ length (now second)) ⌝ }
+    ensures { λ r. ⌜ ((tabs : Tables) → Spans tabs (now (firsts .entry)) (now (lasts .entry)) (now (periods .entry)) → (p q : ℕ) → r ≡ inOrder tabs (cycleIn signals p j (now (first .entry)) a) (cycleIn signals q k (now (second .entry)) b)) ⌝ }
 {
     if TABLES <= j {
         return true;
@@ -174,7 +174,7 @@ fn in_order(
     }
     let mut s = 0;
     while s < signals {
-        if !spans::fine(spots, times, periods, j, k, s, first[a + s], second[b + s]) {
+        if !spans::fine(firsts, lasts, periods, j, k, s, first[a + s], second[b + s]) {
             return false;
         }
         s += 1;
@@ -183,10 +183,10 @@ fn in_order(
 }
 
 // Is it in order behind the last one, if any?
-fn held(
-    spots: &[u32],
-    times: &[u32],
-    periods: &[u64],
+fn held<'a>(
+    firsts: &'a [u32],
+    lasts: &'a [u32],
+    periods: &'a [u64],
     shown: &[u8],
     marks: &[usize],
     pins: &[u8],
@@ -194,15 +194,15 @@ fn held(
     table: usize,
     signals: usize,
 ) -> bool
-    requires { ⌜ Sized (now spots) (now times) (now periods) × (signals ≤ signalsMost) × Ample (seen (now shown) (now marks)) × (at + signals ≤ length (now pins)) ⌝ }
-    ensures { λ r. ⌜ ((tabs : Tables) → Spans tabs (now (spots .entry)) (now (times .entry)) (now (periods .entry)) → (p : ℕ) → Fine tabs signals (seen (now (shown .entry)) (now (marks .entry))) (cycleIn signals p table (now (pins .entry)) at) r) ⌝ }
+    requires { ⌜ Sized (now firsts) (now lasts) (now periods) × (signals ≤ signalsMost) × Ample (seen (now shown) (now marks)) × (at + signals ≤ length (now pins)) ⌝ }
+    ensures { λ r. ⌜ ((tabs : Tables) → Spans tabs (now (firsts .entry)) (now (lasts .entry)) (now (periods .entry)) → (p : ℕ) → Fine tabs signals (seen (now (shown .entry)) (now (marks .entry))) (cycleIn signals p table (now (pins .entry)) at) r) ⌝ }
 {
     if marks[2] == 0 {
         return true;
     }
     in_order(
-        spots,
-        times,
+        firsts,
+        lasts,
         periods,
         shown,
         0,
@@ -215,10 +215,10 @@ fn held(
 }
 
 // A cycle is played: is it not in order behind the last one? If it is, it is noted.
-fn cycle(
-    spots: &[u32],
-    times: &[u32],
-    periods: &[u64],
+fn cycle<'a>(
+    firsts: &'a [u32],
+    lasts: &'a [u32],
+    periods: &'a [u64],
     values: &[u8],
     signals: usize,
     table: usize,
@@ -227,12 +227,12 @@ fn cycle(
     marks: &mut [usize],
     rows: usize,
 ) -> bool
-    requires { ⌜ Sized (now spots) (now times) (now periods) × (signals ≤ signalsMost) × (signalsMost ≤ length (now values)) × Ample (seen (now shown) (now marks)) × (rows ≤ rowsMost) ⌝ }
-    ensures { λ r. ⌜ Long (seen (now (shown .entry)) (now (marks .entry))) (seen (now (shown .exit)) (now (marks .exit))) × ((tabs : Tables) → Spans tabs (now (spots .entry)) (now (times .entry)) (now (periods .entry)) → Passed tabs signals rows (seen (now (shown .entry)) (now (marks .entry))) (seen (now (shown .exit)) (now (marks .exit))) r place (cycleIn signals place table (now (values .entry)) 0 ∷ [])) ⌝ }
+    requires { ⌜ Sized (now firsts) (now lasts) (now periods) × (signals ≤ signalsMost) × (signalsMost ≤ length (now values)) × Ample (seen (now shown) (now marks)) × (rows ≤ rowsMost) ⌝ }
+    ensures { λ r. ⌜ Long (seen (now (shown .entry)) (now (marks .entry))) (seen (now (shown .exit)) (now (marks .exit))) × ((tabs : Tables) → Spans tabs (now (firsts .entry)) (now (lasts .entry)) (now (periods .entry)) → Passed tabs signals rows (seen (now (shown .entry)) (now (marks .entry))) (seen (now (shown .exit)) (now (marks .exit))) r place (cycleIn signals place table (now (values .entry)) 0 ∷ [])) ⌝ }
 {
     if !held(
-        spots,
-        times,
+        firsts,
+        lasts,
         periods,
         shown,
         marks,
@@ -248,25 +248,25 @@ fn cycle(
 }
 
 // The first cycle of a turn once more behind its last, as the next turn begins: is it not in order?
-fn closes(
-    spots: &[u32],
-    times: &[u32],
-    periods: &[u64],
+fn closes<'a>(
+    firsts: &'a [u32],
+    lasts: &'a [u32],
+    periods: &'a [u64],
     shown: &[u8],
     marks: &[usize],
     row: usize,
     signals: usize,
 ) -> bool
-    requires { ⌜ Sized (now spots) (now times) (now periods) × (signals ≤ signalsMost) × Ample (seen (now shown) (now marks)) × (row < rowsMost) ⌝ }
-    ensures { λ r. ⌜ ((tabs : Tables) → Spans tabs (now (spots .entry)) (now (times .entry)) (now (periods .entry)) → Closed tabs signals row (seen (now (shown .entry)) (now (marks .entry))) r (getD (now (marks .entry)) (row * 3 + 1) 0)) ⌝ }
+    requires { ⌜ Sized (now firsts) (now lasts) (now periods) × (signals ≤ signalsMost) × Ample (seen (now shown) (now marks)) × (row < rowsMost) ⌝ }
+    ensures { λ r. ⌜ ((tabs : Tables) → Spans tabs (now (firsts .entry)) (now (lasts .entry)) (now (periods .entry)) → Closed tabs signals row (seen (now (shown .entry)) (now (marks .entry))) r (getD (now (marks .entry)) (row * 3 + 1) 0)) ⌝ }
 {
     if marks[row * NUMBERS + 2] == 0 {
         return false;
     }
     let table = marks[row * NUMBERS];
     !held(
-        spots,
-        times,
+        firsts,
+        lasts,
         periods,
         shown,
         marks,
@@ -304,21 +304,21 @@ fn same(
 }
 
 // The turn's first cycle once more behind its last one.
-fn finish(
-    spots: &[u32],
-    times: &[u32],
-    periods: &[u64],
+fn finish<'a>(
+    firsts: &'a [u32],
+    lasts: &'a [u32],
+    periods: &'a [u64],
     shown: &[u8],
     marks: &[usize],
     row: usize,
     signals: usize,
     r: Played,
 ) -> Played
-    requires { ⌜ Sized (now spots) (now times) (now periods) × (signals ≤ signalsMost) × Ample (seen (now shown) (now marks)) × (row < rowsMost) ⌝ }
-    ensures { λ z. ⌜ (z .cursor ≡ r .cursor) × (z .table ≡ r .table) × ((tabs : Tables) → Spans tabs (now (spots .entry)) (now (times .entry)) (now (periods .entry)) → Closed tabs signals row (seen (now (shown .entry)) (now (marks .entry))) (z .failed) (z .place)) ⌝ }
+    requires { ⌜ Sized (now firsts) (now lasts) (now periods) × (signals ≤ signalsMost) × Ample (seen (now shown) (now marks)) × (row < rowsMost) ⌝ }
+    ensures { λ z. ⌜ (z .cursor ≡ r .cursor) × (z .table ≡ r .table) × ((tabs : Tables) → Spans tabs (now (firsts .entry)) (now (lasts .entry)) (now (periods .entry)) → Closed tabs signals row (seen (now (shown .entry)) (now (marks .entry))) (z .failed) (z .place)) ⌝ }
 {
     let cursor = r.cursor;
-    let failed = closes(spots, times, periods, shown, marks, row, signals);
+    let failed = closes(firsts, lasts, periods, shown, marks, row, signals);
     Played {
         cursor,
         failed,
@@ -339,7 +339,7 @@ fn rows_of(depth: usize) -> usize
 }
 
 // A V, t times, each cycle held against the one before.
-fn vectors(
+fn vectors<'a>(
     text: &[u8],
     given: &[u8],
     values: &mut [u8],
@@ -349,22 +349,22 @@ fn vectors(
     table: usize,
     place: usize,
     t: usize,
-    spots: &[u32],
-    times: &[u32],
-    periods: &[u64],
+    firsts: &'a [u32],
+    lasts: &'a [u32],
+    periods: &'a [u64],
     shown: &mut [u8],
     marks: &mut [usize],
     used: usize,
 ) -> bool
-    requires { ⌜ Roomy signals (now values) (now feeds) level × (length (now given) ≡ signalsMost) × Sized (now spots) (now times) (now periods) × Ample (seen (now shown) (now marks)) × (used ≤ rowsMost) ⌝ }
-    ensures { λ r. ⌜ Others level (now (values .entry)) (now (values .exit)) (now (feeds .entry)) (now (feeds .exit)) × Long (seen (now (shown .entry)) (now (marks .entry))) (seen (now (shown .exit)) (now (marks .exit))) × Vectored (now (text .entry)) (now (given .entry)) (clock (now (spots .entry)) (now (times .entry)) (now (periods .entry))) signals level table place t used (now (values .entry)) (now (values .exit)) (now (feeds .entry)) (now (feeds .exit)) (seen (now (shown .entry)) (now (marks .entry))) (seen (now (shown .exit)) (now (marks .exit))) r ⌝ }
+    requires { ⌜ Roomy signals (now values) (now feeds) level × (length (now given) ≡ signalsMost) × Sized (now firsts) (now lasts) (now periods) × Ample (seen (now shown) (now marks)) × (used ≤ rowsMost) ⌝ }
+    ensures { λ r. ⌜ Others level (now (values .entry)) (now (values .exit)) (now (feeds .entry)) (now (feeds .exit)) × Long (seen (now (shown .entry)) (now (marks .entry))) (seen (now (shown .exit)) (now (marks .exit))) × Vectored (now (text .entry)) (now (given .entry)) (clock (now (firsts .entry)) (now (lasts .entry)) (now (periods .entry))) signals level table place t used (now (values .entry)) (now (values .exit)) (now (feeds .entry)) (now (feeds .exit)) (seen (now (shown .entry)) (now (marks .entry))) (seen (now (shown .exit)) (now (marks .exit))) r ⌝ }
 {
     let mut i = 0;
     while i < t {
         pins::put(text, given, values, feeds, level, signals);
         if cycle(
-            spots,
-            times,
+            firsts,
+            lasts,
             periods,
             values,
             signals,
@@ -393,8 +393,8 @@ fn shift<'a>(
     waves: &'a [u8],
     known: Known,
     signals: usize,
-    spots: &'a [u32],
-    times: &'a [u32],
+    firsts: &'a [u32],
+    lasts: &'a [u32],
     periods: &'a [u64],
     frame: Frame,
     table: usize,
@@ -404,8 +404,8 @@ fn shift<'a>(
     shown: &mut [u8],
     marks: &mut [usize],
 ) -> Played
-    requires { ⌜ (alive c ≡ true) × Stood (ground (now text) (now places) (now lists) (now tplaces) (now book) (now rows) (now waves) known signals) (clock (now spots) (now times) (now periods)) (stream (now text) c) (frame .depth) (frame .level) table (arrays (now values) (now feeds) (now args)) (seen (now shown) (now marks)) ⌝ }
-    ensures { λ r. ⌜ Shifted (ground (now (text .entry)) (now (places .entry)) (now (lists .entry)) (now (tplaces .entry)) (now (book .entry)) (now (rows .entry)) (now (waves .entry)) known signals) (clock (now (spots .entry)) (now (times .entry)) (now (periods .entry))) (stream (now (text .entry)) c) (frame .depth) (frame .level) table (frame .turns) (arrays (now (values .entry)) (now (feeds .entry)) (now (args .entry))) (arrays (now (values .exit)) (now (feeds .exit)) (now (args .exit))) (seen (now (shown .entry)) (now (marks .entry))) (seen (now (shown .exit)) (now (marks .exit))) r ⌝ }
+    requires { ⌜ (alive c ≡ true) × Stood (ground (now text) (now places) (now lists) (now tplaces) (now book) (now rows) (now waves) known signals) (clock (now firsts) (now lasts) (now periods)) (stream (now text) c) (frame .depth) (frame .level) table (arrays (now values) (now feeds) (now args)) (seen (now shown) (now marks)) ⌝ }
+    ensures { λ r. ⌜ Shifted (ground (now (text .entry)) (now (places .entry)) (now (lists .entry)) (now (tplaces .entry)) (now (book .entry)) (now (rows .entry)) (now (waves .entry)) known signals) (clock (now (firsts .entry)) (now (lasts .entry)) (now (periods .entry))) (stream (now (text .entry)) c) (frame .depth) (frame .level) table (frame .turns) (arrays (now (values .entry)) (now (feeds .entry)) (now (args .entry))) (arrays (now (values .exit)) (now (feeds .exit)) (now (args .exit))) (seen (now (shown .entry)) (now (marks .entry))) (seen (now (shown .exit)) (now (marks .exit))) r ⌝ }
 {
     let mut given = [0; sets::MOST];
     let h = heads::head(
@@ -433,8 +433,8 @@ fn shift<'a>(
         table,
         c.at,
         frame.turns,
-        spots,
-        times,
+        firsts,
+        lasts,
         periods,
         shown,
         marks,
@@ -463,8 +463,8 @@ fn turns<'a>(
     waves: &'a [u8],
     known: Known,
     signals: usize,
-    spots: &'a [u32],
-    times: &'a [u32],
+    firsts: &'a [u32],
+    lasts: &'a [u32],
     periods: &'a [u64],
     frame: Frame,
     n: usize,
@@ -475,8 +475,8 @@ fn turns<'a>(
     shown: &mut [u8],
     marks: &mut [usize],
 ) -> Played
-    requires { ⌜ (alive c ≡ true) × (0 < n) × (0 < frame .depth) × (frame .depth ≤ depthMost) × Stood (ground (now text) (now places) (now lists) (now tplaces) (now book) (now rows) (now waves) known signals) (clock (now spots) (now times) (now periods)) (stream (now text) c) (frame .depth - 1) (frame .level) table (arrays (now values) (now feeds) (now args)) (seen (now shown) (now marks)) ⌝ }
-    ensures { λ r. ⌜ Looped (ground (now (text .entry)) (now (places .entry)) (now (lists .entry)) (now (tplaces .entry)) (now (book .entry)) (now (rows .entry)) (now (waves .entry)) known signals) (clock (now (spots .entry)) (now (times .entry)) (now (periods .entry))) (stream (now (text .entry)) c) (frame .depth) (frame .level) table (frame .turns) n (arrays (now (values .entry)) (now (feeds .entry)) (now (args .entry))) (arrays (now (values .exit)) (now (feeds .exit)) (now (args .exit))) (seen (now (shown .entry)) (now (marks .entry))) (seen (now (shown .exit)) (now (marks .exit))) r ⌝ }
+    requires { ⌜ (alive c ≡ true) × (0 < n) × (0 < frame .depth) × (frame .depth ≤ depthMost) × Stood (ground (now text) (now places) (now lists) (now tplaces) (now book) (now rows) (now waves) known signals) (clock (now firsts) (now lasts) (now periods)) (stream (now text) c) (frame .depth - 1) (frame .level) table (arrays (now values) (now feeds) (now args)) (seen (now shown) (now marks)) ⌝ }
+    ensures { λ r. ⌜ Looped (ground (now (text .entry)) (now (places .entry)) (now (lists .entry)) (now (tplaces .entry)) (now (book .entry)) (now (rows .entry)) (now (waves .entry)) known signals) (clock (now (firsts .entry)) (now (lasts .entry)) (now (periods .entry))) (stream (now (text .entry)) c) (frame .depth) (frame .level) table (frame .turns) n (arrays (now (values .entry)) (now (feeds .entry)) (now (args .entry))) (arrays (now (values .exit)) (now (feeds .exit)) (now (args .exit))) (seen (now (shown .entry)) (now (marks .entry))) (seen (now (shown .exit)) (now (marks .exit))) r ⌝ }
 {
     let inner = Frame {
         turns: frame.turns,
@@ -497,8 +497,8 @@ fn turns<'a>(
         waves,
         known,
         signals,
-        spots,
-        times,
+        firsts,
+        lasts,
         periods,
         inner,
         table,
@@ -512,7 +512,7 @@ fn turns<'a>(
         return a;
     }
     if same(values, a.table, shown, marks, first + 1, signals) {
-        return finish(spots, times, periods, shown, marks, first, signals, a);
+        return finish(firsts, lasts, periods, shown, marks, first, signals, a);
     }
     forget(marks, first);
     let b = statements(
@@ -526,8 +526,8 @@ fn turns<'a>(
         waves,
         known,
         signals,
-        spots,
-        times,
+        firsts,
+        lasts,
         periods,
         inner,
         a.table,
@@ -540,7 +540,7 @@ fn turns<'a>(
     if b.failed | (n < 3) {
         return b;
     }
-    finish(spots, times, periods, shown, marks, first, signals, b)
+    finish(firsts, lasts, periods, shown, marks, first, signals, b)
 }
 
 // Macro or Call: the body of number i, its Shift played t times, from its own first byte. A macro runs in place; from a procedure the caller's pins and table come back.
@@ -554,8 +554,8 @@ fn enter<'a>(
     waves: &'a [u8],
     known: Known,
     signals: usize,
-    spots: &'a [u32],
-    times: &'a [u32],
+    firsts: &'a [u32],
+    lasts: &'a [u32],
     periods: &'a [u64],
     frame: Frame,
     i: usize,
@@ -567,8 +567,8 @@ fn enter<'a>(
     shown: &mut [u8],
     marks: &mut [usize],
 ) -> Played
-    requires { ⌜ Used (ground (now text) (now places) (now lists) (now tplaces) (now book) (now rows) (now waves) known signals) (clock (now spots) (now times) (now periods)) i (frame .depth) (frame .level) table (arrays (now values) (now feeds) (now args)) (seen (now shown) (now marks)) ⌝ }
-    ensures { λ r. ⌜ Entered (ground (now (text .entry)) (now (places .entry)) (now (lists .entry)) (now (tplaces .entry)) (now (book .entry)) (now (rows .entry)) (now (waves .entry)) known signals) (clock (now (spots .entry)) (now (times .entry)) (now (periods .entry))) i (frame .depth) (frame .level) table t (arrays (now (values .entry)) (now (feeds .entry)) (now (args .entry))) (arrays (now (values .exit)) (now (feeds .exit)) (now (args .exit))) (seen (now (shown .entry)) (now (marks .entry))) (seen (now (shown .exit)) (now (marks .exit))) r ⌝ }
+    requires { ⌜ Used (ground (now text) (now places) (now lists) (now tplaces) (now book) (now rows) (now waves) known signals) (clock (now firsts) (now lasts) (now periods)) i (frame .depth) (frame .level) table (arrays (now values) (now feeds) (now args)) (seen (now shown) (now marks)) ⌝ }
+    ensures { λ r. ⌜ Entered (ground (now (text .entry)) (now (places .entry)) (now (lists .entry)) (now (tplaces .entry)) (now (book .entry)) (now (rows .entry)) (now (waves .entry)) known signals) (clock (now (firsts .entry)) (now (lasts .entry)) (now (periods .entry))) i (frame .depth) (frame .level) table t (arrays (now (values .entry)) (now (feeds .entry)) (now (args .entry))) (arrays (now (values .exit)) (now (feeds .exit)) (now (args .exit))) (seen (now (shown .entry)) (now (marks .entry))) (seen (now (shown .exit)) (now (marks .exit))) r ⌝ }
 {
     let inner = Frame {
         turns: t,
@@ -588,8 +588,8 @@ fn enter<'a>(
             waves,
             known,
             signals,
-            spots,
-            times,
+            firsts,
+            lasts,
             periods,
             inner,
             table,
@@ -612,8 +612,8 @@ fn enter<'a>(
         waves,
         known,
         signals,
-        spots,
-        times,
+        firsts,
+        lasts,
         periods,
         inner,
         table,
@@ -646,8 +646,8 @@ fn statement<'a>(
     waves: &'a [u8],
     known: Known,
     signals: usize,
-    spots: &'a [u32],
-    times: &'a [u32],
+    firsts: &'a [u32],
+    lasts: &'a [u32],
     periods: &'a [u64],
     frame: Frame,
     table: usize,
@@ -657,8 +657,8 @@ fn statement<'a>(
     shown: &mut [u8],
     marks: &mut [usize],
 ) -> Played
-    requires { ⌜ (alive c ≡ true) × Stood (ground (now text) (now places) (now lists) (now tplaces) (now book) (now rows) (now waves) known signals) (clock (now spots) (now times) (now periods)) (stream (now text) c) (frame .depth) (frame .level) table (arrays (now values) (now feeds) (now args)) (seen (now shown) (now marks)) ⌝ }
-    ensures { λ r. ⌜ Stepped (ground (now (text .entry)) (now (places .entry)) (now (lists .entry)) (now (tplaces .entry)) (now (book .entry)) (now (rows .entry)) (now (waves .entry)) known signals) (clock (now (spots .entry)) (now (times .entry)) (now (periods .entry))) (stream (now (text .entry)) c) (frame .depth) (frame .level) table (frame .turns) (arrays (now (values .entry)) (now (feeds .entry)) (now (args .entry))) (arrays (now (values .exit)) (now (feeds .exit)) (now (args .exit))) (seen (now (shown .entry)) (now (marks .entry))) (seen (now (shown .exit)) (now (marks .exit))) r ⌝ }
+    requires { ⌜ (alive c ≡ true) × Stood (ground (now text) (now places) (now lists) (now tplaces) (now book) (now rows) (now waves) known signals) (clock (now firsts) (now lasts) (now periods)) (stream (now text) c) (frame .depth) (frame .level) table (arrays (now values) (now feeds) (now args)) (seen (now shown) (now marks)) ⌝ }
+    ensures { λ r. ⌜ Stepped (ground (now (text .entry)) (now (places .entry)) (now (lists .entry)) (now (tplaces .entry)) (now (book .entry)) (now (rows .entry)) (now (waves .entry)) known signals) (clock (now (firsts .entry)) (now (lasts .entry)) (now (periods .entry))) (stream (now (text .entry)) c) (frame .depth) (frame .level) table (frame .turns) (arrays (now (values .entry)) (now (feeds .entry)) (now (args .entry))) (arrays (now (values .exit)) (now (feeds .exit)) (now (args .exit))) (seen (now (shown .entry)) (now (marks .entry))) (seen (now (shown .exit)) (now (marks .exit))) r ⌝ }
 {
     let mut given = [0; sets::MOST];
     let h = heads::head(
@@ -697,8 +697,8 @@ fn statement<'a>(
                 table,
                 place,
                 1,
-                spots,
-                times,
+                firsts,
+                lasts,
                 periods,
                 shown,
                 marks,
@@ -729,8 +729,8 @@ fn statement<'a>(
                 waves,
                 known,
                 signals,
-                spots,
-                times,
+                firsts,
+                lasts,
                 periods,
                 frame,
                 n,
@@ -755,8 +755,8 @@ fn statement<'a>(
             waves,
             known,
             signals,
-            spots,
-            times,
+            firsts,
+            lasts,
             periods,
             frame,
             table,
@@ -778,8 +778,8 @@ fn statement<'a>(
                 waves,
                 known,
                 signals,
-                spots,
-                times,
+                firsts,
+                lasts,
                 periods,
                 frame,
                 i,
@@ -808,8 +808,8 @@ fn statements<'a>(
     waves: &'a [u8],
     known: Known,
     signals: usize,
-    spots: &'a [u32],
-    times: &'a [u32],
+    firsts: &'a [u32],
+    lasts: &'a [u32],
     periods: &'a [u64],
     frame: Frame,
     table: usize,
@@ -819,8 +819,8 @@ fn statements<'a>(
     shown: &mut [u8],
     marks: &mut [usize],
 ) -> Played
-    requires { ⌜ (alive c ≡ true) × Stood (ground (now text) (now places) (now lists) (now tplaces) (now book) (now rows) (now waves) known signals) (clock (now spots) (now times) (now periods)) (stream (now text) c) (frame .depth) (frame .level) table (arrays (now values) (now feeds) (now args)) (seen (now shown) (now marks)) ⌝ }
-    ensures { λ r. ⌜ Promised (ground (now (text .entry)) (now (places .entry)) (now (lists .entry)) (now (tplaces .entry)) (now (book .entry)) (now (rows .entry)) (now (waves .entry)) known signals) (clock (now (spots .entry)) (now (times .entry)) (now (periods .entry))) (stream (now (text .entry)) c) (frame .depth) (frame .level) table (frame .turns) (arrays (now (values .entry)) (now (feeds .entry)) (now (args .entry))) (arrays (now (values .exit)) (now (feeds .exit)) (now (args .exit))) (seen (now (shown .entry)) (now (marks .entry))) (seen (now (shown .exit)) (now (marks .exit))) r ⌝ }
+    requires { ⌜ (alive c ≡ true) × Stood (ground (now text) (now places) (now lists) (now tplaces) (now book) (now rows) (now waves) known signals) (clock (now firsts) (now lasts) (now periods)) (stream (now text) c) (frame .depth) (frame .level) table (arrays (now values) (now feeds) (now args)) (seen (now shown) (now marks)) ⌝ }
+    ensures { λ r. ⌜ Promised (ground (now (text .entry)) (now (places .entry)) (now (lists .entry)) (now (tplaces .entry)) (now (book .entry)) (now (rows .entry)) (now (waves .entry)) known signals) (clock (now (firsts .entry)) (now (lasts .entry)) (now (periods .entry))) (stream (now (text .entry)) c) (frame .depth) (frame .level) table (frame .turns) (arrays (now (values .entry)) (now (feeds .entry)) (now (args .entry))) (arrays (now (values .exit)) (now (feeds .exit)) (now (args .exit))) (seen (now (shown .entry)) (now (marks .entry))) (seen (now (shown .exit)) (now (marks .exit))) r ⌝ }
 {
     let mut cursor = c;
     let mut chosen = table;
@@ -836,8 +836,8 @@ fn statements<'a>(
             waves,
             known,
             signals,
-            spots,
-            times,
+            firsts,
+            lasts,
             periods,
             frame,
             chosen,

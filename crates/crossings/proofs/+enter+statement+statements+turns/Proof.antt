@@ -506,10 +506,10 @@ statement-returns-7 t c =
     })
 
 abbrev statements-Inv-loop : statements-lts.InvT-loop
-statements-Inv-loop text places lists tplaces book rows waves known signals spots times periods frame table values₀ feeds₀ args₀ shown₀ marks₀ cursor₀ chosen₀ values feeds args shown marks cursor chosen = Underway (ground text places lists tplaces book rows waves known signals) (clock spots times periods) (frame .depth) (frame .level) (frame .turns) cursor₀ chosen₀ (arrays values₀ feeds₀ args₀) (seen shown₀ marks₀) cursor chosen (arrays values feeds args) (seen shown marks)
+statements-Inv-loop text places lists tplaces book rows waves known signals firsts lasts periods frame table values₀ feeds₀ args₀ shown₀ marks₀ cursor₀ chosen₀ values feeds args shown marks cursor chosen = Underway (ground text places lists tplaces book rows waves known signals) (clock firsts lasts periods) (frame .depth) (frame .level) (frame .turns) cursor₀ chosen₀ (arrays values₀ feeds₀ args₀) (seen shown₀ marks₀) cursor chosen (arrays values feeds args) (seen shown marks)
 
 abbrev statements-μ-loop : statements-lts.MeasureT-loop
-statements-μ-loop text places lists tplaces book rows waves known signals spots times periods frame table values₀ feeds₀ args₀ shown₀ marks₀ cursor₀ chosen₀ values feeds args shown marks cursor chosen = left (stream text cursor)
+statements-μ-loop text places lists tplaces book rows waves known signals firsts lasts periods frame table values₀ feeds₀ args₀ shown₀ marks₀ cursor₀ chosen₀ values feeds args shown marks cursor chosen = left (stream text cursor)
 
 statements-loop-holds : (t : ℕ) → statements-lts.Need-loop-holds (
   statement-below t,

@@ -11,10 +11,10 @@ use Rattle.crossings.proofs.in_order.Reads as reads
 use Rattle.crossings.proofs.in_order.Lts as lts
 
 abbrev Inv-loop : tie.InvT-loop
-Inv-loop spots times periods first a j second b k signals s₀ s = (s ≤ signals) × ((tabs : Tables) → Spans tabs spots times periods → (p q : ℕ) → Looked tabs signals p j first a q k second b s)
+Inv-loop firsts lasts periods first a j second b k signals s₀ s = (s ≤ signals) × ((tabs : Tables) → Spans tabs firsts lasts periods → (p q : ℕ) → Looked tabs signals p j first a q k second b s)
 
 abbrev μ-loop : tie.MeasureT-loop
-μ-loop spots times periods first a j second b k signals s₀ s = signals - s
+μ-loop firsts lasts periods first a j second b k signals s₀ s = signals - s
 
 returns : tie.Need-returns Inv-loop μ-loop
 returns c = λ tabs h p q. sym (first-none tabs (c .before .before .before .before .before .before .args .signals) p (c .before .before .before .before .before .before .args .j) (c .before .before .before .before .before .before .args .first .now) (c .before .before .before .before .before .before .args .a) q (c .before .before .before .before .before .before .args .k) (c .before .before .before .before .before .before .args .second .now) (c .before .before .before .before .before .before .args .b) (omega arith))

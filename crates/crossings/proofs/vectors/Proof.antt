@@ -12,10 +12,10 @@ use Rattle.crossings.proofs.vectors.Reads as reads
 use Rattle.crossings.proofs.vectors.Lts as lts
 
 abbrev Inv-loop : tie.InvT-loop
-Inv-loop text given values₀ feeds₀ level signals table place t spots times periods shown₀ marks₀ used i₀ values feeds shown marks i = After text given (clock spots times periods) signals level table place t used values₀ feeds₀ (seen shown₀ marks₀) i values feeds (seen shown marks)
+Inv-loop text given values₀ feeds₀ level signals table place t firsts lasts periods shown₀ marks₀ used i₀ values feeds shown marks i = After text given (clock firsts lasts periods) signals level table place t used values₀ feeds₀ (seen shown₀ marks₀) i values feeds (seen shown marks)
 
 abbrev μ-loop : tie.MeasureT-loop
-μ-loop text given values₀ feeds₀ level signals table place t spots times periods shown₀ marks₀ used i₀ values feeds shown marks i = t - i
+μ-loop text given values₀ feeds₀ level signals table place t firsts lasts periods shown₀ marks₀ used i₀ values feeds shown marks i = t - i
 
 loop-holds : tie.Need-loop-holds Inv-loop μ-loop
 loop-holds c = after-none
