@@ -6,3 +6,4 @@ pub mod Looping
 pub mod Stepping
 pub mod Going
 pub mod Entering
+pub mod Running

@@ -14,10 +14,16 @@ ghost use Rattle.edges.specs.Edges.{inOrder};
 ghost use Rattle.spans.specs.Spans.{Spans, Sized};
 ghost use Rattle.pins.specs.Shown.{Roomy, Others};
 ghost use Rattle.plays.specs.Plays.{ground, arrays};
+ghost use Rattle.plays.specs.Run.{SomeRun, Runs};
+ghost use Rattle.meaning.specs.Body.{Body};
+ghost use Rattle.meaning.specs.Document.{Read};
+ghost use Rattle.texts.specs.declared.Parts.{Parts};
 ghost use Rattle.crossings.specs.Rows.{rowsMost, seen, Ample, cycleIn, rowAt, firstSeen, Copied, Marked, Stored, Noted, Long, Passed, clock, Fine, Closed, rowsOf};
 ghost use Rattle.crossings.specs.Crossings.{Stood, Promised, Vectored, Stepped, Shifted, Looped, Used, Entered};
+ghost use Rattle.crossings.specs.Run.{SomeListed, PlaysListed, Decides};
 use heads::Known;
 use measures::DEPTH;
+use plays::Failing;
 use plays::Played;
 use timing::TABLES;
 use words::Cursor;
@@ -852,5 +858,132 @@ fn statements<'a>(
         }
         cursor = r.cursor;
         chosen = r.table;
+    }
+}
+
+// ---- the run
+
+// The listed pattern of number k, from its own first byte. It starts with no cycle before it, no table and all signals unassigned.
+fn pattern<'a>(
+    text: &'a [u8],
+    places: &'a [usize],
+    lists: &'a [u16],
+    tplaces: &'a [usize],
+    book: &'a [usize],
+    rows: &'a [u16],
+    waves: &'a [u8],
+    list: &'a [usize],
+    known: Known,
+    signals: usize,
+    firsts: &'a [u32],
+    lasts: &'a [u32],
+    periods: &'a [u64],
+    patterns: usize,
+    k: usize,
+    values: &mut [u8],
+    feeds: &mut [usize],
+    args: &mut [usize],
+    shown: &mut [u8],
+    marks: &mut [usize],
+) -> Played
+    requires { ⌜ SomeListed (ground (now text) (now places) (now lists) (now tplaces) (now book) (now rows) (now waves) known signals) (clock (now firsts) (now lasts) (now periods)) (now list) patterns k (arrays (now values) (now feeds) (now args)) (seen (now shown) (now marks)) ⌝ }
+    ensures { λ r. ⌜ PlaysListed (ground (now (text .entry)) (now (places .entry)) (now (lists .entry)) (now (tplaces .entry)) (now (book .entry)) (now (rows .entry)) (now (waves .entry)) known signals) (clock (now (firsts .entry)) (now (lasts .entry)) (now (periods .entry))) (now (list .entry)) patterns k (arrays (now (values .exit)) (now (feeds .exit)) (now (args .exit))) (seen (now (shown .exit)) (now (marks .exit))) r ⌝ }
+{
+    let names = &book[measures::PATTERNS * 2..];
+    let i = words::find(text, words::name_bytes(text, list, k), names, patterns);
+    let c = words::cursor_at(text, measures::start_at(book, measures::PATTERNS + i));
+    let frame = Frame {
+        turns: 0,
+        depth: DEPTH,
+        level: 0,
+    };
+    pins::leave(values, 0);
+    forget(marks, 0);
+    statements(
+        text,
+        c,
+        places,
+        lists,
+        tplaces,
+        book,
+        rows,
+        waves,
+        known,
+        signals,
+        firsts,
+        lasts,
+        periods,
+        frame,
+        pins::NONE,
+        values,
+        feeds,
+        args,
+        shown,
+        marks,
+    )
+}
+
+// The listed patterns in order: is a pair of neighbouring cycles not in order, and where does the V of the first one's later cycle stand?
+pub fn first_failing_pair<'a>(
+    text: &'a [u8],
+    places: &'a [usize],
+    lists: &'a [u16],
+    tplaces: &'a [usize],
+    book: &'a [usize],
+    rows: &'a [u16],
+    waves: &'a [u8],
+    list: &'a [usize],
+    known: Known,
+    signals: usize,
+    listed: usize,
+    patterns: usize,
+    firsts: &'a [u32],
+    lasts: &'a [u32],
+    periods: &'a [u64],
+) -> Failing
+    requires { ⌜ Sized (now firsts) (now lasts) (now periods) ⌝ }
+    requires { ⌜ ((h : SomeRun (now text) (now places) (now lists) (now tplaces) (now waves) (now book) (now rows) (now list) known signals listed patterns) × Spans (h .read .tables) (now firsts) (now lasts) (now periods)) ⌝ }
+    ensures { λ r. ⌜ ((p : Parts) (d : Read) (run : Body) → Runs (now (text .entry)) (now (places .entry)) (now (lists .entry)) (now (tplaces .entry)) (now (waves .entry)) (now (book .entry)) (now (rows .entry)) (now (list .entry)) known signals listed patterns p d run → Spans (d .tables) (now (firsts .entry)) (now (lasts .entry)) (now (periods .entry)) → Decides d run r) ⌝ }
+{
+    let mut values = [0u8; pins::VALUES];
+    let mut feeds = [0usize; pins::FEEDS];
+    let mut args = [0usize; measures::ROW];
+    let mut shown = [0u8; ROWS * sets::MOST];
+    let mut marks = [0usize; ROWS * NUMBERS];
+    let mut k = 0;
+    while k < listed {
+        let r = pattern(
+            text,
+            places,
+            lists,
+            tplaces,
+            book,
+            rows,
+            waves,
+            list,
+            known,
+            signals,
+            firsts,
+            lasts,
+            periods,
+            patterns,
+            k,
+            &mut values,
+            &mut feeds,
+            &mut args,
+            &mut shown,
+            &mut marks,
+        );
+        if r.failed {
+            return Failing {
+                failed: true,
+                place: r.place,
+            };
+        }
+        k += 1;
+    }
+    Failing {
+        failed: false,
+        place: 0,
     }
 }
