@@ -11,7 +11,7 @@ use Rattle.words.specs.Cursor.{alive, stream}
 use Rattle.words.specs.declared.Cursor.{Cursor}
 use Rattle.plays.specs.declared.Played.{Played}
 use Rattle.plays.specs.Plays.{Ground, Arrays, Standing, Kept}
-use Rattle.plays.proofs.Fitting.{neither}
+use Rattle.tokens.proofs.Bools.{neither}
 use Rattle.crossings.specs.Rows.{rowsOf, Seen, Long, Passed, Clock, Runs}
 use Rattle.crossings.specs.Crossings.{Plays, Goes, Steps}
 use Rattle.crossings.proofs.Passing.{differ, passed-both, passed-failing}

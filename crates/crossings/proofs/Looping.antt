@@ -21,7 +21,8 @@ use Rattle.words.specs.Cursor.{alive, stream}
 use Rattle.pins.specs.Shown.{tableOf, Shows, Roomy}
 use Rattle.plays.specs.declared.Played.{Played}
 use Rattle.plays.specs.Plays.{Ground, Arrays, Showing, Standing}
-use Rattle.plays.proofs.Fitting.{neither, fits-again}
+use Rattle.tokens.proofs.Bools.{neither}
+use Rattle.plays.proofs.Fitting.{fits-again}
 use Rattle.crossings.specs.Rows.{rowsMost, rowsOf, Seen, Ample, cycleIn, rowOf, rowAt, Stored, firstSeen, atMostOne, Noted, Passed, Closed}
 use Rattle.crossings.specs.Crossings.{Told, Plays}
 use Rattle.crossings.proofs.Storing.{window}

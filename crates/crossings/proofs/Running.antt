@@ -10,10 +10,9 @@ use Rattle.tokens.specs.Tokens.{Tok}
 use Rattle.meaning.specs.Names.{find}
 use Rattle.meaning.specs.Timing.{Tables}
 use Rattle.meaning.specs.Body.{listed, Body}
-use Rattle.meaning.specs.Run.{State, Cycle, shiftOf, bare, follow, entering, playing, play, start, cyclesOf}
+use Rattle.meaning.specs.Run.{State, Cycle, shiftOf, bare, follow, entering, playing, play, start, cyclesOf, alone}
 use Rattle.meaning.specs.Statements.{Decl, Decls, Env}
 use Rattle.meaning.specs.Document.{Read}
-use Rattle.meaning.specs.Edited.{alone}
 use Rattle.held.specs.Held.{Stands, Listed}
 use Rattle.words.specs.Table.{nameOf}
 use Rattle.signals.proofs.Tables.{names-length}

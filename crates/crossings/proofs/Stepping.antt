@@ -30,7 +30,8 @@ use Rattle.plays.specs.declared.Played.{Played}
 use Rattle.plays.specs.Plays.{Ground, Holding, Fits, Arrays, Showing, Standing}
 use Rattle.plays.proofs.Supply.{Same, same-puts, same-changed, same-play}
 use Rattle.plays.proofs.Fitting.{fits-behind-vec, fits-behind-set, fits-behind-inner}
-use Rattle.plays.proofs.Heading.{went, head-token, vector-place, end-due, fine-head, met-split, met-fine, met-less}
+use Rattle.words.proofs.Flow.{went}
+use Rattle.plays.proofs.Heading.{head-token, vector-place, end-due, fine-head, met-split, met-fine, met-less}
 use Rattle.plays.proofs.Shifting.{token-at, tells-given}
 use Rattle.plays.proofs.Stepping.{vec-playable, set-playable, meets, Inside, Called, one-vector}
 use Rattle.crossings.specs.Rows.{rowsOf, Seen, rowAt, Passed, Clock, Runs}
@@ -176,12 +177,12 @@ module _ {g : Ground} {c r d : Cursor} {more level table : ℕ} {x y : Arrays} {
         let n = head-token E _ _ _ (h .1) in
         let at : c .at ≡ p = token-at (g .text) c (n .0) (n .1) (n .2) ∙ vector-place E _ (n .0) (n .1) (n .2) p a _ (h .1) in
         let gave = tells-given (g .text) (g .book) (g .rows) given args (g .known .tables) what p a
-        (subst (λ (z : Head). HeadTells (g .text) (g .book) (g .rows) given args (g .known .tables) what z) (o .answer) (m .held (o .on))) in
+        (subst (λ (z : Head). HeadTells (g .text) (g .book) (g .rows) given args (g .known .tables) what z) (o .is) (m .held (o .on))) in
         let fine = fine-head E (g .signals) (st .holding .tidy) .all _ _ _ (h .1) in
-        let q = end-due E (stream (g .text) r) us (rw (o .there) (h .2)) in
+        let q = end-due E (stream (g .text) r) us (rw (o .behind) (h .2)) in
         let z = went close (o .on) (q .1) in
         let all = told .told (E .tables) runs a s gave (vec-playable fine (st .fits)) (st .shows) in
         record {
           tells = subst (λ (i : ℕ). Told (E .tables) (g .text) (g .signals) (y .values) table (y .feeds) level (rowsOf more) v w f (c .at) (again t (vector i a) s)) at all;
-          behind = λ e. (z .on, z .there);
+          behind = λ e. (z .on, z .behind);
         }

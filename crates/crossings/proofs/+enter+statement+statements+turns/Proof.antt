@@ -11,7 +11,8 @@ use Rattle.meaning.specs.Run.{bare, play}
 use Rattle.words.specs.Cursor.{stream}
 use Rattle.assigns.proofs.Table.{gave-zeros}
 use Rattle.plays.specs.Plays.{ground, arrays}
-use Rattle.plays.proofs.Fitting.{fits-some, neither}
+use Rattle.tokens.proofs.Bools.{neither}
+use Rattle.plays.proofs.Fitting.{fits-some}
 use Rattle.plays.proofs.Keeping.{kept-none, kept-then, kept-others, kept-args, kept-supplied, sized-kept, sized-at, shows-supplied}
 use Rattle.plays.proofs.Stepping.{in-loop, in-shift, called, loop-plain, loop-standing, shift-standing, called-using}
 use Rattle.plays.proofs.Entering.{kind-macro, kind-procedure, kept-below, kept-returned, sized-left, macro-standing, procedure-standing}
