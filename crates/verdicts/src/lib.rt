@@ -308,13 +308,13 @@ fn across<'a>(
     requires { ⌜ ((w : Watch) × Found (now text) w (now places) (now lists) (now tplaces) (now waves) (now book) (now rows) (now list) v) ⌝ }
     ensures { λ r. ⌜ Crosses (now (text .entry)) (now (places .entry)) (now (lists .entry)) (now (tplaces .entry)) (now (waves .entry)) (now (book .entry)) (now (rows .entry)) (now (list .entry)) v r ⌝ }
 {
-    if quiet::is_quiet(text) {
-        return Failing {
-            failed: false,
-            place: 0,
-        };
+    if !quiet::is_quiet(text) {
+        return crossing(text, places, lists, tplaces, waves, book, rows, list, v);
     }
-    crossing(text, places, lists, tplaces, waves, book, rows, list, v)
+    Failing {
+        failed: false,
+        place: 0,
+    }
 }
 
 // What 17 and 25 say of a text's run, where 1 to 16 leave the text.

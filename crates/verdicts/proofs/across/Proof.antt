@@ -3,6 +3,7 @@ use Prim.Native.Nat.{ℕ}
 use native.Mathlib.Omega.{arith}
 use mathlib.Core.Path.{_≡_}
 use borrow.Author.Needs.{needs}
+use borrow.Author.Tests.{not-false}
 use Rattle.texts.proofs.Sounds.{sound-runs}
 use Rattle.verdicts.proofs.across.Statement.{statement}
 use Rattle.verdicts.proofs.across.Tie as tie
@@ -13,21 +14,21 @@ is-quiet-requires c κs =
     let read = sound-runs _ (found .is) in
     (found .it .read, read .rest, read .read)
 
+crossing-requires : tie.Need-crossing-requires
+crossing-requires c κs = search needs
+
 returns : tie.Need-returns
-returns c = record {
+returns c = c .crossing .ensures
+
+returns-2 : tie.Need-returns-2
+returns-2 c = record {
   decides = λ f.
       let read = sound-runs _ (f .is) in
       record {
         fails = λ h. let z : _≡_ {A = ℕ} 0 1 = cc in absurd (omega arith);
-        sound = λ h. c .before .is-quiet .ensures (c .if1 .taken) (f .it .read) (read .rest) (read .read) _ (f .it .run);
+        sound = λ h. c .before .is-quiet .ensures (not-false _ (c .if1 .left)) (f .it .read) (read .rest) (read .read) _ (f .it .run);
       };
 }
 
-crossing-requires : tie.Need-crossing-requires
-crossing-requires c κs = search needs
-
-returns-2 : tie.Need-returns-2
-returns-2 c = c .crossing .ensures
-
 pub across-spec : {M : Type 1} → statement M
-across-spec = tie.close (tie.spec is-quiet-requires returns crossing-requires returns-2)
+across-spec = tie.close (tie.spec is-quiet-requires crossing-requires returns returns-2)
