@@ -1,6 +1,6 @@
 -- Statements one after the other: who plays what is left of a body has played the body.
 use Prim.Native.Nat.{ℕ, _<_}
-use mathlib.Core.Path.{_≡_, refl, sym, ap, _∙_}
+use mathlib.Core.Path.{_≡_, refl, sym, _∙_}
 use mathlib.Core.Bool.{Bool, true, false, _||_}
 use Rattle.tokens.specs.Tokens.{Toks, left}
 use Rattle.meaning.specs.Timing.{Tables}
@@ -12,7 +12,7 @@ use Rattle.words.specs.declared.Cursor.{Cursor}
 use Rattle.plays.specs.declared.Played.{Played}
 use Rattle.plays.specs.Plays.{Ground, Arrays, Standing, Kept}
 use Rattle.tokens.proofs.Bools.{neither}
-use Rattle.crossings.specs.Rows.{rowsOf, Seen, Long, Passed, Clock, Runs}
+use Rattle.crossings.specs.Rows.{rowsOf, Seen, Long, Passed, Clock, Timed}
 use Rattle.crossings.specs.Crossings.{Plays, Goes, Steps}
 use Rattle.crossings.proofs.Passing.{differ, passed-both, passed-failing}
 
@@ -69,5 +69,5 @@ module _ {g : Ground} {more level table : ℕ} {x : Arrays} {v₀ : Seen} {E : E
 pub record Underway (g : Ground) (k : Clock) (more level t : ℕ) (c₀ : Cursor) (table₀ : ℕ) (x₀ : Arrays) (v₀ : Seen) (c : Cursor) (table : ℕ) (x : Arrays) (v : Seen) : Type 0 where
   pub kept : Kept level x₀ x
   pub long : Long v₀ v
-  pub onward : (E : Env) (b : Body) (us : Toks) (s : State) → Standing g (stream (g .text) c₀) more level table₀ x₀ E b us s → Runs (E .tables) k
+  pub onward : (E : Env) (b : Body) (us : Toks) (s : State) → Standing g (stream (g .text) c₀) more level table₀ x₀ E b us s → Timed (E .tables) k
       → Onward g more level table x v₀ v E us t b s c

@@ -6,28 +6,27 @@ use mathlib.Core.Bool.{Bool, true, false, _||_}
 use mathlib.Core.Option.{Option, none, some}
 use mathlib.Core.List.{List, [], _∷_, _++_, append-nil, append-assoc}
 use lib.Dec.{eqb, ltb}
-use lib.ListN.{length, getD, take}
+use lib.ListN.{getD}
 use borrow.Author.Tests.{ltb-true, ltb-false}
 use Rattle.tokens.specs.Tokens.{Toks}
 use Rattle.meaning.specs.Bounds.{signalsMost, depthMost}
 use Rattle.meaning.specs.Timing.{Tables}
-use Rattle.meaning.specs.Body.{Body, supplied}
+use Rattle.meaning.specs.Body.{Body}
 use Rattle.meaning.specs.Run.{State, Cycle, Played as Play, follow, again, play}
 use Rattle.meaning.specs.Statements.{Env}
 use Rattle.meaning.proofs.Turns.{Plain, plain-twice, keeps, steady, orElse}
 use Rattle.meaning.specs.Edges.{lastBehind, failingBehind}
 use Rattle.edges.proofs.Loops.{opening, opening-loop, loop-failing, loop-last, loop-left, steady-failing, steady-last}
-use Rattle.words.specs.Cursor.{alive, stream}
 use Rattle.pins.specs.Shown.{tableOf, Shows, Roomy}
 use Rattle.plays.specs.declared.Played.{Played}
 use Rattle.plays.specs.Plays.{Ground, Arrays, Showing, Standing}
 use Rattle.tokens.proofs.Bools.{neither}
 use Rattle.plays.proofs.Fitting.{fits-again}
 use Rattle.crossings.specs.Rows.{rowsMost, rowsOf, Seen, Ample, cycleIn, rowOf, rowAt, Stored, firstSeen, atMostOne, Noted, Passed, Closed}
-use Rattle.crossings.specs.Crossings.{Told, Plays}
+use Rattle.crossings.specs.Crossings.{Plays}
 use Rattle.crossings.proofs.Storing.{window}
 use Rattle.crossings.proofs.Stepping.{same-played}
-use Rattle.crossings.proofs.Passing.{differ, first-++, noted-then, stays-failing, passed-both, passed-failing, passed-less, Same, passed-from, same-stored, same-then}
+use Rattle.crossings.proofs.Passing.{differ, first-++, stays-failing, passed-both, passed-failing, passed-less, Same, passed-from, same-stored, same-then}
 
 -- ---- first cycles
 

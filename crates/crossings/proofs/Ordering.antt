@@ -2,14 +2,14 @@
 use Prim.Native.Nat.{ℕ, suc, _+_, _<_, _≤_}
 use native.Mathlib.Omega.{arith}
 use native.Mathlib.Numerals.{add-one}
-use mathlib.Core.Path.{_≡_, refl, sym, ap, ap₂, _∙_, subst}
+use mathlib.Core.Path.{_≡_, refl, sym, ap, ap₂, _∙_}
 use mathlib.Core.Bool.{Bool, true, false, not, _&&_}
 use mathlib.Core.Option.{Option, none, some}
-use mathlib.Core.List.{List, [], _∷_}
+use mathlib.Core.List.{List}
 use lib.ListN.{length, getD, take, drop, length-drop, drop-of-length-le}
 use lib.Seq.{getD-take, getD-drop, length-take-le}
 use Rattle.meaning.specs.Bounds.{tablesMost}
-use Rattle.meaning.specs.Timing.{Wave, Tables}
+use Rattle.meaning.specs.Timing.{Tables}
 use Rattle.meaning.specs.Run.{Cycle}
 use Rattle.meaning.specs.Meaning.{tableAt}
 use Rattle.words.proofs.Words.{cut}

@@ -5,8 +5,7 @@ use mathlib.Core.Path.{_≡_, refl, sym, ap, _∙_, subst}
 use mathlib.Core.Bool.{Bool, true, false, not}
 use mathlib.Core.Option.{Option, none, some}
 use mathlib.Core.List.{List, [], _∷_, _++_}
-use lib.ListN.{length, getD}
-use Rattle.meaning.specs.Bounds.{signalsMost}
+use lib.ListN.{getD}
 use Rattle.meaning.specs.Timing.{Tables}
 use Rattle.meaning.specs.Run.{Cycle}
 use Rattle.meaning.proofs.Turns.{orElse}
@@ -140,9 +139,6 @@ module _ {tabs : Tables} {n rows : ℕ} {x : Seen} where
   -- nothing more is told
   pub passed-failing : {z : Seen} {p : ℕ} {f : Bool} {l : List Cycle} → f ≡ true → failingBehind tabs (rowAt n x 0) l ≡ some p → Passed tabs n rows x z f p l
   passed-failing e h = record { fails = λ q. h; sound = λ q. absurd (differ (sym e ∙ q)); noted = λ q. absurd (differ (sym e ∙ q)) }
-
-  pub passed-same : {z : Seen} {p : ℕ} {f : Bool} {l m : List Cycle} → l ≡ m → Passed tabs n rows x z f p m → Passed tabs n rows x z f p l
-  passed-same e k = rw e k
 
   -- fewer rows are in use
   pub passed-less : {z : Seen} {p more : ℕ} {f : Bool} {l : List Cycle} → rows ≤ more → Passed tabs n more x z f p l → Passed tabs n rows x z f p l

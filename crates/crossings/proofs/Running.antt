@@ -2,9 +2,9 @@
 use Prim.Native.Nat.{ℕ, _+_, _-_, _<_, _≤_}
 use native.Mathlib.Omega.{arith}
 use mathlib.Core.Path.{_≡_, refl, sym, ap, _∙_, subst}
-use mathlib.Core.Bool.{Bool, true, false}
+use mathlib.Core.Bool.{true, false}
 use mathlib.Core.Option.{Option, none, some}
-use mathlib.Core.List.{List, [], _∷_, _++_, append-nil}
+use mathlib.Core.List.{List, [], _∷_, append-nil}
 use lib.ListN.{length}
 use Rattle.tokens.specs.Tokens.{Tok}
 use Rattle.meaning.specs.Names.{find}
@@ -20,14 +20,12 @@ use Rattle.meaning.specs.Edges.{failingBehind, firstFailingPair, listedCycles, 
 use Rattle.heads.specs.declared.Known.{Known}
 use Rattle.texts.specs.declared.Parts.{Parts}
 use Rattle.texts.proofs.Runs.{listFrom, list-cut, list-end}
-use Rattle.spans.specs.Spans.{Spans}
 use Rattle.plays.specs.declared.Played.{Played}
-use Rattle.plays.specs.Plays.{Ground, ground, Arrays, arrays, Sized}
-use Rattle.plays.specs.Run.{ListedAt, SomeRun, Runs as RunsIn}
+use Rattle.plays.specs.Plays.{Ground, ground, Arrays, Sized}
+use Rattle.plays.specs.Run.{ListedAt, Runs}
 use Rattle.plays.proofs.Running.{opening-long}
-use Rattle.plays.proofs.Texts.{is-whole, is-listed, listed-at, listed-any}
-use Rattle.crossings.specs.Rows.{Seen, Ample, rowAt, Clock, clock, Runs}
-use Rattle.crossings.specs.Crossings.{Plays}
+use Rattle.plays.proofs.Texts.{is-whole, is-listed, listed-at}
+use Rattle.crossings.specs.Rows.{Seen, Ample, Clock, Timed}
 use Rattle.crossings.specs.Run.{PlaysListed, Decides}
 use Rattle.crossings.proofs.Passing.{differ}
 
@@ -99,15 +97,15 @@ module _ (text places lists tplaces waves book rows list : List ℕ) (known : Kn
   abbrev all : Ground
   all = ground text places lists tplaces book rows waves known signals
 
-  module _ {p : Parts} {d : Read} {run : Body} (h : RunsIn text places lists tplaces waves book rows list known signals count patterns p d run) where
+  module _ {p : Parts} {d : Read} {run : Body} (h : Runs text places lists tplaces waves book rows list known signals count patterns p d run) where
     abbrev env : Env
     env = h .tabled .parts .env
 
     same-tables : env .tables ≡ d .tables
     same-tables = is-whole text places lists tplaces waves book rows list known signals count patterns h .tables
 
-    pub run-timed : {k : Clock} → Runs (d .tables) k → Runs (env .tables) k
-    run-timed {k} s = subst (λ (t : Tables). Runs t k) (sym same-tables) s
+    pub run-timed : {k : Clock} → Timed (d .tables) k → Timed (env .tables) k
+    run-timed {k} s = subst (λ (t : Tables). Timed t k) (sym same-tables) s
 
     -- all patterns are left
     pub run-begins : Left (env .tables) signals env (d .patterns) run (listFrom text list count 0)
@@ -133,7 +131,7 @@ module _ (text places lists tplaces waves book rows list : List ℕ) (known : Kn
         listed-next : ListedAt all list patterns k env (d .patterns) (upcoming .decl)
         listed-next = listed-at text places lists tplaces waves book rows list known signals count patterns h (upcoming .found) (upcoming .stands)
 
-        module _ {c : Clock} {y : Arrays} {w : Seen} {r : Played} (s : PlaysListed all c list patterns k y w r) (m : Runs (d .tables) c) where
+        module _ {c : Clock} {y : Arrays} {w : Seen} {r : Played} (s : PlaysListed all c list patterns k y w r) (m : Timed (d .tables) c) where
           pub run-fails : r .failed ≡ true → firstInRun (d .tables) (length (d .signals)) run ≡ some (r .place)
           run-fails e = sym decided ∙ next-fails upcoming (s .fails env (d .patterns) (upcoming .decl) listed-next (run-timed m) (start signals) (opening-long signals) e)
 
@@ -144,7 +142,7 @@ module _ (text places lists tplaces waves book rows list : List ℕ) (known : Kn
   pub record Unplayed (c : Clock) (k : ℕ) (x : Arrays) (v : Seen) : Type 0 where
     pub sized : Sized all 0 x
     pub ample : Ample v
-    pub left : (p : Parts) (d : Read) (run : Body) (h : RunsIn text places lists tplaces waves book rows list known signals count patterns p d run) → Runs (d .tables) c
+    pub left : (p : Parts) (d : Read) (run : Body) (h : Runs text places lists tplaces waves book rows list known signals count patterns p d run) → Timed (d .tables) c
         → Left (h .tabled .parts .env .tables) signals (h .tabled .parts .env) (d .patterns) run (listFrom text list count k)
 
 -- ---- the answer

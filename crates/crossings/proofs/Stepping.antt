@@ -1,5 +1,5 @@
 -- One statement of a body that is held: what it plays, and the rest of the body behind it.
-use Prim.Native.Nat.{ℕ, _+_, _-_, _<_, _≤_}
+use Prim.Native.Nat.{ℕ, _<_}
 use native.Mathlib.Omega.{arith}
 use mathlib.Core.Path.{_≡_, refl, sym, ap, _∙_, subst}
 use mathlib.Core.Bool.{Bool, true, false}
@@ -10,7 +10,7 @@ use Rattle.tokens.specs.Written.{bytes}
 use Rattle.tokens.specs.Tokens.{Toks, left}
 use Rattle.meaning.specs.Timing.{Tables}
 use Rattle.meaning.specs.Reader.{dueOf}
-use Rattle.meaning.specs.Body.{Assigns, Args, assigning, choosing, Way, looped, shifted, entered, Body, done, vec, inner, supplied}
+use Rattle.meaning.specs.Body.{Assigns, assigning, choosing, Way, looped, shifted, entered, Body, done, vec, inner, supplied}
 use Rattle.meaning.specs.Run.{shiftOf, State, Played as Play, puts, changed, follow, again, entering, playing, play}
 use Rattle.meaning.specs.Statements.{Env, Head, ends, vecs, sets}
 use Rattle.meaning.proofs.Turns.{Good}
@@ -34,8 +34,8 @@ use Rattle.words.proofs.Flow.{went}
 use Rattle.plays.proofs.Heading.{head-token, vector-place, end-due, fine-head, met-split, met-fine, met-less}
 use Rattle.plays.proofs.Shifting.{token-at, tells-given}
 use Rattle.plays.proofs.Stepping.{vec-playable, set-playable, meets, Inside, Called, one-vector}
-use Rattle.crossings.specs.Rows.{rowsOf, Seen, rowAt, Passed, Clock, Runs}
-use Rattle.crossings.specs.Crossings.{Told, Tells, Plays, Vectored, Goes, Steps}
+use Rattle.crossings.specs.Rows.{rowsOf, Seen, rowAt, Clock, Timed}
+use Rattle.crossings.specs.Crossings.{Told, Tells, Plays, Vectored, Steps}
 use Rattle.crossings.proofs.Passing.{differ, passed-none, passed-as, stays-failing}
 
 -- ---- from the first statement to the rest
@@ -83,7 +83,7 @@ module _ {g : Ground} {c r : Cursor} {more level table : ℕ} {x : Arrays} {E : 
           goes = λ e f. absurd (differ f);
         }
 
-    pub vector-step : {w : Seen} {f : Bool} {k : Clock} (p : ℕ) → what ≡ Vector p → Runs (E .tables) k
+    pub vector-step : {w : Seen} {f : Bool} {k : Clock} (p : ℕ) → what ≡ Vector p → Timed (E .tables) k
         → Vectored (g .text) given k (g .signals) level table p 1 (rowsOf more) (x .values) (y .values) (x .feeds) (y .feeds) v w f
         → Steps g (stream (g .text) c) more level t y v w E us b s (record { cursor = r; failed = f; place = p; table = table; ends = false })
     unfolding HeadTells play
@@ -166,7 +166,7 @@ module _ {g : Ground} {c r : Cursor} {more level : ℕ} {y : Arrays} {v w : Seen
 module _ {g : Ground} {c r d : Cursor} {more level table : ℕ} {x y : Arrays} {v w : Seen} {E : Env} {us : Toks} {s : State} {p : ℕ} {a : Assigns} (t : ℕ) (given args : List ℕ) (what : What) {f : Bool} {k : Clock}
   where
     pub shift-plays : Standing g (stream (g .text) c) more level table x E (vec p a done) us s → alive c ≡ true
-        → Makes (g .text) c (freeHead E) r (HeadTells (g .text) (g .book) (g .rows) given args (g .known .tables) what) → Runs (E .tables) k
+        → Makes (g .text) c (freeHead E) r (HeadTells (g .text) (g .book) (g .rows) given args (g .known .tables) what) → Timed (E .tables) k
         → Vectored (g .text) given k (g .signals) level table (c .at) t (rowsOf more) (x .values) (y .values) (x .feeds) (y .feeds) v w f
         → Follows (g .text) r (dueOf (bytes "}")) d (r .at)
         → Plays g (E .tables) level (rowsOf more) y v w us (record { cursor = d; failed = f; place = c .at; table = table; ends = false }) (again t (play t (vec p a done)) s)

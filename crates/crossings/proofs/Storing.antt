@@ -1,12 +1,12 @@
 -- Rows that are written: what the row holds, and that the others hold what they held.
-use Prim.Native.Nat.{ℕ, zero, suc, _+_, _*_, _<_, _≤_}
+use Prim.Native.Nat.{ℕ, _+_, _*_, _<_, _≤_}
 use native.Mathlib.Omega.{arith}
 use native.Mathlib.Decide.{ℕ-discrete}
 use mathlib.Core.Path.{_≡_, refl, sym, ap, ap₂, _∙_}
 use mathlib.Core.Bool.{Bool, true, false}
 use mathlib.Core.Option.{Option, none, some}
 use mathlib.Core.List.{List, [], _∷_}
-use lib.Dec.{eqb, ltb}
+use lib.Dec.{ltb}
 use lib.ListN.{length, getD, take, drop, set, length-set, length-drop}
 use lib.Seq.{getD-set-same, getD-set-other, getD-take, getD-drop, length-take-le, ext-getD}
 use borrow.Author.Tests.{eq-eqb, ne-eqb, ltb-true, ltb-false}

@@ -1,17 +1,16 @@
 -- A V again and again: each turn's cycle behind the one before.
-use Prim.Native.Nat.{ℕ, zero, suc, _+_, _-_, _<_, _≤_}
+use Prim.Native.Nat.{ℕ, suc, _+_, _-_, _<_, _≤_}
 use native.Mathlib.Omega.{arith}
-use mathlib.Core.Path.{_≡_, refl, sym, ap, _∙_, subst}
+use mathlib.Core.Path.{_≡_, refl, sym, subst}
 use mathlib.Core.Bool.{Bool, true, false}
-use mathlib.Core.List.{List, [], _∷_, _++_}
-use lib.ListN.{length, take}
+use mathlib.Core.List.{List, [], _∷_}
 use Rattle.meaning.specs.Timing.{Tables}
 use Rattle.meaning.specs.Body.{Assigns}
 use Rattle.meaning.specs.Run.{State, Cycle, Played, puts, cycleAt, follow, again}
 use Rattle.measures.specs.Uses.{Given}
-use Rattle.pins.specs.Shown.{tableOf, Shows, Playable, Others, vector}
+use Rattle.pins.specs.Shown.{Shows, Playable, Others, vector}
 use Rattle.pins.proofs.Callers.{playable-puts, others-none, others-then}
-use Rattle.crossings.specs.Rows.{Seen, Ample, cycleIn, Long, Passed, Clock, Runs}
+use Rattle.crossings.specs.Rows.{Seen, cycleIn, Long, Passed, Clock, Timed}
 use Rattle.crossings.specs.Crossings.{Told, Vectored}
 use Rattle.crossings.proofs.Passing.{differ, long-none, long-then, passed-none, passed-both, stays-failing, passed-failing}
 
@@ -63,7 +62,7 @@ module _ {tabs : Tables} {text : List ℕ} {signals : ℕ} {values : List ℕ} {
 pub record After (text given : List ℕ) (k : Clock) (signals level table place t rows : ℕ) (values₀ feeds₀ : List ℕ) (v₀ : Seen) (i : ℕ) (values feeds : List ℕ) (v : Seen) : Type 0 where
   pub others : Others level values₀ values feeds₀ feeds
   pub long : Long v₀ v
-  pub midway : (tabs : Tables) → Runs tabs k → (a : Assigns) (s : State) → Given a given → Playable signals a (s .args) → Shows text signals values₀ table feeds₀ level s
+  pub midway : (tabs : Tables) → Timed tabs k → (a : Assigns) (s : State) → Given a given → Playable signals a (s .args) → Shows text signals values₀ table feeds₀ level s
       → Midway tabs text signals values table feeds level rows v₀ v place a (t - i) (again t (vector place a) s)
 
 module _ {text given : List ℕ} {k : Clock} {signals level table place t rows : ℕ} {values₀ feeds₀ : List ℕ} {v₀ : Seen} where
@@ -81,12 +80,12 @@ module _ {text given : List ℕ} {k : Clock} {signals level table place t rows :
   module _ {i : ℕ} {values feeds : List ℕ} {v : Seen} (x : After text given k signals level table place t rows values₀ feeds₀ v₀ i values feeds v) where
     module _ (more : i < t) {values′ feeds′ : List ℕ} {w : Seen} {f : Bool} (o : Others level values values′ feeds feeds′)
         (put : (a : Assigns) (s : State) (table : ℕ) → Given a given → Playable signals a (s .args) → Shows text signals values table feeds level s → Shows text signals values′ table feeds′ level (puts a s))
-        (long : Long v w) (cycles : (tabs : Tables) → Runs tabs k → Passed tabs signals rows v w f place (cycleIn signals place table values′ 0 ∷ []))
+        (long : Long v w) (cycles : (tabs : Tables) → Timed tabs k → Passed tabs signals rows v w f place (cycleIn signals place table values′ 0 ∷ []))
       where
         left-more : t - i ≡ suc (t - (i + 1))
         left-more = omega arith
 
-        next : (tabs : Tables) → Runs tabs k → (a : Assigns) (s : State) → Given a given → Playable signals a (s .args) → Shows text signals values₀ table feeds₀ level s
+        next : (tabs : Tables) → Timed tabs k → (a : Assigns) (s : State) → Given a given → Playable signals a (s .args) → Shows text signals values₀ table feeds₀ level s
             → Midway tabs text signals values table feeds level rows v₀ v place a (suc (t - (i + 1))) (again t (vector place a) s)
         next tabs c a s g p h =
             subst (λ (n : ℕ). Midway tabs text signals values table feeds level rows v₀ v place a n (again t (vector place a) s)) left-more (x .midway tabs c a s g p h)

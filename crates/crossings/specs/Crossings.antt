@@ -1,10 +1,9 @@
 -- What is promised of playing bodies where the text holds them, pair by pair.
-use Prim.Native.Nat.{ℕ, _+_, _-_, _<_, _≤_}
+use Prim.Native.Nat.{ℕ, _-_, _<_}
 use mathlib.Core.Path.{_≡_}
 use mathlib.Core.Bool.{Bool, true, false}
 use mathlib.Core.Option.{some}
 use mathlib.Core.List.{List}
-use lib.ListN.{length}
 use Rattle.tokens.specs.Tokens.{Toks, left}
 use Rattle.meaning.specs.Timing.{Tables}
 use Rattle.meaning.specs.Body.{Assigns, Args, Body, done, vec}
@@ -13,13 +12,12 @@ use Rattle.meaning.specs.Statements.{Env}
 use Rattle.meaning.proofs.Turns.{Plain}
 use Rattle.meaning.specs.Edges.{failingBehind}
 use Rattle.words.specs.Cursor.{alive, stream}
-use Rattle.words.specs.declared.Cursor.{Cursor}
 use Rattle.measures.specs.Uses.{Given}
 use Rattle.heads.specs.Heads.{kindOf}
 use Rattle.pins.specs.Shown.{Shows, Playable, vector}
 use Rattle.plays.specs.declared.Played.{Played}
-use Rattle.plays.specs.Plays.{Ground, Arrays, Sized, Showing, Standing, Kept, Using}
-use Rattle.crossings.specs.Rows.{rowsOf, Seen, Ample, rowAt, Long, Passed, Clock, Runs, Wound}
+use Rattle.plays.specs.Plays.{Ground, Arrays, Sized, Standing, Kept, Using}
+use Rattle.crossings.specs.Rows.{rowsOf, Seen, Ample, rowAt, Long, Passed, Clock, Timed, Fitted}
 
 -- ---- what is played
 
@@ -30,9 +28,9 @@ pub record Stood (g : Ground) (k : Clock) (ts : Toks) (more level table : ℕ) (
   pub rest : Toks
   pub state : State
   pub standing : Standing g ts more level table x env body rest state
-  pub runs : Runs (env .tables) k
+  pub timed : Timed (env .tables) k
   pub sized : Sized g level x
-  pub wound : Wound k
+  pub fitted : Fitted k
   pub ample : Ample v
 
 -- ---- what is promised
@@ -54,12 +52,12 @@ pub record Plays (g : Ground) (tabs : Tables) (level rows : ℕ) (y : Arrays) (v
 pub record Promised (g : Ground) (k : Clock) (ts : Toks) (more level table t : ℕ) (x y : Arrays) (v w : Seen) (r : Played) : Type 0 where
   pub kept : Kept level x y
   pub long : Long v w
-  pub plays : (E : Env) (b : Body) (us : Toks) (s : State) → Standing g ts more level table x E b us s → Runs (E .tables) k
+  pub plays : (E : Env) (b : Body) (us : Toks) (s : State) → Standing g ts more level table x E b us s → Timed (E .tables) k
       → Plays g (E .tables) level (rowsOf more) y v w us r (play t b s)
 
 -- whatever V the assignments `given` are of, it was played t times
 pub record Vectored (text given : List ℕ) (k : Clock) (signals level table place t rows : ℕ) (values values′ feeds feeds′ : List ℕ) (v w : Seen) (failed : Bool) : Type 0 where
-  pub told : (tabs : Tables) → Runs tabs k → (a : Assigns) (s : State) → Given a given → Playable signals a (s .args) → Shows text signals values table feeds level s
+  pub told : (tabs : Tables) → Timed tabs k → (a : Assigns) (s : State) → Given a given → Playable signals a (s .args) → Shows text signals values table feeds level s
       → Told tabs text signals values′ table feeds′ level rows v w failed place (again t (vector place a) s)
 
 -- ---- one statement
@@ -83,7 +81,7 @@ pub record Steps (g : Ground) (ts : Toks) (more level t : ℕ) (y : Arrays) (v w
 pub record Stepped (g : Ground) (k : Clock) (ts : Toks) (more level table t : ℕ) (x y : Arrays) (v w : Seen) (r : Played) : Type 0 where
   pub kept : Kept level x y
   pub long : Long v w
-  pub steps : (E : Env) (b : Body) (us : Toks) (s : State) → Standing g ts more level table x E b us s → Runs (E .tables) k
+  pub steps : (E : Env) (b : Body) (us : Toks) (s : State) → Standing g ts more level table x E b us s → Timed (E .tables) k
       → Steps g ts more level t y v w E us b s r
 
 -- whatever V a Shift holds from ts on, it was played t times
@@ -91,14 +89,14 @@ pub record Shifted (g : Ground) (k : Clock) (ts : Toks) (more level table t : �
   pub kept : Kept level x y
   pub long : Long v w
   pub goes-on : r .ends ≡ false
-  pub plays : (E : Env) (p : ℕ) (a : Assigns) (us : Toks) (s : State) → Standing g ts more level table x E (vec p a done) us s → Runs (E .tables) k
+  pub plays : (E : Env) (p : ℕ) (a : Assigns) (us : Toks) (s : State) → Standing g ts more level table x E (vec p a done) us s → Timed (E .tables) k
       → Plays g (E .tables) level (rowsOf more) y v w us r (again t (play t (vec p a done)) s)
 
 -- whatever body without `#` a Loop of n turns holds from ts on, its turns were played; it stands one deeper than the Loop
 pub record Looped (g : Ground) (k : Clock) (ts : Toks) (more level table t n : ℕ) (x y : Arrays) (v w : Seen) (r : Played) : Type 0 where
   pub kept : Kept level x y
   pub long : Long v w
-  pub plays : (E : Env) (b : Body) (us : Toks) (s : State) → Standing g ts (more - 1) level table x E b us s → Plain b → Runs (E .tables) k
+  pub plays : (E : Env) (b : Body) (us : Toks) (s : State) → Standing g ts (more - 1) level table x E b us s → Plain b → Timed (E .tables) k
       → Plays g (E .tables) level (rowsOf more) y v w us r (again n (play t b) s)
 
 -- ---- a body that a statement uses
@@ -110,14 +108,14 @@ pub record Used (g : Ground) (k : Clock) (i more level table : ℕ) (x : Arrays)
   pub arguments : Args
   pub state : State
   pub use′ : Using g i more level table x env body rest arguments state
-  pub runs : Runs (env .tables) k
+  pub timed : Timed (env .tables) k
   pub sized : Sized g level x
-  pub wound : Wound k
+  pub fitted : Fitted k
   pub ample : Ample v
 
 -- it was played with its Shift t times, and the caller's arguments are there again, and where it is a procedure the caller's pins and table
 pub record Entered (g : Ground) (k : Clock) (i more level table t : ℕ) (x y : Arrays) (v w : Seen) (r : Played) : Type 0 where
   pub kept : Kept level x y
   pub long : Long v w
-  pub told : (E : Env) (b : Body) (us : Toks) (a : Args) (s : State) → Using g i more level table x E b us a s → Runs (E .tables) k
+  pub told : (E : Env) (b : Body) (us : Toks) (a : Args) (s : State) → Using g i more level table x E b us a s → Timed (E .tables) k
       → Tells g (E .tables) level (rowsOf more) y v w r (entering (kindOf i) a (play t b) s)

@@ -108,11 +108,11 @@ pub record Clock : Type 0 where
 abbrev pub clock : List ℕ → List ℕ → List ℕ → Clock
 clock firsts lasts periods = record { firsts = firsts; lasts = lasts; periods = periods }
 
-abbrev pub Runs : Tables → Clock → Type 0
-Runs tabs k = Spans tabs (k .firsts) (k .lasts) (k .periods)
+abbrev pub Timed : Tables → Clock → Type 0
+Timed tabs k = Spans tabs (k .firsts) (k .lasts) (k .periods)
 
-abbrev pub Wound : Clock → Type 0
-Wound k = Sized (k .firsts) (k .lasts) (k .periods)
+abbrev pub Fitted : Clock → Type 0
+Fitted k = Sized (k .firsts) (k .lasts) (k .periods)
 
 -- the cycle c is held against the last one
 pub record Fine (tabs : Tables) (n : ℕ) (x : Seen) (c : Cycle) (fine : Bool) : Type 0 where

@@ -14,7 +14,7 @@ use Rattle.plays.specs.declared.Played.{Played}
 use Rattle.plays.specs.declared.Failing.{Failing}
 use Rattle.plays.specs.Plays.{Ground, Arrays, Sized}
 use Rattle.plays.specs.Run.{ListedAt}
-use Rattle.crossings.specs.Rows.{Seen, Ample, Clock, Runs, Wound}
+use Rattle.crossings.specs.Rows.{Seen, Ample, Clock, Timed, Fitted}
 
 -- ---- one listed pattern
 
@@ -23,18 +23,18 @@ pub record SomeListed (g : Ground) (k : Clock) (list : List ℕ) (patterns i : �
   pub decls : Decls
   pub decl : Decl
   pub listed-at : ListedAt g list patterns i env decls decl
-  pub runs : Runs (env .tables) k
+  pub timed : Timed (env .tables) k
   pub sized : Sized g 0 x
-  pub wound : Wound k
+  pub fitted : Fitted k
   pub ample : Ample v
 
 -- it was played, from any state over so many signals, to its end or to the first pair that is not in order
 pub record PlaysListed (g : Ground) (k : Clock) (list : List ℕ) (patterns i : ℕ) (y : Arrays) (w : Seen) (r : Played) : Type 0 where
   pub sized : Sized g 0 y
   pub ample : Ample w
-  pub fails : (E : Env) (ps : Decls) (d : Decl) → ListedAt g list patterns i E ps d → Runs (E .tables) k → (s : State) → length (s .pins) ≡ g .signals → r .failed ≡ true
+  pub fails : (E : Env) (ps : Decls) (d : Decl) → ListedAt g list patterns i E ps d → Timed (E .tables) k → (s : State) → length (s .pins) ≡ g .signals → r .failed ≡ true
       → firstFailingPair (E .tables) (entering listed [] (play 0 (d .body)) s .1) ≡ some (r .place)
-  pub sound : (E : Env) (ps : Decls) (d : Decl) → ListedAt g list patterns i E ps d → Runs (E .tables) k → (s : State) → length (s .pins) ≡ g .signals → r .failed ≡ false
+  pub sound : (E : Env) (ps : Decls) (d : Decl) → ListedAt g list patterns i E ps d → Timed (E .tables) k → (s : State) → length (s .pins) ≡ g .signals → r .failed ≡ false
       → firstFailingPair (E .tables) (entering listed [] (play 0 (d .body)) s .1) ≡ none
 
 -- ---- the whole run

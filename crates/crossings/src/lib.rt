@@ -6,7 +6,7 @@ ghost use mathlib.Core.Bool.{true, false};
 ghost use mathlib.Core.Option.{none, some};
 ghost use mathlib.Core.List.{List, [], _∷_};
 ghost use Prim.Native.Nat.{ℕ, _+_, _*_, _-_, _<_, _≤_};
-ghost use lib.ListN.{length, getD, take};
+ghost use lib.ListN.{length, getD};
 ghost use Rattle.words.specs.Cursor.{alive, stream};
 ghost use Rattle.meaning.specs.Bounds.{signalsMost, depthMost};
 ghost use Rattle.meaning.specs.Timing.{Tables};

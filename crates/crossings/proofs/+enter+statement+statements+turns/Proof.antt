@@ -130,9 +130,9 @@ enter-statements-requires t c κs =
           rest = used .rest;
           state = record { pins = used .state .pins; table = used .state .table; args = used .arguments };
           standing = macro-standing u;
-          runs = used .runs;
+          timed = used .timed;
           sized = sized-at (used .sized) _ (omega (arith, u .fits .levels));
-          wound = used .wound;
+          fitted = used .fitted;
           ample = used .ample;
         }),
       ),
@@ -181,9 +181,9 @@ enter-statements-requires-2 t c κs =
           rest = used .rest;
           state = record { pins = bare (used .state .pins); table = used .state .table; args = used .arguments };
           standing = procedure-standing u (used .sized) (c .before .before .before .before .before .before .before .leave .ensures);
-          runs = used .runs;
+          timed = used .timed;
           sized = sized-at (sized-left (used .sized) (c .before .before .before .before .before .before .before .leave .ensures)) _ (omega (arith, u .fits .levels));
-          wound = used .wound;
+          fitted = used .fitted;
           ample = used .ample;
         }),
       ),
@@ -242,7 +242,7 @@ statement-rows-of-requires t c κs = omega (arith, c .before .before .before .be
 statement-vectors-requires : (t : ℕ) → statement-lts.Need-vectors-requires (statement-calls t) (statement-at t) statement′.Post
 statement-vectors-requires t c κs =
     let stood = c .before .before .before .before .before .before .before .before .before .before .before .before .before .before .before .before .before .before .before .before .before .before .before .before .before .before .before .before .before .before .before .pre .1 .1 in
-    (stood .sized .roomy, c .before .before .before .before .before .before .before .before .before .before .before .before .before .head .ensures .0, stood .wound, stood .ample, omega (arith, c .rows-of .ensures))
+    (stood .sized .roomy, c .before .before .before .before .before .before .before .before .before .before .before .before .before .head .ensures .0, stood .fitted, stood .ample, omega (arith, c .rows-of .ensures))
 
 statement-enum-told-2 : (t : ℕ) → statement-lts.Need-enum-told-2 (statement-calls t) (statement-at t) statement′.Post
 statement-enum-told-2 t c = c .match .keys3
@@ -282,9 +282,9 @@ statement-turns-requires t c κs =
           rest = i .1 .between;
           state = stood .state;
           standing = loop-standing st (i .1) (st .shows);
-          runs = stood .runs;
+          timed = stood .timed;
           sized = sized-kept (stood .sized) (kept-args (stood .sized) (c .before .before .before .before .before .before .before .before .before .before .before .before .head .ensures .1));
-          wound = stood .wound;
+          fitted = stood .fitted;
           ample = stood .ample;
         },
       ),
@@ -308,9 +308,9 @@ statement-shift-requires t c κs =
         rest = i .between;
         state = stood .state;
         standing = shift-standing st i (st .shows);
-        runs = stood .runs;
+        timed = stood .timed;
         sized = sized-kept (stood .sized) (kept-args (stood .sized) (c .before .before .before .before .before .before .before .before .before .before .before .head .ensures .1));
-        wound = stood .wound;
+        fitted = stood .fitted;
         ample = stood .ample;
       },
     )
@@ -345,9 +345,9 @@ statement-enter-requires t c κs =
         arguments = d .arguments;
         state = stood .state;
         use′ = called-using st d (shows-supplied (st .shows) (s .1)) (s .2 _ _ (d .supplied));
-        runs = stood .runs;
+        timed = stood .timed;
         sized = sized-kept (stood .sized) (kept-supplied (stood .sized) (c .before .before .before .before .before .before .before .before .before .before .before .before .before .before .before .before .before .before .before .head .ensures .1) (s .0) (s .1));
-        wound = stood .wound;
+        fitted = stood .fitted;
         ample = stood .ample;
       },
     )
@@ -525,7 +525,7 @@ statements-statement-requires : (t : ℕ) → statements-lts.Need-statement-requ
 statements-statement-requires t c κs =
     let stood = c .before .before .before .before .before .before .before .before .before .before .before .before .before .before .before .before .before .before .before .before .before .pre .1 .1 in
     let inv = c .before .before .before .before .before .loop .inv in
-    let o = inv .onward (stood .env) (stood .body) (stood .rest) (stood .state) (stood .standing) (stood .runs) in (
+    let o = inv .onward (stood .env) (stood .body) (stood .rest) (stood .state) (stood .standing) (stood .timed) in (
       omega (arith, c .before .before .before .before .before .before .before .before .before .before .before .before .before .before .before .before .before .before .before .before .before .pre .0),
       (
         o .on,
@@ -535,9 +535,9 @@ statements-statement-requires t c κs =
           rest = stood .rest;
           state = o .state;
           standing = o .standing;
-          runs = stood .runs;
+          timed = stood .timed;
           sized = sized-kept (stood .sized) (inv .kept);
-          wound = stood .wound;
+          fitted = stood .fitted;
           ample = long-ample (inv .long) (stood .ample);
         },
       ),
@@ -596,8 +596,8 @@ statements-loop-less : (t : ℕ) → statements-lts.Need-loop-less (
 ) (statements-at t) statements.Post statements-Inv-loop statements-μ-loop
 statements-loop-less t c =
     let stood = c .before .before .before .before .before .before .before .before .before .before .before .before .before .before .before .before .before .before .before .before .before .before .before .before .before .before .before .before .before .before .before .before .before .before .before .pre .1 .1 in
-    let o = c .before .before .before .before .before .before .before .before .before .before .before .before .before .before .before .before .before .before .before .loop .inv .onward (stood .env) (stood .body) (stood .rest) (stood .state) (stood .standing) (stood .runs) in
-    fewer o (c .before .before .before .before .before .before .before .before .before .before .before .before .before .statement .ensures .steps (stood .env) (o .rest) (stood .rest) (o .state) (o .standing) (stood .runs)) (c .before .if1 .left)
+    let o = c .before .before .before .before .before .before .before .before .before .before .before .before .before .before .before .before .before .before .before .loop .inv .onward (stood .env) (stood .body) (stood .rest) (stood .state) (stood .standing) (stood .timed) in
+    fewer o (c .before .before .before .before .before .before .before .before .before .before .before .before .before .statement .ensures .steps (stood .env) (o .rest) (stood .rest) (o .state) (o .standing) (stood .timed)) (c .before .if1 .left)
 
 statements-loop-again : (t : ℕ) → statements-lts.Need-loop-again (
   statement-below t,
@@ -641,9 +641,9 @@ turns-statements-requires t c κs =
           rest = stood .rest;
           state = stood .state;
           standing = stood .standing;
-          runs = stood .runs;
+          timed = stood .timed;
           sized = stood .sized;
-          wound = stood .wound;
+          fitted = stood .fitted;
           ample = long-ample (long-then (long-stored (c .before .before .before .before .before .before .before .before .before .before .before .before .before .before .before .forget .ensures (c .before .before .before .before .before .before .before .before .before .before .before .before .before .before .before .before .before .before .before .before .before .before .before .before .before .before .before .before .before .before .before .before .before .before .args .signals) (c .before .before .before .before .before .before .before .before .before .before .before .before .before .before .before .before .before .before .before .before .before .before .before .before .before .before .before .before .before .before .before .before .before .before .args .shown .now))) (long-stored (c .before .before .before .before .before .before .before .before .before .store .ensures))) (c .before .before .before .before .before .before .before .before .before .before .before .before .before .before .before .before .before .before .before .before .before .before .before .before .before .before .before .before .before .before .before .before .before .before .pre .1 .4 .ample);
         },
       ),
@@ -685,7 +685,7 @@ turns-same-requires t c κs =
 turns-finish-requires : (t : ℕ) → turns-lts.Need-finish-requires (turns-calls t) (turns-at t) turns.Post
 turns-finish-requires t c κs =
     let stood = c .before .before .before .before .before .before .before .before .before .before .before .before .before .before .before .before .before .before .before .before .before .before .before .before .before .before .before .before .before .before .before .before .before .before .before .before .before .before .before .before .before .before .before .before .before .before .before .before .before .before .before .before .before .before .pre .1 .4 in
-    (stood .wound, stood .sized .roomy .few, long-ample (c .before .before .before .before .before .before .before .before .before .before .before .before .before .before .before .before .before .before .before .statements .ensures .long) (long-ample (long-then (long-stored (c .before .before .before .before .before .before .before .before .before .before .before .before .before .before .before .before .before .before .before .before .before .before .before .before .before .before .before .before .before .before .before .before .before .before .before .forget .ensures (c .before .before .before .before .before .before .before .before .before .before .before .before .before .before .before .before .before .before .before .before .before .before .before .before .before .before .before .before .before .before .before .before .before .before .before .before .before .before .before .before .before .before .before .before .before .before .before .before .before .before .before .before .before .before .args .signals) (c .before .before .before .before .before .before .before .before .before .before .before .before .before .before .before .before .before .before .before .before .before .before .before .before .before .before .before .before .before .before .before .before .before .before .before .before .before .before .before .before .before .before .before .before .before .before .before .before .before .before .before .before .before .before .args .shown .now))) (long-stored (c .before .before .before .before .before .before .before .before .before .before .before .before .before .before .before .before .before .before .before .before .before .before .before .before .before .before .before .before .before .store .ensures))) (c .before .before .before .before .before .before .before .before .before .before .before .before .before .before .before .before .before .before .before .before .before .before .before .before .before .before .before .before .before .before .before .before .before .before .before .before .before .before .before .before .before .before .before .before .before .before .before .before .before .before .before .before .before .before .pre .1 .4 .ample)), omega (arith, c .before .before .before .before .before .before .before .before .before .before .before .before .before .before .before .before .before .before .before .before .before .before .before .before .before .before .before .before .before .before .before .before .before .before .before .before .before .rows-of .ensures, c .before .before .before .before .before .before .before .before .before .before .before .before .before .before .before .before .before .before .before .before .before .before .before .before .before .before .before .before .before .before .before .before .before .before .before .before .before .before .before .before .before .before .before .before .before .before .before .before .before .before .before .before .before .before .pre .1 .2))
+    (stood .fitted, stood .sized .roomy .few, long-ample (c .before .before .before .before .before .before .before .before .before .before .before .before .before .before .before .before .before .before .before .statements .ensures .long) (long-ample (long-then (long-stored (c .before .before .before .before .before .before .before .before .before .before .before .before .before .before .before .before .before .before .before .before .before .before .before .before .before .before .before .before .before .before .before .before .before .before .before .forget .ensures (c .before .before .before .before .before .before .before .before .before .before .before .before .before .before .before .before .before .before .before .before .before .before .before .before .before .before .before .before .before .before .before .before .before .before .before .before .before .before .before .before .before .before .before .before .before .before .before .before .before .before .before .before .before .before .args .signals) (c .before .before .before .before .before .before .before .before .before .before .before .before .before .before .before .before .before .before .before .before .before .before .before .before .before .before .before .before .before .before .before .before .before .before .before .before .before .before .before .before .before .before .before .before .before .before .before .before .before .before .before .before .before .before .args .shown .now))) (long-stored (c .before .before .before .before .before .before .before .before .before .before .before .before .before .before .before .before .before .before .before .before .before .before .before .before .before .before .before .before .before .store .ensures))) (c .before .before .before .before .before .before .before .before .before .before .before .before .before .before .before .before .before .before .before .before .before .before .before .before .before .before .before .before .before .before .before .before .before .before .before .before .before .before .before .before .before .before .before .before .before .before .before .before .before .before .before .before .before .before .pre .1 .4 .ample)), omega (arith, c .before .before .before .before .before .before .before .before .before .before .before .before .before .before .before .before .before .before .before .before .before .before .before .before .before .before .before .before .before .before .before .before .before .before .before .before .before .rows-of .ensures, c .before .before .before .before .before .before .before .before .before .before .before .before .before .before .before .before .before .before .before .before .before .before .before .before .before .before .before .before .before .before .before .before .before .before .before .before .before .before .before .before .before .before .before .before .before .before .before .before .before .before .before .before .before .before .pre .1 .2))
 
 turns-same-length-6 : (t : ℕ) → turns-lts.Need-same-length-6 (turns-calls t) (turns-at t) turns.Post
 turns-same-length-6 t c = c .before .before .before .before .before .before .before .before .before .before .before .before .before .before .before .before .before .before .before .before .statements .ensures .kept .values-long
@@ -725,7 +725,7 @@ turns-statements-requires-2 : (t : ℕ) → turns-lts.Need-statements-requires-2
 turns-statements-requires-2 t c κs =
     let stood = c .before .before .before .before .before .before .before .before .before .before .before .before .before .before .before .before .before .before .before .before .before .before .before .before .before .before .before .before .before .before .before .before .before .before .before .before .before .before .before .before .before .before .before .before .before .before .before .before .before .before .before .before .before .before .before .before .before .before .before .before .before .pre .1 .4 in
     let a = c .before .before .before .before .before .before .before .before .before .before .before .before .before .before .before .before .before .before .before .before .before .before .before .before .before .before .statements .ensures in
-    let p = a .plays (stood .env) (stood .body) (stood .rest) (stood .state) (stood .standing) (stood .runs) in (
+    let p = a .plays (stood .env) (stood .body) (stood .rest) (stood .state) (stood .standing) (stood .timed) in (
       omega (arith, c .before .before .before .before .before .before .before .before .before .before .before .before .before .before .before .before .before .before .before .before .before .before .before .before .before .before .before .before .before .before .before .before .before .before .before .before .before .before .before .before .before .before .before .before .before .before .before .before .before .before .before .before .before .before .before .before .before .before .before .before .before .pre .0, c .before .before .before .before .before .before .before .before .before .before .before .before .before .before .before .before .before .before .before .before .before .before .before .before .before .before .before .before .before .before .before .before .before .before .before .before .before .before .before .before .before .before .before .before .before .before .before .before .before .before .before .before .before .before .before .before .before .before .before .before .before .pre .1 .2),
       (
         c .before .before .before .before .before .before .before .before .before .before .before .before .before .before .before .before .before .before .before .before .before .before .before .before .before .before .before .before .before .before .before .before .before .before .before .before .before .before .before .before .before .before .before .before .before .before .before .before .before .before .before .before .before .before .before .before .before .before .before .before .before .pre .1 .0,
@@ -735,9 +735,9 @@ turns-statements-requires-2 t c κs =
           rest = stood .rest;
           state = play _ (stood .body) (stood .state) .0;
           standing = turned-standing _ (stood .standing) p (neither _ _ (c .before .before .before .before .before .before .before .before .before .before .before .before .before .before .if1 .left) .0);
-          runs = stood .runs;
+          timed = stood .timed;
           sized = sized-kept (stood .sized) (a .kept);
-          wound = stood .wound;
+          fitted = stood .fitted;
           ample = long-ample (long-stored (c .before .before .before .before .before .before .before .forget2 .ensures (c .before .before .before .before .before .before .before .before .before .before .before .before .before .before .before .before .before .before .before .before .before .before .before .before .before .before .before .before .before .before .before .before .before .before .before .before .before .before .before .before .before .before .before .before .before .before .before .before .before .before .before .before .before .before .before .before .before .before .before .before .before .args .signals) _)) (long-ample (a .long) (long-ample (long-then (long-stored (c .before .before .before .before .before .before .before .before .before .before .before .before .before .before .before .before .before .before .before .before .before .before .before .before .before .before .before .before .before .before .before .before .before .before .before .before .before .before .before .before .before .before .forget .ensures (c .before .before .before .before .before .before .before .before .before .before .before .before .before .before .before .before .before .before .before .before .before .before .before .before .before .before .before .before .before .before .before .before .before .before .before .before .before .before .before .before .before .before .before .before .before .before .before .before .before .before .before .before .before .before .before .before .before .before .before .before .before .args .signals) (c .before .before .before .before .before .before .before .before .before .before .before .before .before .before .before .before .before .before .before .before .before .before .before .before .before .before .before .before .before .before .before .before .before .before .before .before .before .before .before .before .before .before .before .before .before .before .before .before .before .before .before .before .before .before .before .before .before .before .before .before .before .args .shown .now))) (long-stored (c .before .before .before .before .before .before .before .before .before .before .before .before .before .before .before .before .before .before .before .before .before .before .before .before .before .before .before .before .before .before .before .before .before .before .before .before .store .ensures))) (c .before .before .before .before .before .before .before .before .before .before .before .before .before .before .before .before .before .before .before .before .before .before .before .before .before .before .before .before .before .before .before .before .before .before .before .before .before .before .before .before .before .before .before .before .before .before .before .before .before .before .before .before .before .before .before .before .before .before .before .before .before .pre .1 .4 .ample)));
         },
       ),
@@ -774,7 +774,7 @@ turns-returns-3 t c =
 turns-finish-requires-2 : (t : ℕ) → turns-lts.Need-finish-requires-2 (turns-calls t) (turns-at t) turns.Post
 turns-finish-requires-2 t c κs =
     let stood = c .before .before .before .before .before .before .before .before .before .before .before .before .before .before .before .before .before .before .before .before .before .before .before .before .before .before .before .before .before .before .before .before .before .before .before .before .before .before .before .before .before .before .before .before .before .before .before .before .before .before .before .before .before .before .before .before .before .before .before .before .before .before .before .before .before .before .before .before .before .before .before .before .before .before .before .before .pre .1 .4 in
-    (stood .wound, stood .sized .roomy .few, long-ample (c .before .before .before .before .before .before .before .before .before .before .before .before .before .before .statements2 .ensures .long) (long-ample (long-stored (c .before .before .before .before .before .before .before .before .before .before .before .before .before .before .before .before .before .before .before .before .before .before .forget2 .ensures (c .before .before .before .before .before .before .before .before .before .before .before .before .before .before .before .before .before .before .before .before .before .before .before .before .before .before .before .before .before .before .before .before .before .before .before .before .before .before .before .before .before .before .before .before .before .before .before .before .before .before .before .before .before .before .before .before .before .before .before .before .before .before .before .before .before .before .before .before .before .before .before .before .before .before .before .before .args .signals) _)) (long-ample (c .before .before .before .before .before .before .before .before .before .before .before .before .before .before .before .before .before .before .before .before .before .before .before .before .before .before .before .before .before .before .before .before .before .before .before .before .before .before .before .before .before .statements .ensures .long) (long-ample (long-then (long-stored (c .before .before .before .before .before .before .before .before .before .before .before .before .before .before .before .before .before .before .before .before .before .before .before .before .before .before .before .before .before .before .before .before .before .before .before .before .before .before .before .before .before .before .before .before .before .before .before .before .before .before .before .before .before .before .before .before .before .forget .ensures (c .before .before .before .before .before .before .before .before .before .before .before .before .before .before .before .before .before .before .before .before .before .before .before .before .before .before .before .before .before .before .before .before .before .before .before .before .before .before .before .before .before .before .before .before .before .before .before .before .before .before .before .before .before .before .before .before .before .before .before .before .before .before .before .before .before .before .before .before .before .before .before .before .before .before .before .before .args .signals) (c .before .before .before .before .before .before .before .before .before .before .before .before .before .before .before .before .before .before .before .before .before .before .before .before .before .before .before .before .before .before .before .before .before .before .before .before .before .before .before .before .before .before .before .before .before .before .before .before .before .before .before .before .before .before .before .before .before .before .before .before .before .before .before .before .before .before .before .before .before .before .before .before .before .before .before .before .args .shown .now))) (long-stored (c .before .before .before .before .before .before .before .before .before .before .before .before .before .before .before .before .before .before .before .before .before .before .before .before .before .before .before .before .before .before .before .before .before .before .before .before .before .before .before .before .before .before .before .before .before .before .before .before .before .before .before .store .ensures))) (c .before .before .before .before .before .before .before .before .before .before .before .before .before .before .before .before .before .before .before .before .before .before .before .before .before .before .before .before .before .before .before .before .before .before .before .before .before .before .before .before .before .before .before .before .before .before .before .before .before .before .before .before .before .before .before .before .before .before .before .before .before .before .before .before .before .before .before .before .before .before .before .before .before .before .before .before .pre .1 .4 .ample)))), omega (arith, c .before .before .before .before .before .before .before .before .before .before .before .before .before .before .before .before .before .before .before .before .before .before .before .before .before .before .before .before .before .before .before .before .before .before .before .before .before .before .before .before .before .before .before .before .before .before .before .before .before .before .before .before .before .before .before .before .before .before .before .rows-of .ensures, c .before .before .before .before .before .before .before .before .before .before .before .before .before .before .before .before .before .before .before .before .before .before .before .before .before .before .before .before .before .before .before .before .before .before .before .before .before .before .before .before .before .before .before .before .before .before .before .before .before .before .before .before .before .before .before .before .before .before .before .before .before .before .before .before .before .before .before .before .before .before .before .before .before .before .before .before .pre .1 .2))
+    (stood .fitted, stood .sized .roomy .few, long-ample (c .before .before .before .before .before .before .before .before .before .before .before .before .before .before .statements2 .ensures .long) (long-ample (long-stored (c .before .before .before .before .before .before .before .before .before .before .before .before .before .before .before .before .before .before .before .before .before .before .forget2 .ensures (c .before .before .before .before .before .before .before .before .before .before .before .before .before .before .before .before .before .before .before .before .before .before .before .before .before .before .before .before .before .before .before .before .before .before .before .before .before .before .before .before .before .before .before .before .before .before .before .before .before .before .before .before .before .before .before .before .before .before .before .before .before .before .before .before .before .before .before .before .before .before .before .before .before .before .before .before .args .signals) _)) (long-ample (c .before .before .before .before .before .before .before .before .before .before .before .before .before .before .before .before .before .before .before .before .before .before .before .before .before .before .before .before .before .before .before .before .before .before .before .before .before .before .before .before .before .statements .ensures .long) (long-ample (long-then (long-stored (c .before .before .before .before .before .before .before .before .before .before .before .before .before .before .before .before .before .before .before .before .before .before .before .before .before .before .before .before .before .before .before .before .before .before .before .before .before .before .before .before .before .before .before .before .before .before .before .before .before .before .before .before .before .before .before .before .before .forget .ensures (c .before .before .before .before .before .before .before .before .before .before .before .before .before .before .before .before .before .before .before .before .before .before .before .before .before .before .before .before .before .before .before .before .before .before .before .before .before .before .before .before .before .before .before .before .before .before .before .before .before .before .before .before .before .before .before .before .before .before .before .before .before .before .before .before .before .before .before .before .before .before .before .before .before .before .before .before .args .signals) (c .before .before .before .before .before .before .before .before .before .before .before .before .before .before .before .before .before .before .before .before .before .before .before .before .before .before .before .before .before .before .before .before .before .before .before .before .before .before .before .before .before .before .before .before .before .before .before .before .before .before .before .before .before .before .before .before .before .before .before .before .before .before .before .before .before .before .before .before .before .before .before .before .before .before .before .before .args .shown .now))) (long-stored (c .before .before .before .before .before .before .before .before .before .before .before .before .before .before .before .before .before .before .before .before .before .before .before .before .before .before .before .before .before .before .before .before .before .before .before .before .before .before .before .before .before .before .before .before .before .before .before .before .before .before .before .store .ensures))) (c .before .before .before .before .before .before .before .before .before .before .before .before .before .before .before .before .before .before .before .before .before .before .before .before .before .before .before .before .before .before .before .before .before .before .before .before .before .before .before .before .before .before .before .before .before .before .before .before .before .before .before .before .before .before .before .before .before .before .before .before .before .before .before .before .before .before .before .before .before .before .before .before .before .before .before .before .pre .1 .4 .ample)))), omega (arith, c .before .before .before .before .before .before .before .before .before .before .before .before .before .before .before .before .before .before .before .before .before .before .before .before .before .before .before .before .before .before .before .before .before .before .before .before .before .before .before .before .before .before .before .before .before .before .before .before .before .before .before .before .before .before .before .before .before .before .before .rows-of .ensures, c .before .before .before .before .before .before .before .before .before .before .before .before .before .before .before .before .before .before .before .before .before .before .before .before .before .before .before .before .before .before .before .before .before .before .before .before .before .before .before .before .before .before .before .before .before .before .before .before .before .before .before .before .before .before .before .before .before .before .before .before .before .before .before .before .before .before .before .before .before .before .before .before .before .before .before .before .pre .1 .2))
 
 turns-same-length-16 : (t : ℕ) → turns-lts.Need-same-length-16 (turns-calls t) (turns-at t) turns.Post
 turns-same-length-16 t c = c .before .before .before .before .before .before .before .before .before .before .before .before .before .before .before .statements2 .ensures .kept .values-long ∙ c .before .before .before .before .before .before .before .before .before .before .before .before .before .before .before .before .before .before .before .before .before .before .before .before .before .before .before .before .before .before .before .before .before .before .before .before .before .before .before .before .before .before .statements .ensures .kept .values-long

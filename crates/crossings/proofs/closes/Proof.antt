@@ -1,6 +1,5 @@
 -- No cycle in the row, or a pair.
 use native.Mathlib.Omega.{arith}
-use mathlib.Core.Path.{_≡_}
 use Rattle.crossings.proofs.Passing.{closed-none, closed-pair}
 use borrow.Author.Needs.{needs}
 use Rattle.crossings.proofs.closes.Statement.{statement}

@@ -1,5 +1,5 @@
 -- Each turn copies the next pin.
-use Prim.Native.Nat.{_-_, _+_, _≤_}
+use Prim.Native.Nat.{_-_, _≤_}
 use native.Mathlib.Omega.{arith}
 use Rattle.crossings.specs.Rows.{Copied}
 use Rattle.crossings.proofs.Storing.{copied-none, copied-next, copied-all}

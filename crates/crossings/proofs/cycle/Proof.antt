@@ -1,9 +1,7 @@
 -- A pair that is not in order, or a cycle that is noted.
 use native.Mathlib.Omega.{arith}
 use mathlib.Core.Path.{refl}
-use Rattle.crossings.specs.Rows.{seen}
 use Rattle.crossings.proofs.Passing.{cycle-fails, cycle-noted}
-use borrow.Author.Needs.{needs}
 use Rattle.crossings.proofs.cycle.Statement.{statement}
 use Rattle.crossings.proofs.cycle.Tie as tie
 use Rattle.crossings.proofs.cycle.Reads as reads

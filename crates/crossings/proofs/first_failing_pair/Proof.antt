@@ -1,7 +1,6 @@
 -- The run meets refusal 25: in the patterns that were played each pair is in order, and the rest of the list is left.
 use Prim.Native.Nat.{ℕ, _*_, _-_}
 use native.Mathlib.Omega.{arith}
-use mathlib.Core.Path.{_≡_}
 use lib.ListN.{length-replicate}
 use borrow.Author.Needs.{needs}
 use Rattle.meaning.specs.Bounds.{signalsMost}
@@ -52,9 +51,9 @@ pattern-requires c κs =
       decls = h .read .patterns;
       decl = l .0;
       listed-at = l .1;
-      runs = run-timed _ _ _ _ _ _ _ _ _ _ _ _ (h .runs) (c .before .before .before .before .before .before .before .before .before .before .before .before .before .before .before .before .before .before .pre .1 .1);
+      timed = run-timed _ _ _ _ _ _ _ _ _ _ _ _ (h .runs) (c .before .before .before .before .before .before .before .before .before .before .before .before .before .before .before .before .before .before .pre .1 .1);
       sized = c .before .before .before .before .before .before .loop .inv .sized;
-      wound = c .before .before .before .before .before .before .before .before .before .before .before .before .before .before .before .before .before .before .pre .0;
+      fitted = c .before .before .before .before .before .before .before .before .before .before .before .before .before .before .before .before .before .before .pre .0;
       ample = c .before .before .before .before .before .before .loop .inv .ample;
     }
 

@@ -1,6 +1,5 @@
 -- No last cycle, or a pair.
 use native.Mathlib.Omega.{arith}
-use mathlib.Core.Path.{_≡_}
 use Rattle.crossings.proofs.Passing.{fine-none, fine-pair}
 use borrow.Author.Needs.{needs}
 use Rattle.crossings.proofs.held.Statement.{statement}

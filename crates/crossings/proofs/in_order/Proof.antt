@@ -1,7 +1,7 @@
 -- Each turn looks at the next signal.
-use Prim.Native.Nat.{ℕ, _+_, _-_, _<_, _≤_}
+use Prim.Native.Nat.{ℕ, _-_, _≤_}
 use native.Mathlib.Omega.{arith}
-use mathlib.Core.Path.{_≡_, sym, _∙_}
+use mathlib.Core.Path.{sym}
 use Rattle.meaning.specs.Timing.{Tables}
 use Rattle.spans.specs.Spans.{Spans}
 use Rattle.crossings.proofs.Ordering.{first-none, second-none, Looked, looked-none, looked-next, looked-fails, looked-all}

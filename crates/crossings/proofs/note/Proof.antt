@@ -1,5 +1,5 @@
 -- Each turn looks at the next row.
-use Prim.Native.Nat.{_-_, _≤_, _<_}
+use Prim.Native.Nat.{_-_, _<_}
 use native.Mathlib.Omega.{arith}
 use mathlib.Core.Path.{_∙_}
 use Rattle.crossings.specs.Rows.{seen, cycleIn}

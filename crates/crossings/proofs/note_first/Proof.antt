@@ -1,5 +1,4 @@
 -- A row that has a cycle, or one that gets it.
-use native.Mathlib.Omega.{arith}
 use Rattle.crossings.specs.Rows.{cycleIn}
 use Rattle.crossings.proofs.Storing.{first-seen, first-unseen}
 use borrow.Author.Needs.{needs}

@@ -28,7 +28,7 @@ rows-of-requires c κs = omega (arith, c .before .before .before .before .before
 vectors-requires : tie.Need-vectors-requires
 vectors-requires c κs =
     let stood = c .before .before .before .before .before .before .before .before .before .before .before .before .before .before .before .before .before .before .before .before .before .before .before .before .before .before .before .pre .1 in
-    (stood .sized .roomy, c .before .before .before .before .before .before .before .before .before .head .ensures .0, stood .wound, stood .ample, omega (arith, c .rows-of .ensures))
+    (stood .sized .roomy, c .before .before .before .before .before .before .before .before .before .head .ensures .0, stood .fitted, stood .ample, omega (arith, c .rows-of .ensures))
 
 slice-aggregate-due : tie.Need-slice-aggregate-due
 slice-aggregate-due c = search needs

@@ -1,5 +1,5 @@
 -- Each turn of the loop is a turn of the V.
-use Prim.Native.Nat.{_-_, _≤_}
+use Prim.Native.Nat.{_-_}
 use native.Mathlib.Omega.{arith}
 use mathlib.Core.Path.{_∙_}
 use Rattle.pins.proofs.Callers.{others-then, roomy-kept}
