@@ -6,7 +6,6 @@ use crate::special;
 use second::bounds::MAX_TEXT;
 use second::generate::random::Random;
 use second::generate::{crossing, early, flat, hexed, hurt, large, marked, nested, text, LARGE_KINDS};
-use second::requests::SIGNED;
 
 const SEEDED: Often = Often {
     names: 2,
@@ -61,7 +60,7 @@ const LARGE: Often = Often {
 
 /// One seed in so many has a text made for 17 as well, one in so many a text made for saving, one in so many a text made for folding, one in
 /// so many a text with X names, one in so many a text made for 25, one in so many a text with hex data, one in so many a text with times before
-/// the cycle's start if they are read, and one in so many a window at each cycle and a token at each byte.
+/// the cycle's start, and one in so many a window at each cycle and a token at each byte.
 const NESTED: u64 = 2;
 const HURT: u64 = 2;
 const FLAT: u64 = 8;
@@ -97,7 +96,7 @@ pub fn seeded(seed: u64, comparison: &mut Comparison) {
     if seed % HURT == 0 {
         comparison.text(&format!("hurt {seed}"), &hurt(seed), HURT_SEEDED, &mut random);
     }
-    if SIGNED && seed % EARLY == 0 {
+    if seed % EARLY == 0 {
         comparison.text(&format!("early {seed}"), &early(seed), EARLY_SEEDED, &mut random);
     }
     intake::seeded(seed).iter().for_each(|plan| comparison.raw(&format!("raw {seed}"), plan));

@@ -36,7 +36,7 @@ pub fn text(seed: u64) -> Vec<u8> {
     planned(random, plan)
 }
 
-/// The text of one seed with event times before the cycle's start, which are written whether they are read or not.
+/// The text of one seed with event times before the cycle's start.
 pub fn early(seed: u64) -> Vec<u8> {
     let mut random = Random::new(seed);
     let plan = Plan::early(&mut random);

@@ -1,5 +1,4 @@
 //! Events across the cycle's edge (request 8): each edge of the rule, and the clever way against the plain one.
-#![cfg(feature = "edges")]
 
 mod common;
 use common::unmark;

@@ -286,7 +286,6 @@ fn faults_of_commands_with_one_file() {
     }
 }
 
-#[cfg(feature = "signed")]
 #[test]
 fn times_before_the_cycle() {
     let early = &file("early.stil", SAMPLE.replace("A { 01 { '0ns'", "A { 01 { '-1500ps'").as_bytes());
@@ -298,7 +297,6 @@ fn times_before_the_cycle() {
     assert!(folded.contains("\nA{0{'-1500ps'D;}1{'-1500ps'U;}}\n"), "{folded}");
 }
 
-#[cfg(feature = "edges")]
 #[test]
 fn events_across_the_edge() {
     let late = SAMPLE.replace("A { 01 { '0ns' D/U;", "A { 01 { '0ns' D/U; '200ns' Z;");

@@ -1,10 +1,8 @@
-//! Times before the cycle's start (request 8): how they are read, how they are told, and that they ask nothing else of a text.
-#![cfg(feature = "signed")]
+//! Times before the cycle's start (request 8): how they are read, how they are told, and what the cycle before them must bear.
 
 mod common;
-use common::{build, judge_all, Due, No, Ok5};
-use second::generate::{crossing, early};
-use second::requests::EDGES;
+use common::{build, judge_all, Due, No, Ok5, SAMPLE};
+use second::generate::early;
 use second::timing::Asked;
 use second::tokens::tokens;
 use second::{check, fold, waveform, waveforms, Document, Refusal, Waveforms};
@@ -93,13 +91,18 @@ fn folded_texts_write_them() {
     assert_eq!(self::folded(folded.as_bytes()), Ok(folded));
 }
 
-/// Where only signs are read no event is held against the next cycle's.
+/// They are held against the last event of the cycle before, and nothing else is asked of them.
 #[test]
-fn nothing_more_is_refused() {
-    let late = common::SAMPLE.replace("A { 01 { '0ns' D/U;", "A { 01 { '-1ns' D/U; '200ns' Z;");
-    assert_eq!(check(late.as_bytes()) == check(common::SAMPLE.as_bytes()), !EDGES);
-    let out_of_order = |text: Vec<u8>| check(&text).map_or_else(|refusal| refusal.number == 25, |_| false);
-    assert_eq!((0..2_000).any(|seed| out_of_order(crossing(seed)) || out_of_order(early(seed))), EDGES);
+fn the_cycle_before_bears_them() {
+    let with = |events: &str| SAMPLE.replace("A { 01 { '0ns' D/U;", &format!("A {{ 01 {{ {events}"));
+    let near = with("'-1ns' D/U; '98999ps' Z;");
+    assert_eq!(check(near.as_bytes()), check(SAMPLE.as_bytes()));
+    let met = with("'-1ns' D/U; '99ns' Z;");
+    let place = met.find("V { ab = 0H; }").expect("there") as u64;
+    assert_eq!(check(met.as_bytes()), Err(Refusal { number: 25, place }));
+    // In its first cycle a pattern has none before it.
+    let alone = met.replace("Loop 2 { V { A = 1; } V { ab = 0H; } }\n Macro m { A = 101; B = LH; }", "V { A = 1; }");
+    assert_eq!(check(alone.as_bytes()).map(|sum| sum.cycles), Ok(1));
 }
 
 /// The times of all events as they stand between quotes, read token by token.
@@ -155,6 +158,6 @@ fn generated_texts() {
         }
     }
     println!("accepted {} with {before} times before the cycle, refused by number {:?}", counts[0], &counts[1..]);
-    assert!(counts[0] + counts[25] > 1_500 && before > 1_500, "{counts:?}");
-    assert!([4, 9, 11].iter().all(|&number: &usize| counts[number] > 200), "{counts:?}");
+    assert!(counts[0] > 1_500 && before > 1_500, "{counts:?}");
+    assert!([4, 9, 11].iter().all(|&number: &usize| counts[number] > 200) && counts[25] > 100, "{counts:?}");
 }
