@@ -10,7 +10,7 @@ use Rattle.verdicts.proofs.across.Tie as tie
 
 is-quiet-requires : tie.Need-is-quiet-requires
 is-quiet-requires c κs =
-    let found = c .before .before .before .before .before .before .before .before .before .pre .1 in
+    let found = c .before .before .before .before .before .before .before .before .pre .1 in
     let read = sound-runs _ (found .is) in
     (found .it .read, read .rest, read .read)
 

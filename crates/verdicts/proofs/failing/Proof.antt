@@ -15,7 +15,7 @@ returns c = record {
 }
 
 across-requires : tie.Need-across-requires
-across-requires c κs = (_, c .before .before .before .before .before .before .before .before .before .before .before .before .pre .found)
+across-requires c κs = (_, c .before .before .before .before .before .before .before .before .before .before .before .pre .found)
 
 returns-2 : tie.Need-returns-2
 returns-2 c =
