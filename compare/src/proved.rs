@@ -107,7 +107,10 @@ pub const SAVE: bool = cfg!(feature = "save");
 /// Whether it folds texts.
 pub const FOLD: bool = cfg!(feature = "fold");
 
-/// Whether it refuses events across the cycle's edge, and reads times before it.
+/// Whether it reads event times before the cycle's start.
+pub const SIGNED: bool = cfg!(feature = "signed");
+
+/// Whether it refuses events across the cycle's edge.
 pub const EDGES: bool = cfg!(feature = "edges");
 
 /// Whether it reads hex data.
@@ -116,12 +119,13 @@ pub const HEX: bool = cfg!(feature = "hex");
 /// Whether it answers fail reports.
 pub const REPORTS: bool = cfg!(feature = "reports");
 
-pub const FEATURES: [(&str, bool); 8] = [
+pub const FEATURES: [(&str, bool); 9] = [
     ("waveforms", WAVEFORMS),
     ("lines", LINES),
     ("index", INDEX),
     ("save", SAVE),
     ("fold", FOLD),
+    ("signed", SIGNED),
     ("edges", EDGES),
     ("hex", HEX),
     ("reports", REPORTS),

@@ -10,6 +10,7 @@ mod lists;
 mod marks;
 mod report;
 mod save;
+mod signed;
 
 use crate::comparison::{Comparison, Often};
 use crate::lent::Slices;
@@ -17,9 +18,9 @@ use crate::reader::{told, write_next, Reader, Second};
 use crate::special::SAMPLE;
 use crate::texts::short;
 use second::generate::random::Random;
-use second::generate::{crossing, flat, hexed, hurt, marked, nested, text};
+use second::generate::{crossing, early, flat, hexed, hurt, marked, nested, text};
 use second::refusal::Answer;
-use second::requests::{EDGES, HEX};
+use second::requests::{EDGES, HEX, SIGNED};
 use second::timing::Asked;
 use second::tokens::check_bytes;
 use second::{token, Located, Refusal};
@@ -257,7 +258,14 @@ slips! {
     EdgesFirstSignal,
     EdgesAcrossPatterns,
     EdgesPastOthers,
-    EdgesTimesUnsigned,
+    SignedTimesUnsigned,
+    SignedUnread,
+    SignedTwice,
+    SignedPlus,
+    SignedPeriod,
+    SignedPastBound,
+    SignedZeroApart,
+    SignedRisingAmounts,
     HexBackwards,
     HexLastZero,
     HexCapitalsOnly,
@@ -268,7 +276,7 @@ slips! {
 }
 
 /// Events across the edge are read where the second reader's feature says so: without them nothing shows these.
-const WITH_EDGES: [Slip; 11] = [
+const WITH_EDGES: [Slip; 10] = [
     Slip::EdgesUnchecked,
     Slip::EdgesTwoTurns,
     Slip::EdgesAtEarlier,
@@ -279,7 +287,17 @@ const WITH_EDGES: [Slip; 11] = [
     Slip::EdgesFirstSignal,
     Slip::EdgesAcrossPatterns,
     Slip::EdgesPastOthers,
-    Slip::EdgesTimesUnsigned,
+];
+/// So those of times before the cycle's start.
+const WITH_SIGNED: [Slip; 8] = [
+    Slip::SignedTimesUnsigned,
+    Slip::SignedUnread,
+    Slip::SignedTwice,
+    Slip::SignedPlus,
+    Slip::SignedPeriod,
+    Slip::SignedPastBound,
+    Slip::SignedZeroApart,
+    Slip::SignedRisingAmounts,
 ];
 /// And those of hex data.
 const WITH_HEX: [Slip; 7] = [
@@ -306,7 +324,10 @@ impl Slipping<'_> {
 
 impl Reader for Slipping<'_> {
     fn check(&self, numbers: &mut [u64]) -> u64 {
-        let answer = self.edges_checked(numbers).unwrap_or_else(|| self.hex_checked(numbers));
+        let answer = match self.signed_text() {
+            Some(text) => Second::new(&text).check(numbers),
+            None => self.edges_checked(numbers).unwrap_or_else(|| self.hex_checked(numbers)),
+        };
         if self.slips(Slip::CheckCycles, answer == 0) {
             numbers[3] += 1;
         }
@@ -353,7 +374,7 @@ impl Reader for Slipping<'_> {
         if self.slips(Slip::WaveformRest, answer == 0 && letters.len() > events) {
             letters[events] = 0;
         }
-        if self.slips(Slip::EdgesTimesUnsigned, answer == 0) {
+        if self.slips(Slip::SignedTimesUnsigned, answer == 0) {
             times[..events].iter_mut().for_each(|time| *time = (*time as i64).unsigned_abs());
         }
         if self.slips(Slip::WaveformLastLetter, answer == 0 && events > 2) {
@@ -523,7 +544,8 @@ fn found(slip: Slip) -> bool {
     let mut random = Random::new(7);
     let seeded = (0..600)
         .flat_map(|seed| [text(seed), nested(seed), hurt(seed), flat(seed), marked(seed), crossing(seed), hexed(seed)]);
-    seeded.chain([SAMPLE.into()]).chain(short()).any(|text| {
+    let signed = (0..600).filter(|_| SIGNED).map(early);
+    seeded.chain(signed).chain([SAMPLE.into()]).chain(short()).any(|text| {
         let slipping = Slipping { second: Second::new(&text), slip };
         comparison.readers(&format!("{slip:?}"), &slipping, &Second::new(&text), OFTEN, &mut random);
         comparison.differs()
@@ -533,7 +555,7 @@ fn found(slip: Slip) -> bool {
 #[test]
 fn each_slip_is_found() {
     assert!(!found(Slip::None));
-    let unread = [(EDGES, &WITH_EDGES[..]), (HEX, &WITH_HEX)];
+    let unread = [(EDGES, &WITH_EDGES[..]), (SIGNED, &WITH_SIGNED), (HEX, &WITH_HEX)];
     let shows = |slip: &&Slip| unread.iter().all(|(read, slips)| *read || !slips.contains(slip));
     let missed: Vec<&Slip> = ALL.iter().filter(shows).filter(|&&slip| !found(slip)).collect();
     assert!(missed.is_empty(), "{missed:?}");

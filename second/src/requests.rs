@@ -3,5 +3,8 @@
 /// Request 5: hex data on groups with a base.
 pub const HEX: bool = cfg!(feature = "hex");
 
-/// Request 8: events across the cycle's edge, and times before it.
+/// Request 8, its times: an event may be before its cycle's start.
+pub const SIGNED: bool = cfg!(feature = "signed");
+
+/// Request 8, its rule: a cycle's events come before the next one's.
 pub const EDGES: bool = cfg!(feature = "edges");

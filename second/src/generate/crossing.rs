@@ -1,7 +1,7 @@
 //! Waveforms that reach across the cycle's edge, here and there into the next one's: made for refusal 25.
 
 use super::random::Random;
-use crate::requests::EDGES;
+use crate::requests::SIGNED;
 
 /// The text of one seed; times before the cycle stand in it where they are read.
 pub fn crossing(seed: u64) -> Vec<u8> {
@@ -13,7 +13,7 @@ pub fn crossing(seed: u64) -> Vec<u8> {
         _ => crossing.mixed(),
     };
     let slip = crossing.random.below(100);
-    match SIGNS.get(slip).filter(|_| EDGES) {
+    match SIGNS.get(slip).filter(|_| SIGNED) {
         Some(sign) => text.replacen("'0ps'", sign, 1),
         None => text,
     }
@@ -163,7 +163,7 @@ PatternBurst b {{ PatList {{ {list}}} }} PatternExec {{ PatternBurst b; }} {patt
         for _ in 0..self.random.below(3) {
             times.push([0, period / 2, period - 1, period, -1, 3 * period][self.random.below(6)]);
         }
-        if !EDGES {
+        if !SIGNED {
             times.iter_mut().for_each(|time| *time = time.abs());
         }
         times.sort_unstable();
