@@ -9,7 +9,7 @@
  *
  *   0           The call has its answer, which stands at the front of the buffers that were lent. What stands
  *               behind it there is left as it was.
- *   any other   The call is refused, and all buffers are as they were (but see lutemeteor_waveforms). answer % 32 is the refusal's number, 1 to 19, or 21 to 24;
+ *   any other   The call is refused, and all buffers are as they were (but see lutemeteor_waveforms). answer % 32 is the refusal's number, 1 to 19, or 21 to 25;
  *               answer / 32 is its place, a byte of the text counted from 0, or the text's length for its end. Where
  *               lutemeteor_report refuses a report, the answer is 2 to the 32nd more, and its place is one of the report.
  *
@@ -17,7 +17,7 @@
  * numbers of the caller's, also where it is refused. It has a refusal of its own, 20.
  *
  * Where several refusals fit, the first of these is given: 1, 2, 3; then, of 4 to 14, the one that stands first in
- * the text; then 15, 16, 17, 18, 21, 23, 22, 19. A text that lutemeteor_check accepts is refused by lutemeteor_name and
+ * the text; then 15, 16, 17, 25, 18, 21, 23, 22, 19. A text that lutemeteor_check accepts is refused by lutemeteor_name and
  * lutemeteor_waveform for 18 or 19 only, by lutemeteor_waveforms for 8 too, and by lutemeteor_window for 19,
  * or for 12 at 0 before that: its mark is none; by lutemeteor_index for 19 only, by lutemeteor_belongs for 21 only, and by
  * lutemeteor_holds for 21 or 19, and by lutemeteor_fold for 23, 22 or 19; by lutemeteor_report for 19, or before that for
@@ -92,9 +92,11 @@ enum {
     LUTEMETEOR_NOT_THE_INDEX = 21,   /* an index is not what a rebuild of it writes; 0 */
     LUTEMETEOR_MANY_PATTERNS = 22,   /* the folded text would have more than 16 Patterns; 0 */
     LUTEMETEOR_MANY_CYCLES = 23,     /* the run has more than 1,000,000 cycles, which are not folded; 0 */
-    LUTEMETEOR_NOT_IN_PATTERN = 24   /* of a report: its pattern is not listed exactly once; its name. A reference is unknown;
+    LUTEMETEOR_NOT_IN_PATTERN = 24,  /* of a report: its pattern is not listed exactly once; its name. A reference is unknown;
                                         the reference. A cycle falls outside the pattern; the offset, or the reference
                                         where there is none */
+    LUTEMETEOR_ACROSS_EDGE = 25      /* a cycle's last drive or compare event of a signal does not come before the next
+                                        cycle's first of its kind; the later cycle's V */
 };
 
 /* Of an answer that is not 0: the refusal's number, and its place. */
@@ -123,7 +125,7 @@ static inline int lutemeteor_of_report(uint64_t answer)
  *   numbers[3]   cycles of the whole run, 0 to 2 to the 40th
  *   numbers[4]   size of the run, 0 to 65,536: its statements, with a Loop's body counted once
  *
- * Refused 1 to 17; 19 where `room` is less than 5.
+ * Refused 1 to 17 or 25; 19 where `room` is less than 5.
  */
 uint64_t lutemeteor_check(const uint8_t *text, size_t length, uint64_t *numbers, size_t room);
 
@@ -134,7 +136,7 @@ uint64_t lutemeteor_check(const uint8_t *text, size_t length, uint64_t *numbers,
  *   numbers[0]   the name's place in the text
  *   numbers[1]   its length, 1 to 32 bytes
  *
- * Refused 1 to 17; 18 where the text has no such number; 19 where `room` is less than 2.
+ * Refused 1 to 17 or 25; 18 where the text has no such number; 19 where `room` is less than 2.
  */
 uint64_t lutemeteor_name(const uint8_t *text, size_t length, uint8_t table, uint64_t number, uint64_t *numbers,
                          size_t room);
@@ -152,7 +154,7 @@ uint64_t lutemeteor_name(const uint8_t *text, size_t length, uint8_t table, uint
  * the rows that there are. `mark` is any byte but a letter, a digit or LF: '?' where none is chosen, '.' in filed
  * listings. Nothing else in a row depends on it.
  *
- * Refused 1 to 17; 12 at 0 where `mark` is a letter, a digit or LF, whatever is wanted; 19 where `rows_room` is less
+ * Refused 1 to 17 or 25; 12 at 0 where `mark` is a letter, a digit or LF, whatever is wanted; 19 where `rows_room` is less
  * than the bytes of those rows, or `room` is less than 2.
  */
 uint64_t lutemeteor_window(const uint8_t *text, size_t length, uint64_t first, uint64_t wanted, uint8_t mark,
@@ -161,15 +163,16 @@ uint64_t lutemeteor_window(const uint8_t *text, size_t length, uint64_t first, u
 /*
  * Waveform: the events of a character, as it stands in rows, for a signal in a table, both by their numbers.
  *
- *   times[i]     when the i-th event comes, in picoseconds from the start of the cycle; the order is the text's
+ *   times[i]     when the i-th event comes, in picoseconds from the start of the cycle, negative before it: -1,000,000,000
+ *                to 1,000,000,000; the order is the text's
  *   letters[i]   its letter: D U Z P drive the pin, L H X T l h x compare it
  *   count[0]     how many events there are, 1 to 16
  *
- * Refused 1 to 17; 18 where the text has no such waveform; 19 where `times` or `letters` has room for less than all
+ * Refused 1 to 17 or 25; 18 where the text has no such waveform; 19 where `times` or `letters` has room for less than all
  * events (16 are always enough), or `count_room` is 0.
  */
 uint64_t lutemeteor_waveform(const uint8_t *text, size_t length, uint64_t table, uint64_t signal, uint8_t character,
-                             uint64_t *times, size_t times_room, uint8_t *letters, size_t letters_room,
+                             int64_t *times, size_t times_room, uint8_t *letters, size_t letters_room,
                              uint64_t *count, size_t count_room);
 
 /*
@@ -178,12 +181,12 @@ uint64_t lutemeteor_waveform(const uint8_t *text, size_t length, uint64_t table,
  *
  *   asked        three numbers for each waveform: its table, its signal and its character. A character above 255, and one
  *                or two numbers left over at the end, count as a waveform that the text doesn't have
- *   times        the events' times, one group behind the other
+ *   times        the events' times, signed as those of lutemeteor_waveform, one group behind the other
  *   letters      their letters, in the same places
  *   counts[i]    how many events the i-th waveform of the list has
  *   numbers[0]   where the answer is 0, how many events there are in all
  *
- * Refused 1 to 17; then 8, at place 0, where more than 64 waveforms are asked for; then 19 where `counts_room` is less
+ * Refused 1 to 17 or 25; then 8, at place 0, where more than 64 waveforms are asked for; then 19 where `counts_room` is less
  * than the waveforms asked for, or `numbers_room` is 0. In all these cases all buffers are as they were.
  *
  * Then the first waveform that is refused, by 18 or by 19, stops the call. The answer is that refusal; what the waveforms
@@ -192,7 +195,7 @@ uint64_t lutemeteor_waveform(const uint8_t *text, size_t length, uint64_t table,
  *   numbers[0]   is how many waveforms were served
  */
 uint64_t lutemeteor_waveforms(const uint8_t *text, size_t length, const uint64_t *asked, size_t asked_length,
-                              uint64_t *times, size_t times_room, uint8_t *letters, size_t letters_room,
+                              int64_t *times, size_t times_room, uint8_t *letters, size_t letters_room,
                               uint64_t *counts, size_t counts_room, uint64_t *numbers, size_t numbers_room);
 
 /*
@@ -204,7 +207,7 @@ uint64_t lutemeteor_waveforms(const uint8_t *text, size_t length, const uint64_t
  *   index        its bytes, at most 1,357
  *   numbers[0]   how many there are
  *
- * Refused 1 to 17; 19 where `index_room` is less than those bytes, or `room` is 0.
+ * Refused 1 to 17 or 25; 19 where `index_room` is less than those bytes, or `room` is 0.
  */
 uint64_t lutemeteor_index(const uint8_t *text, size_t length, uint8_t *index, size_t index_room, uint64_t *numbers,
                           size_t room);
@@ -212,7 +215,7 @@ uint64_t lutemeteor_index(const uint8_t *text, size_t length, uint8_t *index, si
 /*
  * Belongs: is an index the text's, byte for byte what lutemeteor_index writes of it? 0 where it is.
  *
- * Refused 1 to 17; 21, at place 0, where it isn't.
+ * Refused 1 to 17 or 25; 21, at place 0, where it isn't.
  */
 uint64_t lutemeteor_belongs(const uint8_t *text, size_t length, const uint8_t *index, size_t index_length);
 
@@ -222,7 +225,7 @@ uint64_t lutemeteor_belongs(const uint8_t *text, size_t length, const uint8_t *i
  *   numbers[0]   1; or 0 where the run has no such cycle
  *   numbers[1]   the pattern's number in the list, counted from 0, or 0
  *
- * Refused 1 to 17; 21, at place 0, where the index doesn't belong to the text, whatever the cycle is; 19 where `room` is
+ * Refused 1 to 17 or 25; 21, at place 0, where the index doesn't belong to the text, whatever the cycle is; 19 where `room` is
  * less than 2.
  */
 uint64_t lutemeteor_holds(const uint8_t *text, size_t length, const uint8_t *index, size_t index_length, uint64_t cycle,
@@ -256,7 +259,7 @@ uint64_t lutemeteor_save(uint8_t *text, size_t length, uint64_t *spans, size_t s
  *   folded       the folded text; 65,536 bytes are always enough
  *   numbers[0]   its length
  *
- * Refused 1 to 17; then, at place 0, 23 above 1,000,000 cycles, 22 for more than 16 Patterns, and 19 where the folded text is
+ * Refused 1 to 17 or 25; then, at place 0, 23 above 1,000,000 cycles, 22 for more than 16 Patterns, and 19 where the folded text is
  * longer than 65,536 bytes or than `folded_room`, or where `room` is 0.
  */
 uint64_t lutemeteor_fold(const uint8_t *text, size_t length, uint8_t *folded, size_t folded_room, uint64_t *numbers,
@@ -272,7 +275,7 @@ uint64_t lutemeteor_fold(const uint8_t *text, size_t length, uint8_t *folded, si
  *   letters      the state letter H, L, T or X, in the same places; 0 where the offset has none
  *   numbers[0]   how many there are; half of the report's bytes are always enough
  *
- * Refused 1 to 17 by the text; then by the report, with places in it and with 2 to the 32nd added to the answer: its own
+ * Refused 1 to 17 or 25 by the text; then by the report, with places in it and with 2 to the 32nd added to the answer: its own
  * faults, 1, 2, 3, then 4 to 9 from the left, and then the first 24. Last 19, at place 0 and nothing added, where one of the three
  * rows has less room than there are offsets, or `room` is 0.
  */

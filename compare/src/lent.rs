@@ -45,12 +45,12 @@ impl Slices<'_> {
 }
 
 impl Lent {
-    /// Filled with what is in no answer: numbers and bytes in the upper half.
+    /// Filled with what is in no answer: numbers and bytes in the upper half, and times, which have a sign there, with the largest ones.
     pub fn new(rooms: Rooms) -> Lent {
         let fill = |room: usize| (0..room + 2 * MARGIN).map(|at| u64::MAX - at as u64);
         Lent {
             numbers: fill(rooms.numbers).collect(),
-            times: fill(rooms.times).collect(),
+            times: fill(rooms.times).map(|fill| fill & i64::MAX as u64).collect(),
             bytes: fill(rooms.bytes).map(|fill| fill as u8 | 128).collect(),
             counts: fill(rooms.counts).collect(),
         }

@@ -81,7 +81,7 @@ extern "C" {
         length: usize,
         asked: *const u64,
         asked_length: usize,
-        times: *mut u64,
+        times: *mut i64,
         times_room: usize,
         letters: *mut u8,
         letters_room: usize,
@@ -107,22 +107,18 @@ pub const SAVE: bool = cfg!(feature = "save");
 /// Whether it folds texts.
 pub const FOLD: bool = cfg!(feature = "fold");
 
-/// Whether it refuses events across the cycle's edge, and reads times before it.
-pub const EDGES: bool = cfg!(feature = "edges");
-
 /// Whether it reads hex data.
 pub const HEX: bool = cfg!(feature = "hex");
 
 /// Whether it answers fail reports.
 pub const REPORTS: bool = cfg!(feature = "reports");
 
-pub const FEATURES: [(&str, bool); 8] = [
+pub const FEATURES: [(&str, bool); 7] = [
     ("waveforms", WAVEFORMS),
     ("lines", LINES),
     ("index", INDEX),
     ("save", SAVE),
     ("fold", FOLD),
-    ("edges", EDGES),
     ("hex", HEX),
     ("reports", REPORTS),
 ];
@@ -150,7 +146,7 @@ impl Reader for Proved<'_> {
                 asked.table,
                 asked.signal,
                 asked.character,
-                times.as_mut_ptr(),
+                times.as_mut_ptr().cast(),
                 times.len(),
                 letters.as_mut_ptr(),
                 letters.len(),
@@ -168,7 +164,7 @@ impl Reader for Proved<'_> {
                 self.0.len(),
                 list.as_ptr(),
                 list.len(),
-                lent.times.as_mut_ptr(),
+                lent.times.as_mut_ptr().cast(),
                 lent.times.len(),
                 lent.bytes.as_mut_ptr(),
                 lent.bytes.len(),

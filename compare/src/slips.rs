@@ -10,6 +10,7 @@ mod lists;
 mod marks;
 mod report;
 mod save;
+mod signed;
 
 use crate::comparison::{Comparison, Often};
 use crate::lent::Slices;
@@ -17,9 +18,9 @@ use crate::reader::{told, write_next, Reader, Second};
 use crate::special::SAMPLE;
 use crate::texts::short;
 use second::generate::random::Random;
-use second::generate::{crossing, flat, hexed, hurt, marked, nested, text};
+use second::generate::{crossing, early, flat, hexed, hurt, marked, nested, text};
 use second::refusal::Answer;
-use second::requests::{EDGES, HEX};
+use second::requests::HEX;
 use second::timing::Asked;
 use second::tokens::check_bytes;
 use second::{token, Located, Refusal};
@@ -257,7 +258,14 @@ slips! {
     EdgesFirstSignal,
     EdgesAcrossPatterns,
     EdgesPastOthers,
-    EdgesTimesUnsigned,
+    SignedTimesUnsigned,
+    SignedUnread,
+    SignedTwice,
+    SignedPlus,
+    SignedPeriod,
+    SignedPastBound,
+    SignedZeroApart,
+    SignedRisingAmounts,
     HexBackwards,
     HexLastZero,
     HexCapitalsOnly,
@@ -267,8 +275,8 @@ slips! {
     HexCharsTwice,
 }
 
-/// Events across the edge are read where the second reader's feature says so: without them nothing shows these.
-const WITH_EDGES: [Slip; 11] = [
+/// Those of events across the edge: they answer by another reading of the rule.
+const WITH_EDGES: [Slip; 10] = [
     Slip::EdgesUnchecked,
     Slip::EdgesTwoTurns,
     Slip::EdgesAtEarlier,
@@ -279,9 +287,19 @@ const WITH_EDGES: [Slip; 11] = [
     Slip::EdgesFirstSignal,
     Slip::EdgesAcrossPatterns,
     Slip::EdgesPastOthers,
-    Slip::EdgesTimesUnsigned,
 ];
-/// And those of hex data.
+/// Those of times before the cycle's start: they take the text for another.
+const WITH_SIGNED: [Slip; 8] = [
+    Slip::SignedTimesUnsigned,
+    Slip::SignedUnread,
+    Slip::SignedTwice,
+    Slip::SignedPlus,
+    Slip::SignedPeriod,
+    Slip::SignedPastBound,
+    Slip::SignedZeroApart,
+    Slip::SignedRisingAmounts,
+];
+/// Hex data is read where the second reader's feature says so: without it nothing shows these.
 const WITH_HEX: [Slip; 7] = [
     Slip::HexBackwards,
     Slip::HexLastZero,
@@ -306,7 +324,10 @@ impl Slipping<'_> {
 
 impl Reader for Slipping<'_> {
     fn check(&self, numbers: &mut [u64]) -> u64 {
-        let answer = self.edges_checked(numbers).unwrap_or_else(|| self.hex_checked(numbers));
+        let answer = match self.signed_text() {
+            Some(text) => Second::new(&text).check(numbers),
+            None => self.edges_checked(numbers).unwrap_or_else(|| self.hex_checked(numbers)),
+        };
         if self.slips(Slip::CheckCycles, answer == 0) {
             numbers[3] += 1;
         }
@@ -353,7 +374,7 @@ impl Reader for Slipping<'_> {
         if self.slips(Slip::WaveformRest, answer == 0 && letters.len() > events) {
             letters[events] = 0;
         }
-        if self.slips(Slip::EdgesTimesUnsigned, answer == 0) {
+        if self.slips(Slip::SignedTimesUnsigned, answer == 0) {
             times[..events].iter_mut().for_each(|time| *time = (*time as i64).unsigned_abs());
         }
         if self.slips(Slip::WaveformLastLetter, answer == 0 && events > 2) {
@@ -521,8 +542,8 @@ const OFTEN: Often = Often {
 fn found(slip: Slip) -> bool {
     let mut comparison = Comparison::new();
     let mut random = Random::new(7);
-    let seeded = (0..600)
-        .flat_map(|seed| [text(seed), nested(seed), hurt(seed), flat(seed), marked(seed), crossing(seed), hexed(seed)]);
+    let kinds = [text, nested, hurt, flat, marked, crossing, hexed, early];
+    let seeded = (0..600).flat_map(|seed| kinds.map(|kind| kind(seed)));
     seeded.chain([SAMPLE.into()]).chain(short()).any(|text| {
         let slipping = Slipping { second: Second::new(&text), slip };
         comparison.readers(&format!("{slip:?}"), &slipping, &Second::new(&text), OFTEN, &mut random);
@@ -533,8 +554,7 @@ fn found(slip: Slip) -> bool {
 #[test]
 fn each_slip_is_found() {
     assert!(!found(Slip::None));
-    let unread = [(EDGES, &WITH_EDGES[..]), (HEX, &WITH_HEX)];
-    let shows = |slip: &&Slip| unread.iter().all(|(read, slips)| *read || !slips.contains(slip));
+    let shows = |slip: &&Slip| HEX || !WITH_HEX.contains(slip);
     let missed: Vec<&Slip> = ALL.iter().filter(shows).filter(|&&slip| !found(slip)).collect();
     assert!(missed.is_empty(), "{missed:?}");
 }

@@ -1,4 +1,4 @@
-//! Texts that hold one rule each, with the answer that document 01 gives; most of them fail with 17 in one cycle alone.
+//! Texts that hold one rule each, with the answer that the documents give; most of them fail with 17 in one cycle alone.
 
 mod list;
 mod tokens;
@@ -10,11 +10,11 @@ use second::{check, token, Refusal, Summary};
 /// Document 01's own text.
 pub const SAMPLE: &str = include_str!("../../examples/worked.stil");
 
-/// In t1 only B has the character x.
+/// In t1 only B has the character x, its event just late enough to follow t0's. Only D has y, and only in t0: there it may not follow itself.
 const HEAD: &str = "STIL 1.0; Signals { A In; B In; D In; } SignalGroups { ab = 'A+B'; }
 Timing {
- WaveformTable t0 { Period '1ns'; Waveforms { ab { 01x { '0ns' D/U/Z; '1ns' L; } } D { x10 { '5ps' L; } } } }
- WaveformTable t1 { Period '2ns'; Waveforms { ab { 01 { '0ns' U; } } D { 01 { '0ns' H/L; } } B { x { '0ns' X; } } } } }
+ WaveformTable t0 { Period '1ns'; Waveforms { ab { 01x { '0ns' D/U/Z; '1ns' L; } } D { x10 { '5ps' L; } y { '0ns' D; '1ns' U; } } } }
+ WaveformTable t1 { Period '2ns'; Waveforms { ab { 01 { '0ns' U; } } D { 01 { '0ns' H/L; } } B { x { '1ps' X; } } } } }
 ";
 
 /// Windows of it: first, wanted, rows and visits.

@@ -5,7 +5,7 @@ use crate::intake;
 use crate::special;
 use second::bounds::MAX_TEXT;
 use second::generate::random::Random;
-use second::generate::{crossing, flat, hexed, hurt, large, marked, nested, text, LARGE_KINDS};
+use second::generate::{crossing, early, flat, hexed, hurt, large, marked, nested, text, LARGE_KINDS};
 
 const SEEDED: Often = Often {
     names: 2,
@@ -25,6 +25,7 @@ const SEEDED: Often = Often {
 const HURT_SEEDED: Often = Often { tokens: 20, places: 2, lines: 2, saves: 3, ..SEEDED };
 const FLAT_SEEDED: Often = Often { folds: 2, saves: 0, ..HURT_SEEDED };
 const MARKED_SEEDED: Often = Often { reports: 6, saves: 1, ..FLAT_SEEDED };
+const EARLY_SEEDED: Often = Often { waveforms: 8, lists: 6, saves: 1, ..HURT_SEEDED };
 const EACH: Often = Often { every: 200, bytes: 4_096, ..SEEDED };
 const SPECIAL: Often = Often {
     names: 100,
@@ -58,13 +59,15 @@ const LARGE: Often = Often {
 };
 
 /// One seed in so many has a text made for 17 as well, one in so many a text made for saving, one in so many a text made for folding, one in
-/// so many a text with X names, one in so many a text made for 25, one in so many a text with hex data, and one in so many a window at each cycle and a token at each byte.
+/// so many a text with X names, one in so many a text made for 25, one in so many a text with hex data, one in so many a text with times before
+/// the cycle's start, and one in so many a window at each cycle and a token at each byte.
 const NESTED: u64 = 2;
 const HURT: u64 = 2;
 const FLAT: u64 = 8;
 const MARKED: u64 = 2;
 const CROSSING: u64 = 2;
 const HEXED: u64 = 2;
+const EARLY: u64 = 2;
 const EVERY: u64 = 64;
 
 /// A byte of each kind that the token rules tell apart, and the length up to which texts of these bytes are all taken.
@@ -92,6 +95,9 @@ pub fn seeded(seed: u64, comparison: &mut Comparison) {
     }
     if seed % HURT == 0 {
         comparison.text(&format!("hurt {seed}"), &hurt(seed), HURT_SEEDED, &mut random);
+    }
+    if seed % EARLY == 0 {
+        comparison.text(&format!("early {seed}"), &early(seed), EARLY_SEEDED, &mut random);
     }
     intake::seeded(seed).iter().for_each(|plan| comparison.raw(&format!("raw {seed}"), plan));
 }

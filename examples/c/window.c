@@ -116,7 +116,7 @@ static uint64_t print_names(const struct text *text, int table, uint64_t count)
 
 static uint64_t print_waveform(const struct text *text, uint64_t table, uint64_t signal, uint8_t character)
 {
-    uint64_t times[LUTEMETEOR_EVENTS_MOST];
+    int64_t times[LUTEMETEOR_EVENTS_MOST];
     uint8_t letters[LUTEMETEOR_EVENTS_MOST];
     uint64_t count;
     uint64_t answer = lutemeteor_waveform(text->bytes, text->length, table, signal, character, times,
@@ -132,7 +132,7 @@ static uint64_t print_waveform(const struct text *text, uint64_t table, uint64_t
     }
     printf(" %c\nEVENTS %" PRIu64 "\n", character, count);
     for (uint64_t i = 0; i < count; i++) {
-        printf("%" PRIu64 " %c\n", times[i], letters[i]);
+        printf("%" PRId64 " %c\n", times[i], letters[i]);
     }
     return answer;
 }

@@ -9,14 +9,13 @@ use crate::document::Document;
 use crate::frame::Frame;
 use crate::pinset::PinSet;
 use crate::refusal::*;
-use crate::requests::EDGES;
 use crate::statements::{Act, Range, Use};
 use crate::timing::Reach;
 use std::collections::HashMap;
 
 /// Refuses the first pair in run order whose events are not in order, at the later cycle's V. All cycles must have their waveforms.
 pub fn check_edges(document: &Document) -> Answer<()> {
-    if !EDGES || always_in_order(document) {
+    if always_in_order(document) {
         return Ok(());
     }
     let reaches = Reaches::of(document);

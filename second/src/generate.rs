@@ -33,6 +33,17 @@ use tokens::Tokens;
 pub fn text(seed: u64) -> Vec<u8> {
     let mut random = Random::new(seed);
     let plan = Plan::new(&mut random);
+    planned(random, plan)
+}
+
+/// The text of one seed with event times before the cycle's start.
+pub fn early(seed: u64) -> Vec<u8> {
+    let mut random = Random::new(seed);
+    let plan = Plan::early(&mut random);
+    planned(random, plan)
+}
+
+fn planned(random: Random, plan: Plan) -> Vec<u8> {
     let mut writer = Writer::new(random, plan);
     writer.blocks();
     let Writer { mut random, plan, mut out, .. } = writer;

@@ -5,7 +5,6 @@ use crate::names::NameTable;
 use crate::numbers::time;
 use crate::reader::Reader;
 use crate::refusal::*;
-use crate::requests::EDGES;
 use crate::signals::{List, Pins};
 use crate::tokens::Token;
 
@@ -167,7 +166,7 @@ fn period(reader: &mut Reader) -> Answer<u64> {
 /// A sign stands in an event's time alone, before its word.
 fn event_time(reader: &mut Reader) -> Answer<i64> {
     reader.byte(b'\'')?;
-    let before = EDGES && reader.is(b'-');
+    let before = reader.is(b'-');
     if before {
         reader.take();
     }

@@ -1,8 +1,7 @@
-//! Events across the cycle's edge (request 8): times before the cycle, each edge of the rule, and the clever way against the plain one.
-#![cfg(feature = "edges")]
+//! Events across the cycle's edge (request 8): each edge of the rule, and the clever way against the plain one.
 
 mod common;
-use common::{build, judge_all, unmark, Due, No, Ok5};
+use common::unmark;
 use second::across::check_edges;
 use second::data::Cursor;
 use second::generate::{crossing, flat, hurt, nested, text};
@@ -11,55 +10,6 @@ use second::statements::{Act, Range, Statement, Use};
 use second::timing::Asked;
 use second::{check, fold, save, waveform, Document, Refusal};
 use std::collections::HashMap;
-
-type Case = (&'static str, &'static str, Due);
-
-const BARE: Due = Ok5([3, 1, 0, 0, 0]);
-
-const TIMES: &[Case] = &[
-    ("events", "'-5ns' D;", BARE),
-    ("events", "' - /**/ 5ns ' D;", BARE),
-    ("events", "'-1000000000ps' D; '-999999ns' U;", BARE),
-    ("events", "'-1000000ns' D;", BARE),
-    ("events", "'-«1000000001ps' D;", No(9)),
-    ("events", "'-«1000001ns' D;", No(9)),
-    ("events", "'«1000000001ps' D;", No(9)),
-    ("events", "'-«99999999999999999999999ns' D;", No(9)),
-    ("events", "'-«5' D;", No(9)),
-    ("events", "'-«ns' D;", No(9)),
-    ("events", "'-«5.0ns' D;", No(9)),
-    ("events", "'-«' D;", No(4)),
-    ("events", "'-«-5ns' D;", No(4)),
-    ("events", "'«+5ns' D;", No(4)),
-    ("events", "'5ns«-3ns' D;", No(4)),
-    ("events", "'-5ns«-' D;", No(4)),
-    // -0 is 0.
-    ("events", "'-0ns' D; '0ns' U«;", No(11)),
-    ("events", "'0ps' D; '-0ns' U«;", No(11)),
-    ("events", "'-0000ps' D; '1ps' D;", BARE),
-    ("events", "'-1ps' D; '-0ps' D;", BARE),
-    // Times rise from the most negative one on.
-    ("events", "'-1ns' D; '-2ns' D«;", No(11)),
-    ("events", "'-2ns' D; '-2ns' L; '-1ns' D; '-1999ps' L; '0ns' D;", BARE),
-    ("events", "'1ns' D; '-1ns' D«;", No(11)),
-    ("events", "'1ns' D; '-1ns' L;", BARE),
-    // A period is no event's time.
-    ("timing", "WaveformTable t { Period '«-1ns'; Waveforms { } }", No(4)),
-    ("timing", "WaveformTable t { Period '«-0ns'; Waveforms { } }", No(4)),
-];
-
-#[test]
-fn times() {
-    judge_all(TIMES);
-}
-
-#[test]
-fn waveforms_carry_signed_times() {
-    let text = build("entries", "01 { '-1000000ns' D/U; '-1ps' L; '-0ns' Z; '7ps' H/X; }");
-    let (mut times, mut letters) = ([7; 5], [b'-'; 5]);
-    assert_eq!(waveform(text.as_bytes(), 0, 0, b'1', &mut times, &mut letters), Ok(4));
-    assert_eq!((times, &letters), ([-1_000_000_000, -1, 0, 7, 7], b"ULZX-"));
-}
 
 /// Signals A and B, 10 ns in t and 4 ns in u.
 /// 0: drive at 0, compare at 5. l: drive at 0 and 10, the period. e: drive at -1. w: drive at 0 and 9999 ps. z: compare at 15 alone. n: compare at -3.
@@ -230,18 +180,10 @@ fn saved() {
     assert_eq!(save(&mut text.into_bytes(), &mut four), Err(Refusal { number: 25, place }));
 }
 
+/// What is accepted stays so.
 #[test]
 fn folded() {
-    let mut buffer = vec![0; 65_536];
-    let text = of("p;", "Pattern p { W t; V { A = e; } V { B = n; } }").replace("'-1ns'", "'-1500ps'");
-    let length = fold(text.as_bytes(), &mut buffer).expect("folded") as usize;
-    let folded = String::from_utf8_lossy(&buffer[..length]).to_string();
-    assert!(folded.contains("e{'-1500ps'U;'1ns'Z;}") && folded.contains("n{'-3ns'L;}"), "{folded}");
-    let mut again = vec![0; 65_536];
-    assert_eq!(fold(folded.as_bytes(), &mut again), Ok(length as u64));
-    assert!(again == buffer);
-    // What is accepted stays so.
-    let mut accepted = 0;
+    let (mut buffer, mut accepted) = (vec![0; 65_536], 0);
     for seed in 0..3_000 {
         let text = crossing(seed);
         if let Ok(length) = fold(&text, &mut buffer) {

@@ -272,8 +272,7 @@ const WAVEFORMS: &[Case] = &[
     ("entries", "0 { '0ns' D/U«; }", No(11)),
     ("entries", "0 { '0ns' D/U/Z/P/L/H/X/T/l/h/x/D/D/D/D/D/D/D/D/D/D«; }", No(11)),
     ("entries", "0123456789a { '0ns' D/U/Z/P/L/H/X/T/l/h/x; }", BARE),
-    #[cfg(not(feature = "edges"))]
-    ("entries", "0 { '«-1ns' D; }", No(4)),
+    ("entries", "0 { '-1ns' D; }", BARE),
     ("entries", "0 { '1000000ns' D; }", BARE),
     ("entries", "0 { '«1000001ns' D; }", No(9)),
     ("entries", "0 { '1000000000ps' D; }", BARE),

@@ -286,11 +286,19 @@ fn faults_of_commands_with_one_file() {
     }
 }
 
-#[cfg(feature = "edges")]
 #[test]
 fn times_before_the_cycle() {
     let early = &file("early.stil", SAMPLE.replace("A { 01 { '0ns'", "A { 01 { '-1500ps'").as_bytes());
     answers(&["waveform", early, "0", "0", "1"], "EVENTS 1\n-1500 U\n");
+    let zero = &file("zero.stil", SAMPLE.replace("A { 01 { '0ns'", "A { 01 { '-0ns'").as_bytes());
+    answers(&["waveform", zero, "0", "0", "1"], "EVENTS 1\n0 U\n");
+    answers(&["list", early], &String::from_utf8_lossy(&run(&["list", zero]).stdout));
+    let folded = String::from_utf8(run(&["fold", early]).stdout).expect("plain");
+    assert!(folded.contains("\nA{0{'-1500ps'D;}1{'-1500ps'U;}}\n"), "{folded}");
+}
+
+#[test]
+fn events_across_the_edge() {
     let late = SAMPLE.replace("A { 01 { '0ns' D/U;", "A { 01 { '0ns' D/U; '200ns' Z;");
     let place = late.find("V { ab = 0H; }").expect("there");
     let column = place - late[..place].rfind('\n').expect("a line");

@@ -6,7 +6,7 @@ use std::time::Instant;
 
 const SEEDS: u64 = 20_000;
 
-/// Each refusal is reached often, a third is accepted (or has 25 alone against it), and accepted texts sit exactly on the bounds.
+/// Each refusal is reached often, a third is accepted, and accepted texts sit exactly on the bounds.
 #[test]
 fn refusals_and_bounds_are_reached() {
     let (mut counts, mut met) = ([0u32; 26], [0u32; 6]);
@@ -24,9 +24,9 @@ fn refusals_and_bounds_are_reached() {
     }
     println!("accepted {}, refused by number {:?}", counts[0], &counts[1..]);
     println!("on the bound of signals, tables, listed, size, cycles, length: {met:?}");
-    assert!(counts[1..18].iter().all(|&count| count >= 20), "{counts:?}");
-    let (third, in_form) = (SEEDS as u32 / 3, counts[0] + counts[25]);
-    assert!(in_form > third * 3 / 4 && in_form < third * 5 / 4, "{counts:?}");
+    assert!(counts[1..18].iter().chain(&counts[25..]).all(|&count| count >= 20), "{counts:?}");
+    let third = SEEDS as u32 / 3;
+    assert!(counts[0] > third * 3 / 4 && counts[0] < third * 5 / 4, "{counts:?}");
     assert!(met.iter().all(|&count| count >= 20), "{met:?}");
 }
 

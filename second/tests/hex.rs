@@ -4,7 +4,7 @@
 mod common;
 use common::{judge_all, rows, unmark, Due, No, Ok5};
 use second::generate::hexed;
-use second::tokens::{tokens, Token};
+use second::tokens::tokens;
 use second::{check, fold, listing, Refusal};
 use std::collections::HashMap;
 
@@ -263,15 +263,20 @@ fn column(text: &str, at: usize) -> String {
     rows(text).split(' ').map(|row| &row[at..at + 1]).collect()
 }
 
+const CHAIN: &str = "m { Shift { V { c = #; } } }";
+const FREE: &str = "m { Shift { V { d = #; } } }";
+
+/// What an argument of these macros gives its signal, by the signal's number.
+fn gives(macros: &str, signal: usize, data: &str, due: &str) {
+    let text = of(macros, &format!("Macro m {{ {data} }}"));
+    assert_eq!(check(text.as_bytes()).err(), None, "{data}");
+    assert_eq!(column(&text, signal), due, "{data}");
+}
+
 #[test]
-fn arguments() {
-    let c = "m { Shift { V { c = #; } } }";
-    let chain = |data: &str, due: &str| {
-        let text = of(c, &format!("Macro m {{ {data} }}"));
-        assert_eq!(check(text.as_bytes()).err(), None, "{data}");
-        assert_eq!(column(&text, 2), due, "{data}");
-    };
-    let fails = |data: &str, number: u8| judge(c, &format!("Macro m {{ {data} }}"), Err(number));
+fn arguments_with_a_length() {
+    let chain = |data: &str, due: &str| gives(CHAIN, 2, data, due);
+    let fails = |data: &str, number: u8| judge(CHAIN, &format!("Macro m {{ {data} }}"), Err(number));
     // Seven are due: of two digits one character is dropped.
     chain("s = 55;", "1010101");
     chain("s = 7 \\e LHT;", "0111LHT");
@@ -292,21 +297,31 @@ fn arguments() {
     fails("z = 28«;", 12);
     // By the signal's own name it is plain, and of any length.
     chain("c = 01L;", "01L");
-    // Without N any length, and nothing is dropped.
-    let d = "m { Shift { V { d = #; } } }";
-    for (data, due) in
-        [("r = 05;", "00000101"), ("r = ;", ""), ("r = 0 \\e 1;", "00001"), ("x = 02;", "LLLT"), ("r = \\e ;", "")]
-    {
-        let text = of(d, &format!("Macro m {{ {data} }}  V {{ d = X; }}"));
-        assert_eq!(check(text.as_bytes()).err(), None, "{data}");
-        assert_eq!(column(&text, 3), format!("{due}X"), "{data}");
+    // A group of more is no argument's.
+    judge(CHAIN, "Macro m { «b9 = 000; }", Err(13));
+}
+
+/// Without N any length, and nothing is dropped.
+#[test]
+fn arguments_of_any_length() {
+    let free = |data: &str, due: &str| gives(FREE, 3, data, due);
+    free("r = 05;", "00000101");
+    free("r = 0 \\e 1;", "00001");
+    free("x = 02;", "LLLT");
+    for data in ["r = ;", "r = \\e ;"] {
+        let text = of(FREE, &format!("Macro m {{ {data} }} V {{ d = X; }}"));
+        assert_eq!(column(&text, 3), "X", "{data}");
     }
-    // Lengths count characters after this: 4,096 at most, and against the uses of `#`.
-    let text = of(d, "Macro m { r = \\r1024 A; }");
+}
+
+/// Lengths count characters after this: 4,096 at most, and against the uses of `#`.
+#[test]
+fn arguments_are_counted_in_characters() {
+    let text = of(FREE, "Macro m { r = \\r1024 A; }");
     assert_eq!(check(text.as_bytes()).map(|sum| sum.cycles), Ok(4_096));
-    judge(d, "Macro m { r = \\r1024 A 0«; }", Err(12));
-    judge(d, "Macro m { r = \\r1024 A \\e 0«; }", Err(12));
-    judge(d, "Macro m { x = \\r2049 A«; }", Err(12));
+    judge(FREE, "Macro m { r = \\r1024 A 0«; }", Err(12));
+    judge(FREE, "Macro m { r = \\r1024 A \\e 0«; }", Err(12));
+    judge(FREE, "Macro m { x = \\r2049 A«; }", Err(12));
     judge("m { V { d = #; } V { d = #; } }", "Macro m { x = 1; }", Ok("...L..... ...H....."));
     judge("m { V { d = #; } V { d = #; } }", "Macro m { r = 1; «}", Err(13));
     judge(
@@ -315,8 +330,6 @@ fn arguments() {
         Ok("..1...... ..0...... ..1...... ..0...... ..1...... ..0...... ..1......"),
     );
     judge("m { Shift { V { c = #; d = #; } } }", "Macro m { s = 55; r = 55; «}", Err(13));
-    // A group of more is no argument's.
-    judge(c, "Macro m { «b9 = 000; }", Err(13));
 }
 
 #[test]
@@ -344,70 +357,112 @@ struct Base {
     signals: usize,
 }
 
+impl Base {
+    /// How many bits a character stands for.
+    fn bits(&self) -> usize {
+        if self.chars.len() == 2 {
+            1
+        } else {
+            2
+        }
+    }
+}
+
 /// The same text without hex: bases become `;`, and the data on them is spelled out as plain characters. None where a rule of the request is broken.
 fn spelled(text: &[u8]) -> Option<Vec<u8>> {
-    let all: Vec<Token> = tokens(text, 0).collect();
-    let word = |at: usize| all.get(at).map_or(&b""[..], |token| token.bytes(text));
-    let mut bases: HashMap<&[u8], Base> = HashMap::new();
-    let mut members: HashMap<&[u8], usize> = HashMap::new();
-    let mut made: Vec<u8> = Vec::new();
-    let (mut at, mut in_use, mut opened) = (0, false, 0);
-    while at < all.len() {
-        let token = word(at);
-        // A group with its base: the sum of its terms' signals, less those of removed ones.
-        if token == b"=" && word(at + 1) == b"'" {
-            let end = (at + 2..all.len()).find(|&end| word(end) == b"'")?;
-            let count = |name: &[u8]| members.get(name).copied().unwrap_or(1) as i64;
-            let sign = |term: usize| if word(term - 1) == b"-" { -1 } else { 1 };
-            let signals: i64 = (at + 2..end).step_by(2).map(|term| sign(term) * count(word(term))).sum();
-            let name = word(at - 1);
-            members.insert(name, signals as usize);
-            (at..=end).for_each(|part| made.extend([word(part), b" "].concat()));
-            at = end + 1;
-            if word(at) == b"{" {
-                let close = (at..all.len()).find(|&close| word(close) == b"}")?;
-                let number = || String::from_utf8_lossy(word(at + 2)).parse().unwrap_or(0);
-                let scan = (word(at + 1) != b"Base").then(number);
-                let chars = word(close - 2);
-                let twice = (1..chars.len()).any(|at| chars[..at].contains(&chars[at]));
-                let long = if scan.is_some() { 8 } else { 5 };
-                if close != at + long || twice || !(2..=4).contains(&chars.len()) || chars.contains(&b'_') {
-                    return None;
-                }
-                bases.insert(name, Base { chars: chars.to_vec(), scan, signals: signals as usize });
-                made.extend_from_slice(b"; ");
-                at = close + 1;
-            }
+    let words = tokens(text, 0).map(|token| token.bytes(text)).collect();
+    let mut spelling = Spelling { words, at: 0, bases: HashMap::new(), members: HashMap::new(), made: Vec::new() };
+    let (mut in_use, mut opened) = (false, 0);
+    while spelling.at < spelling.words.len() {
+        let token = spelling.word(spelling.at);
+        if token == b"=" && spelling.word(spelling.at + 1) == b"'" {
+            spelling.group()?;
             continue;
         }
         if token == b"Macro" || token == b"Call" {
-            in_use = true;
-            opened = 0;
+            (in_use, opened) = (true, 0);
         }
         if in_use {
             opened += usize::from(token == b"{");
             in_use = !(token == b"}" || (token == b";" && opened == 0));
         }
-        made.extend_from_slice(token);
-        made.push(b' ');
-        if token == b"=" && bases.contains_key(word(at - 1)) {
-            let end = (at..all.len()).find(|&end| word(end) == b";")?;
-            let data: Vec<&[u8]> = (at + 1..end).map(word).collect();
-            let base = &bases[word(at - 1)];
-            let due = if in_use { base.scan } else { Some(base.signals) };
-            made.extend(spell(&data, base, due)?);
-            made.push(b' ');
-            at = end;
-            continue;
+        let name = spelling.word(spelling.at.wrapping_sub(1));
+        spelling.keep(spelling.at + 1);
+        if token == b"=" && spelling.bases.contains_key(name) {
+            spelling.data(name, in_use)?;
         }
-        at += 1;
     }
-    Some(made)
+    Some(spelling.made)
+}
+
+struct Spelling<'t> {
+    words: Vec<&'t [u8]>,
+    at: usize,
+    bases: HashMap<&'t [u8], Base>,
+    /// How many signals each group has.
+    members: HashMap<&'t [u8], usize>,
+    made: Vec<u8>,
+}
+
+impl<'t> Spelling<'t> {
+    fn word(&self, at: usize) -> &'t [u8] {
+        self.words.get(at).copied().unwrap_or_default()
+    }
+
+    /// The words up to `end` as they are.
+    fn keep(&mut self, end: usize) {
+        (self.at..end).for_each(|at| self.made.extend([self.word(at), b" "].concat()));
+        self.at = end;
+    }
+
+    fn find(&self, word: &[u8], from: usize) -> Option<usize> {
+        (from..self.words.len()).find(|&at| self.word(at) == word)
+    }
+
+    /// A group with its base: the sum of its terms' signals, less those of removed ones.
+    fn group(&mut self) -> Option<()> {
+        let (name, first) = (self.word(self.at - 1), self.at + 2);
+        let end = self.find(b"'", first)?;
+        let count = |name: &[u8]| self.members.get(name).copied().unwrap_or(1) as i64;
+        let sign = |term: usize| if self.word(term - 1) == b"-" { -1 } else { 1 };
+        let signals: i64 = (first..end).step_by(2).map(|term| sign(term) * count(self.word(term))).sum();
+        self.members.insert(name, signals as usize);
+        self.keep(end + 1);
+        if self.word(self.at) == b"{" {
+            let base = self.base(signals as usize)?;
+            self.bases.insert(name, base);
+            self.made.extend_from_slice(b"; ");
+        }
+        Some(())
+    }
+
+    fn base(&mut self, signals: usize) -> Option<Base> {
+        let close = self.find(b"}", self.at)?;
+        let number = || String::from_utf8_lossy(self.word(self.at + 2)).parse().unwrap_or(0);
+        let scan = (self.word(self.at + 1) != b"Base").then(number);
+        let chars = self.word(close - 2);
+        let twice = (1..chars.len()).any(|at| chars[..at].contains(&chars[at]));
+        let long = if scan.is_some() { 8 } else { 5 };
+        if close != self.at + long || twice || !(2..=4).contains(&chars.len()) || chars.contains(&b'_') {
+            return None;
+        }
+        self.at = close + 1;
+        Some(Base { chars: chars.to_vec(), scan, signals })
+    }
+
+    fn data(&mut self, name: &[u8], in_use: bool) -> Option<()> {
+        let end = self.find(b";", self.at)?;
+        let base = &self.bases[name];
+        let due = if in_use { base.scan } else { Some(base.signals) };
+        self.made.extend(spell(&self.words[self.at..end], base, due)?);
+        self.made.push(b' ');
+        self.at = end;
+        Some(())
+    }
 }
 
 /// Bit by bit, as the request says it.
 fn spell(data: &[&[u8]], base: &Base, due: Option<usize>) -> Option<Vec<u8>> {
-    let bits = if base.chars.len() == 2 { 1 } else { 2 };
     let (mut made, mut of_hex, mut plain, mut at) = (Vec::new(), 0, false, 0);
     while at < data.len() {
         let mut times = 1;
@@ -422,35 +477,27 @@ fn spell(data: &[&[u8]], base: &Base, due: Option<usize>) -> Option<Vec<u8>> {
         }
         let word = data.get(at)?;
         at += 1;
-        if word == b"#" {
-            if !plain || of_hex > 0 || times != 1 {
-                return None;
-            }
-            made.push(b'#');
-            continue;
+        if word == b"#" && (!plain || of_hex > 0 || times != 1) {
+            return None;
         }
-        for _ in 0..times {
-            if plain {
-                made.extend_from_slice(word);
-                continue;
-            }
-            let mut string = String::new();
-            for &digit in *word {
-                string += &format!("{:04b}", u8::from_str_radix(&(digit as char).to_string(), 16).ok()?);
-            }
-            for part in string.as_bytes().chunks(bits) {
-                let value = usize::from_str_radix(std::str::from_utf8(part).ok()?, 2).ok()?;
-                made.push(*base.chars.get(value)?);
-                of_hex += 1;
-            }
-        }
+        let spelled = if plain { word.to_vec() } else { characters(word, base)? };
+        of_hex += if plain { 0 } else { times * spelled.len() };
+        made.extend(spelled.repeat(times));
     }
-    let due = due.unwrap_or(made.len());
-    let surplus = made.len().checked_sub(due)?;
-    let dropped = &made[..surplus];
-    let fits = surplus == 0
-        || (surplus < 4 / bits && surplus <= of_hex && dropped.iter().all(|&character| character == base.chars[0]));
+    let surplus = made.len().checked_sub(due.unwrap_or(made.len()))?;
+    let all_zero = made[..surplus].iter().all(|&character| character == base.chars[0]);
+    let fits = surplus == 0 || (surplus < 4 / base.bits() && surplus <= of_hex && all_zero);
     fits.then(|| made[surplus..].to_vec())
+}
+
+/// What the digits of a word stand for.
+fn characters(word: &[u8], base: &Base) -> Option<Vec<u8>> {
+    let mut bits = String::new();
+    for &digit in word {
+        bits += &format!("{:04b}", u8::from_str_radix(&(digit as char).to_string(), 16).ok()?);
+    }
+    let value = |part: &[u8]| usize::from_str_radix(&String::from_utf8_lossy(part), 2).ok();
+    bits.as_bytes().chunks(base.bits()).map(|part| base.chars.get(value(part)?).copied()).collect()
 }
 
 #[test]

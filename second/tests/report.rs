@@ -329,21 +329,27 @@ impl<'d> Plain<'d> {
     }
 }
 
+/// The pattern of this name with the run's cycles before it, if it is listed exactly once.
+fn listed_once<'d>(document: &'d Document<'d>, name: &[u8]) -> Option<(u64, Plain<'d>)> {
+    let (mut first, mut found) = (0, Vec::new());
+    for &pattern in &document.run {
+        let mut plain = Plain { document, cycles: 0, marks: HashMap::new() };
+        plain.play(document.patterns[pattern].statements, 0);
+        let end = first + plain.cycles;
+        if document.headings[pattern].name.bytes(document.text) == name {
+            found.push((first, plain));
+        }
+        first = end;
+    }
+    found.pop().filter(|_| found.is_empty())
+}
+
 /// What a report that reads well says, by its tokens alone.
 fn plainly(document: &Document, given: &[u8]) -> Result<Vec<Fail>, Refusal> {
     let words: Vec<_> = tokens(given, 0).collect();
     let bytes = |at: usize| words[at].bytes(given);
     let refuse = |at: usize| Refusal { number: 24, place: words[at].place.into() };
-    let (mut first, mut found) = (0, Vec::new());
-    for &pattern in &document.run {
-        let mut plain = Plain { document, cycles: 0, marks: HashMap::new() };
-        plain.play(document.patterns[pattern].statements, 0);
-        if document.headings[pattern].name.bytes(document.text) == bytes(3) {
-            found.push((first, plain.cycles, plain.marks));
-        }
-        first += plain.cycles;
-    }
-    let (first, cycles, marks) = if found.len() == 1 { found.remove(0) } else { return Err(refuse(3)) };
+    let (first, Plain { cycles, marks, .. }) = listed_once(document, bytes(3)).ok_or_else(|| refuse(3))?;
     let mut fails = Vec::new();
     let mut at = 7;
     while bytes(at) != b"}" {

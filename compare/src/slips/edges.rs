@@ -32,7 +32,6 @@ impl Slipping<'_> {
                 let earlier = before.filter(|token| token.bytes(text) == b"V").last()?;
                 return Some(told(Err(earlier.refuse(EVENTS_OUT_OF_ORDER))));
             }
-            Slip::EdgesTimesUnsigned => return None,
             _ if unplayed.extent.cycles < MOST_CYCLES => {
                 let accepts = self.in_order(&unplayed);
                 if !accepts && failing.is_none() {

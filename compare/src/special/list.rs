@@ -3,7 +3,7 @@
 use super::Due::{Accepted, Refused};
 use super::Special;
 
-pub(super) const SPECIAL: [Special; 61] = [
+pub(super) const SPECIAL: [Special; 66] = [
     Special {
         why: "a value of the first turn's end fails in the second",
         bodies: "",
@@ -426,6 +426,41 @@ pub(super) const SPECIAL: [Special; 61] = [
         list: "p; q; p;",
         patterns: "Pattern p { } Pattern q { W t0; C { A = x; } Loop 5 { Call e; } }",
         due: Accepted(3, 0, 7),
+    },
+    Special {
+        why: "the third turn is the first that an earlier one may not come before",
+        bodies: "",
+        list: "p;",
+        patterns: "Pattern p { W t0; Loop 3 { «V { } C { D = y; } } }",
+        due: Refused(25),
+    },
+    Special {
+        why: "of two turns the first has no event to come before the second's",
+        bodies: "",
+        list: "p;",
+        patterns: "Pattern p { W t0; Loop 2 { V { } C { D = y; } } }",
+        due: Accepted(1, 2, 5),
+    },
+    Special {
+        why: "a macro's V is the later cycle, behind a procedure without one",
+        bodies: "MacroDefs { m { «V { } } } Procedures { e { C { D = 0; } } }",
+        list: "p;",
+        patterns: "Pattern p { W t0; V { D = y; } Call e; Macro m; }",
+        due: Refused(25),
+    },
+    Special {
+        why: "no events of one category in neighbours: another category's, a procedure's cycle, another listed pattern's",
+        bodies: "Procedures { q { V { } } }",
+        list: "p; p;",
+        patterns: "Pattern p { W t0; V { D = y; } V { D = 0; } V { D = y; } Call q; V { } }",
+        due: Accepted(2, 10, 16),
+    },
+    Special {
+        why: "a cycle that fails with 17 comes before every pair",
+        bodies: "",
+        list: "p; q;",
+        patterns: "Pattern p { W t0; V { D = y; } V { } } Pattern q { «V { } }",
+        due: Refused(17),
     },
     Special {
         why: "something of everything, for windows at each cycle",

@@ -2,7 +2,7 @@
 use Prim.Native.Nat.{ℕ, _+_, _-_, _≤_, _<_}
 use native.Mathlib.Omega.{arith}
 use mathlib.Core.Path.{_≡_, refl, sym, _∙_, subst}
-use mathlib.Core.Bool.{Bool, true, false}
+use mathlib.Core.Bool.{Bool, true, false, true≢false}
 use mathlib.Core.List.{List}
 use lib.Dec.{ltb}
 use lib.ListN.{getD}
@@ -12,7 +12,6 @@ use Rattle.meaning.specs.Bounds.{signalsMost}
 use Rattle.meaning.specs.Body.{Args, Body}
 use Rattle.measures.specs.Uses.{Uses}
 use Rattle.arguments.specs.Supplied.{Supplied, blockSize, Idle, BlockFits, fitsAt}
-use Rattle.arguments.proofs.Lists.{differ}
 use Rattle.arguments.proofs.Counted.{fits-unused}
 
 module _ {row given : List ℕ} {from : ℕ} where
@@ -38,10 +37,10 @@ module _ {row given : List ℕ} {from : ℕ} where
 
 module _ {b : Body} {xs : Args} (t from : ℕ) where
   pub block-each : ((k : ℕ) → k < blockSize → fitsAt b xs t (from + k) ≡ true) → BlockFits b xs t from true
-  block-each h = record { each = λ e. h; other = λ e. absurd (differ e) }
+  block-each h = record { each = λ e. h; other = λ e. absurd (true≢false e) }
 
   pub block-not : (s : ℕ) → fitsAt b xs t s ≡ false → BlockFits b xs t from false
-  block-not s h = record { each = λ e. absurd (differ (sym e)); other = λ e. (s, h) }
+  block-not s h = record { each = λ e. absurd (true≢false (sym e)); other = λ e. (s, h) }
 
   pub block-idle : {text row given args : List ℕ} → Uses b row → Supplied text xs given args → from + blockSize ≤ signalsMost → Idle row given from blockSize
       → BlockFits b xs t from true

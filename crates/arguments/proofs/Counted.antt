@@ -4,7 +4,7 @@ use Prim.Native.Nat.{ℕ, _+_, _-_, _≤_, _<_, min}
 use native.Mathlib.Omega.{arith}
 use native.Mathlib.Nat.{add-zero}
 use mathlib.Core.Path.{_≡_, refl, sym, ap, _∙_}
-use mathlib.Core.Bool.{Bool, true, false, not, _&&_, _||_}
+use mathlib.Core.Bool.{Bool, true, false, not, _&&_, _||_, true≢false}
 use mathlib.Core.List.{List, [], _∷_, _++_}
 use lib.Dec.{eqb}
 use lib.ListN.{length, getD}
@@ -13,10 +13,11 @@ use Rattle.meaning.specs.Bounds.{signalsMost, argumentMost}
 use Rattle.meaning.specs.Lists.{has, count}
 use Rattle.meaning.specs.Body.{Args, Body, outside, shifting, argOf, supplied, lengthDue, fits}
 use Rattle.meaning.specs.Data.{assigned}
+use Rattle.meaning.proofs.Lists.{has-append}
 use Rattle.assigns.proofs.Table.{given-some, given-none}
 use Rattle.measures.specs.Uses.{usesCap, flag, Uses}
 use Rattle.arguments.specs.Supplied.{marksOf, Supplied, TurnsBy, no-shift, by-signal, fitsAt, Fits}
-use Rattle.arguments.proofs.Lists.{differ, has-append, has-behind, has-count, none-has}
+use Rattle.arguments.proofs.Lists.{has-behind, has-count, none-has}
 use Rattle.arguments.proofs.Fits.{arg-none, fits-given, fits-none, turns-by, fits-each, fits-all}
 
 -- two tests that say the same
@@ -167,7 +168,7 @@ module _ {text : List ℕ} {b : Body} {xs : Args} {row given args : List ℕ} (u
   -- all signals
   module _ {t : ℕ} (by : TurnsBy b xs t) where
     pub fits-not : (s : ℕ) → fitsAt b xs t s ≡ false → Fits b xs (record { fits = false; turns = t })
-    fits-not s h = record { told = sym (at (fits b xs) refl); turns-is = λ e. absurd (differ (sym e)) }
+    fits-not s h = record { told = sym (at (fits b xs) refl); turns-is = λ e. absurd (true≢false (sym e)) }
       where
         at : (z : Bool) → fits b xs ≡ z → z ≡ false
         at true e = sym (fits-each b xs by e s) ∙ h

@@ -2,17 +2,17 @@
 use Prim.Native.Nat.{ℕ, _+_, _-_, _<_}
 use native.Mathlib.Omega.{arith}
 use mathlib.Core.Path.{_≡_, refl, sym, ap, _∙_, subst}
-use mathlib.Core.Bool.{Bool, true, false, not, _&&_, _||_}
+use mathlib.Core.Bool.{Bool, true, false, not, _&&_, _||_, true≢false}
 use mathlib.Core.List.{List, [], _∷_, _++_}
 use lib.Dec.{eqb}
 use lib.ListN.{length}
 use borrow.Author.Tests.{eq-eqb, ne-eqb, eqb-true, not-true}
+use Rattle.tokens.proofs.Bools.{both, neither}
 use Rattle.meaning.specs.Bounds.{signalsMost}
 use Rattle.meaning.specs.Lists.{has, inside, count, repeats}
 use Rattle.meaning.specs.Body.{Args, Body, outside, shifting, argOf, supplied, turns, lengthDue, lengthsFit, fits}
-use Rattle.assigns.proofs.Table.{or-false}
 use Rattle.arguments.specs.Supplied.{TurnsBy, no-shift, by-signal, fitsAt}
-use Rattle.arguments.proofs.Lists.{differ, both, has-behind, inside-each, inside-all}
+use Rattle.arguments.proofs.Lists.{has-behind, inside-each, inside-all}
 
 -- ---- lengths
 
@@ -28,12 +28,12 @@ arg-later x xs s e = rw (e, argOf)
 pub arg-none : (s : ℕ) (xs : Args) → has s (supplied xs) ≡ false → argOf s xs ≡ []
 unfolding argOf supplied has
 arg-none s [] h = refl
-arg-none s (x ∷ xs) h = let p = or-false (eqb (x .0) s) (has s (supplied xs)) h in arg-later x xs s (p .0) ∙ arg-none s xs (p .1)
+arg-none s (x ∷ xs) h = let p = neither (eqb (x .0) s) (has s (supplied xs)) h in arg-later x xs s (p .0) ∙ arg-none s xs (p .1)
 
 module _ (b : Body) (t : ℕ) where
   lengths-each : (xs : Args) → lengthsFit b t xs ≡ true → (s : ℕ) → has s (supplied xs) ≡ true → length (argOf s xs) ≡ lengthDue b t s
   unfolding lengthsFit argOf supplied has
-  lengths-each [] h s e = absurd (differ (sym e))
+  lengths-each [] h s e = absurd (true≢false (sym e))
   lengths-each (x ∷ xs) h s e = by (eqb (x .0) s) refl e (lengths-each xs (p .1) s)
     where
       p : (eqb (length (x .1)) (lengthDue b t (x .0)) ≡ true) × (lengthsFit b t xs ≡ true)
@@ -51,14 +51,14 @@ module _ (b : Body) (t : ℕ) where
   lengths-all (x ∷ xs) once h = rw (eq-eqb _ _ first, lengths-all xs (p .1) later)
     where
       p : (has (x .0) (supplied xs) ≡ false) × (repeats (supplied xs) ≡ false)
-      p = or-false _ _ once
+      p = neither _ _ once
 
       first : length (x .1) ≡ lengthDue b t (x .0)
       first = ap length (sym (arg-first x xs)) ∙ h (x .0) (rw (eq-eqb (x .0) (x .0) refl))
 
       later : (s : ℕ) → has s (supplied xs) ≡ true → length (argOf s xs) ≡ lengthDue b t s
       later s e =
-          let q : eqb (x .0) s ≡ false = ne-eqb (x .0) s (λ z. differ (sym e ∙ subst (λ (n : ℕ). has n (supplied xs) ≡ false) z (p .0))) in
+          let q : eqb (x .0) s ≡ false = ne-eqb (x .0) s (λ z. true≢false (sym e ∙ subst (λ (n : ℕ). has n (supplied xs) ≡ false) z (p .0))) in
           ap length (sym (arg-later x xs s q)) ∙ h s (rw (q, e))
 
 -- ---- each signal fits, where the Shift plays t times
@@ -101,8 +101,8 @@ module _ (b : Body) (xs : Args) where
   same-turns : (t u v : ℕ) → AllFit b xs t → TurnsBy b xs u → TurnsBy b xs v → u ≡ v
   unfolding has
   same-turns t u v h (no-shift e p) (no-shift f q) = p ∙ sym q
-  same-turns t u v h (no-shift e p) (by-signal s f q) = absurd (differ (sym f ∙ ap (has s) e))
-  same-turns t u v h (by-signal s f q) (no-shift e p) = absurd (differ (sym f ∙ ap (has s) e))
+  same-turns t u v h (no-shift e p) (by-signal s f q) = absurd (true≢false (sym f ∙ ap (has s) e))
+  same-turns t u v h (by-signal s f q) (no-shift e p) = absurd (true≢false (sym f ∙ ap (has s) e))
   same-turns t u v h (by-signal s e p) (by-signal r f q) = p ∙ turns-fit t s h e ∙ sym (q ∙ turns-fit t r h f)
 
   -- the definition takes the first in the order of the text
@@ -139,7 +139,7 @@ module _ (b : Body) (xs : Args) where
         h = all-fit t (sym fits-by ∙ e)
 
         without : (y : Bool) → has s (supplied xs) ≡ false → has s (outside b ++ shifting b) ≡ y → not y ≡ true
-        without true p q = absurd (differ (sym (h .needed s q) ∙ p))
+        without true p q = absurd (true≢false (sym (h .needed s q) ∙ p))
         without false p q = refl
 
         at : (x : Bool) → has s (supplied xs) ≡ x → fitsAt b xs t s ≡ true
@@ -157,4 +157,4 @@ module _ (b : Body) (xs : Args) where
       where
         need : (s : ℕ) → has s (outside b ++ shifting b) ≡ true → (x : Bool) → has s (supplied xs) ≡ x → x ≡ true
         need s e true p = refl
-        need s e false p = absurd (differ (sym e ∙ not-true _ (sym (fits-none b xs t s p) ∙ each s (used s e))))
+        need s e false p = absurd (true≢false (sym e ∙ not-true _ (sym (fits-none b xs t s p) ∙ each s (used s e))))

@@ -2,36 +2,18 @@
 use Prim.Native.Nat.{ℕ, suc}
 use native.Mathlib.Omega.{arith}
 use mathlib.Core.Path.{_≡_, refl, sym, ap, _∙_, subst}
-use mathlib.Core.Bool.{Bool, true, false, not, _&&_, _||_}
+use mathlib.Core.Bool.{Bool, true, false, not, _||_, true≢false, or-true}
 use mathlib.Core.List.{List, [], _∷_, _++_}
 use lib.Dec.{eqb}
 use borrow.Author.Tests.{eq-eqb, ne-eqb, eqb-true}
+use Rattle.tokens.proofs.Bools.{both}
 use Rattle.meaning.specs.Lists.{has, inside, count}
-
-pub differ : true ≡ false → ⊥
-differ e = let z : _≡_ {A = ℕ} 0 1 = cc in omega arith
-
-pub both : (x y : Bool) → (x && y) ≡ true → (x ≡ true) × (y ≡ true)
-both true y h = (refl, h)
-both false y h = absurd (differ (sym h))
+use Rattle.meaning.proofs.Lists.{has-append}
 
 -- ---- a number stands in a list
 
-pub has-append : (s : ℕ) (l m : List ℕ) → has s (l ++ m) ≡ (has s l || has s m)
-unfolding has
-has-append s [] m = refl
-has-append s (x ∷ l) m = by (eqb x s) (has-append s l m)
-  where
-    by : (b : Bool) → has s (l ++ m) ≡ (has s l || has s m) → (b || has s (l ++ m)) ≡ ((b || has s l) || has s m)
-    by true ih = refl
-    by false ih = ih
-
 pub has-behind : (s : ℕ) (l m : List ℕ) → has s m ≡ true → has s (l ++ m) ≡ true
 has-behind s l m e = has-append s l m ∙ rw e (or-true (has s l))
-  where
-    or-true : (z : Bool) → (z || true) ≡ true
-    or-true true = refl
-    or-true false = refl
 
 -- as often as it is counted
 pub has-count : (s : ℕ) (l : List ℕ) → has s l ≡ not (eqb (count s l) 0)
@@ -46,13 +28,13 @@ has-count s (x ∷ l) = by (eqb x s) (has-count s l)
 pub none-has : (l : List ℕ) → ((s : ℕ) → has s l ≡ false) → l ≡ []
 unfolding has
 none-has [] h = refl
-none-has (x ∷ l) h = absurd (differ (sym (rw (eq-eqb x x refl)) ∙ h x))
+none-has (x ∷ l) h = absurd (true≢false (sym (rw (eq-eqb x x refl)) ∙ h x))
 
 -- ---- one list inside another
 
 pub inside-each : (l m : List ℕ) → inside l m ≡ true → (s : ℕ) → has s l ≡ true → has s m ≡ true
 unfolding inside has
-inside-each [] m h s e = absurd (differ (sym e))
+inside-each [] m h s e = absurd (true≢false (sym e))
 inside-each (x ∷ l) m h s e = let p = both (has x m) (inside l m) h in by (eqb x s) refl e (inside-each l m (p .1) s)
   where
     by : (b : Bool) → eqb x s ≡ b → (b || has s l) ≡ true → (has s l ≡ true → has s m ≡ true) → has s m ≡ true

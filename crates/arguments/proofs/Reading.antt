@@ -2,12 +2,13 @@
 use Prim.Native.Nat.{ℕ, _+_, _*_}
 use native.Mathlib.Omega.{arith}
 use mathlib.Core.Path.{_≡_, refl, sym, ap, _∙_}
-use mathlib.Core.Bool.{Bool, true, false, not, _&&_, _||_}
+use mathlib.Core.Bool.{Bool, true, false, not, _&&_, _||_, true≢false}
 use mathlib.Core.List.{List, [], _∷_, _++_}
 use lib.Dec.{ltb}
 use lib.ListN.{length, getD, set}
 use borrow.Author.Tests.{ltb-false, eqb-true}
 use Rattle.tokens.specs.Written.{bytes}
+use Rattle.tokens.proofs.Bools.{both, neither}
 use Rattle.meaning.specs.Bounds.{signalsMost, argumentMost}
 use Rattle.meaning.specs.Refusals.{badData, badArgument}
 use Rattle.meaning.specs.Lists.{has, meets, inside}
@@ -27,10 +28,8 @@ use Rattle.timing.proofs.Making.{made}
 use Rattle.data.specs.Filled.{Fills}
 use Rattle.data.proofs.Held.{held-count, length-most}
 use Rattle.assigns.specs.Given.{Gave, Ready}
-use Rattle.assigns.proofs.Table.{or-false}
 use Rattle.measures.specs.Uses.{Uses}
 use Rattle.arguments.specs.Supplied.{marksOf, Argument, Supplied, UsedRow}
-use Rattle.arguments.proofs.Lists.{differ, both}
 use Rattle.arguments.proofs.Counted.{marks-assigned}
 use Rattle.arguments.proofs.Named.{one-is, one-below}
 use Rattle.arguments.proofs.Read.{due-behind}
@@ -98,7 +97,7 @@ pub unknown : {text places lists : List ℕ} {count : ℕ} {c a : Cursor} {i : �
     → Makes text c (argument (namesOf text places lists count) b xs) a P
 unfolding argument
 unknown {text} {places} {lists} {count} b xs ready name off =
-    made (then _ (old-named (listAt lists) (names text places count) name) (stays {a = xs} off)) λ live. absurd (differ (sym live ∙ off))
+    made (then _ (old-named (listAt lists) (names text places count) name) (stays {a = xs} off)) λ live. absurd (true≢false (sym live ∙ off))
 
 module _ {text places lists : List ℕ} {count : ℕ} {c d : Cursor} {i : ℕ} {twice suits : Bool}
     (nam : Naming text places lists count c d i twice suits) where
@@ -109,7 +108,7 @@ module _ {text places lists : List ℕ} {count : ℕ} {c d : Cursor} {i : ℕ} {
       made
       (then _ (old-named (listAt lists) (names text places count) (nam .name))
       (then _ (checked (nam .once) (t .met) refl) (then _ (checked (nam .suited) (t .other) refl) (stays {a = xs} off))))
-      λ live. absurd (differ (sym live ∙ off))
+      λ live. absurd (true≢false (sym live ∙ off))
 
   module _ {r : Cursor} {n : ℕ} (x : Data text d r n) {b : Body} {xs : Args} (t : Tests (listAt lists i) twice suits b xs) where
     all-read : Goes text c (argument (namesOf text places lists count) b xs) r (xs ++ argFor (listAt lists i) (x .fills .cs))
@@ -122,7 +121,7 @@ module _ {text places lists : List ℕ} {count : ℕ} {c d : Cursor} {i : ℕ} {
         (then _ (x .fills .goes) (then _ (length-most (x .fills) argumentMost (omega arith) (x .few) refl refl) given)))))
 
     pub refused : {P : Args → Type 0} → alive r ≡ false → Makes text c (argument (namesOf text places lists count) b xs) r P
-    refused off = made all-read λ live. absurd (differ (sym live ∙ off))
+    refused off = made all-read λ live. absurd (true≢false (sym live ∙ off))
 
     pub done : {given args : List ℕ} → alive r ≡ true → length (listAt lists i) ≡ 1 → TidyBelow signalsMost (listAt lists i) → Supplied text xs given args
         → Makes text c (argument (namesOf text places lists count) b xs) r
@@ -134,5 +133,5 @@ module _ {text places lists : List ℕ} {count : ℕ} {c d : Cursor} {i : ℕ} {
         let is : listAt lists i ≡ s ∷ [] = one-is lists i one in
         let on = alive-before (x .due-goes) (alive-before (x .fills .goes) (alive-before (checked {text = text} (x .few) refl refl) live)) in
         let free = sym (t .met) ∙ passed (nam .once) refl (alive-before (checked {text = text} (nam .suited) refl refl) on) in
-        let new = or-false (has s (supplied xs)) false (ap (λ (l : List ℕ). meets l (supplied xs)) (sym is) ∙ free) .0 in
+        let new = neither (has s (supplied xs)) false (ap (λ (l : List ℕ). meets l (supplied xs)) (sym is) ∙ free) .0 in
         made all-read λ h. rw is (supplied-more new (one-below lists i one tidy) sup (data-at x live))

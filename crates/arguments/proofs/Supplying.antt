@@ -2,21 +2,22 @@
 use Prim.Native.Nat.{ℕ, _+_, _*_, _<_}
 use native.Mathlib.Omega.{arith}
 use mathlib.Core.Path.{_≡_, refl, sym, ap, _∙_, subst}
-use mathlib.Core.Bool.{Bool, true, false, _||_}
+use mathlib.Core.Bool.{Bool, true, false, _||_, true≢false}
 use mathlib.Core.List.{List, [], _∷_, _++_}
 use lib.Dec.{eqb}
 use lib.ListN.{length, getD, set, length-set}
 use lib.Seq.{getD-set-same, getD-set-other}
 use borrow.Author.Tests.{eq-eqb, ne-eqb, eqb-true, eqb-false}
+use Rattle.tokens.proofs.Bools.{neither}
 use Rattle.meaning.specs.Bounds.{signalsMost}
 use Rattle.meaning.specs.Lists.{has, meets, repeats}
 use Rattle.meaning.specs.Body.{Assigns, Args, argOf, supplied}
 use Rattle.meaning.specs.Data.{paired, assigned}
+use Rattle.meaning.proofs.Lists.{has-append}
 use Rattle.sets.proofs.Tidy.{tidy-single}
 use Rattle.assigns.specs.Given.{Gave, placed}
-use Rattle.assigns.proofs.Table.{or-false, gave-more}
+use Rattle.assigns.proofs.Table.{gave-more}
 use Rattle.arguments.specs.Supplied.{marksOf, Argument, Supplied}
-use Rattle.arguments.proofs.Lists.{differ, has-append}
 use Rattle.arguments.proofs.Fits.{arg-later}
 use Rattle.arguments.proofs.Counted.{marks-assigned}
 
@@ -25,7 +26,7 @@ use Rattle.arguments.proofs.Counted.{marks-assigned}
 pub supplied-none : {text given args : List ℕ} → Gave [] given → length args ≡ signalsMost * 2 → Supplied text [] given args
 unfolding marksOf supplied has repeats
 supplied-none g l =
-    record { gave = g; long = l; once = refl; below = λ s e. absurd (differ (sym e)); each = λ s e. absurd (differ (sym e)) }
+    record { gave = g; long = l; once = refl; below = λ s e. absurd (true≢false (sym e)); each = λ s e. absurd (true≢false (sym e)) }
 
 -- ---- one more
 
@@ -41,7 +42,7 @@ supplied-append (x ∷ xs) ys = ap (λ (l : List ℕ). x .0 ∷ l) (supplied-app
 
 arg-old : (t : ℕ) (xs ys : Args) → has t (supplied xs) ≡ true → argOf t (xs ++ ys) ≡ argOf t xs
 unfolding argOf supplied has
-arg-old t [] ys h = absurd (differ (sym h))
+arg-old t [] ys h = absurd (true≢false (sym h))
 arg-old t (x ∷ xs) ys h = by (eqb (x .0) t) h (arg-old t xs ys)
   where
     by : (z : Bool) → (z || has t (supplied xs)) ≡ true → (has t (supplied xs) ≡ true → argOf t (xs ++ ys) ≡ argOf t xs)
@@ -53,15 +54,15 @@ arg-new : (s : ℕ) (cs : List ℕ) (xs : Args) → has s (supplied xs) ≡ fals
 unfolding argOf supplied has
 arg-new s cs [] h = rw (eq-eqb s s refl, argOf)
 arg-new s cs (x ∷ xs) h =
-    let p = or-false (eqb (x .0) s) (has s (supplied xs)) h in
+    let p = neither (eqb (x .0) s) (has s (supplied xs)) h in
     arg-later x (xs ++ (s, cs) ∷ []) s (p .0) ∙ arg-new s cs xs (p .1)
 
 repeats-more : (s : ℕ) (l : List ℕ) → repeats l ≡ false → has s l ≡ false → repeats (l ++ s ∷ []) ≡ false
 unfolding repeats has
 repeats-more s [] h k = refl
 repeats-more s (x ∷ l) h k =
-    let p = or-false (has x l) (repeats l) h in
-    let q = or-false (eqb x s) (has s l) k in
+    let p = neither (has x l) (repeats l) h in
+    let q = neither (eqb x s) (has s l) k in
     let e : eqb s x ≡ false = ne-eqb s x (λ z. eqb-false x s (q .0) (sym z)) in
     rw (has-append x l (s ∷ []), p .0, e, repeats-more s l (p .1) (q .1))
 

@@ -6,7 +6,7 @@ use mathlib.Core.Bool.{Bool, true, false, not}
 use mathlib.Core.List.{List, _++_}
 use lib.Dec.{eqb}
 use lib.ListN.{length, take}
-use borrow.Author.Tests.{eqb-true}
+use borrow.Author.Tests.{eqb-true, not-false}
 use Rattle.meaning.specs.Bounds.{signalsMost}
 use Rattle.meaning.specs.Refusals.{badData}
 use Rattle.meaning.specs.Body.{Assigns}
@@ -14,7 +14,6 @@ use Rattle.meaning.specs.Lists.{has, meets}
 use Rattle.meaning.specs.Reader.{due}
 use Rattle.meaning.specs.Names.{oldName}
 use Rattle.meaning.specs.Data.{dataRead, paired, assigned, assign}
-use Rattle.meaning.proofs.Gives.{no-not}
 use Rattle.sets.proofs.Tidy.{TidyBelow}
 use Rattle.words.specs.declared.Cursor.{Cursor}
 use Rattle.words.specs.Cursor.{ahead as aheadTok, alive, Goes, Checked}
@@ -104,7 +103,7 @@ module _ {text places lists : List ℕ} {count : ℕ} {may : Bool} {c r : Cursor
   right (assign-read {n = n} name once equals fills same size) live room =
       let read = alive-before (checked {text = text} same refl refl) live in
       let exact : n ≡ length (listAt lists i) =
-      eqb-true n (length (listAt lists i)) (no-not (eqb n (length (listAt lists i))) (sym size ∙ passed same refl live)) in
+      eqb-true n (length (listAt lists i)) (not-false (eqb n (length (listAt lists i))) (sym size ∙ passed same refl live)) in
       record {
         once = passed once refl (alive-before equals (alive-before (fills .goes) read));
         front =

@@ -1,10 +1,11 @@
 -- For callers: what the blocks of names make ready, and what is known of a statement's assignments where nothing was refused.
 use Prim.Native.Nat.{ℕ, _<_}
 use mathlib.Core.Path.{_≡_, refl, sym, ap, _∙_}
-use mathlib.Core.Bool.{Bool, true, false, _||_}
+use mathlib.Core.Bool.{Bool, true, false, _||_, true≢false}
 use mathlib.Core.List.{List, [], _∷_}
 use lib.Dec.{eqb}
 use lib.ListN.{getD}
+use Rattle.tokens.proofs.Bools.{neither}
 use Rattle.meaning.specs.Bounds.{signalsMost}
 use Rattle.meaning.specs.Body.{Assigns, mark}
 use Rattle.meaning.specs.Lists.{has, repeats}
@@ -18,7 +19,6 @@ use Rattle.signals.specs.Names.{AllTidy, Fronted}
 use Rattle.signals.proofs.Tidy.{gave, declared-front, tidy-wider}
 use Rattle.signals.proofs.Tables.{known}
 use Rattle.assigns.specs.Given.{charOf, chars, Gives, Ready}
-use Rattle.assigns.proofs.Table.{differ, or-false}
 use Rattle.assigns.proofs.Read.{differ-assigns, tidy-once, no-mark-assigned, no-other-assigned}
 
 -- both blocks were read
@@ -35,7 +35,7 @@ ready {text} {c} {r} {places} {lists} {signals} {names} h live =
 char-not : (b s : ℕ) (xs : Assigns) → eqb 0 b ≡ false → has b (chars xs) ≡ false → eqb (charOf s xs) b ≡ false
 unfolding charOf chars has
 char-not b s [] z h = z
-char-not b s (x ∷ xs) z h = let p = or-false (eqb (x .1) b) (has b (chars xs)) h in by (eqb (x .0) s) (p .0) (char-not b s xs z (p .1))
+char-not b s (x ∷ xs) z h = let p = neither (eqb (x .1) b) (has b (chars xs)) h in by (eqb (x .0) s) (p .0) (char-not b s xs z (p .1))
   where
     by : (t : Bool) → eqb (x .1) b ≡ false → eqb (charOf s xs) b ≡ false → eqb (elim t [ true ↦ x .1 | false ↦ charOf s xs ]) b ≡ false
     by true e ih = e
@@ -59,4 +59,4 @@ all-written ns may g live b h = by (waveChar b || eqb mark b) refl
   where
     by : (z : Bool) → (waveChar b || eqb mark b) ≡ z → z ≡ true
     by true e = refl
-    by false e = absurd (differ (sym h ∙ gave (no-other-assigned b ns may e) (g .goes) live))
+    by false e = absurd (true≢false (sym h ∙ gave (no-other-assigned b ns may e) (g .goes) live))

@@ -7,7 +7,7 @@ use mathlib.Core.Option.{Option, some}
 use mathlib.Core.List.{List, [], _∷_, _++_}
 use lib.Dec.{eqb}
 use lib.ListN.{length}
-use borrow.Author.Tests.{eqb-true}
+use borrow.Author.Tests.{eqb-true, not-false}
 use Rattle.tokens.specs.Written.{same}
 use Rattle.tokens.specs.Tokens.{Tok}
 use Rattle.meaning.specs.Body.{Assigns, mark}
@@ -18,7 +18,7 @@ use Rattle.meaning.specs.Timing.{waveChar}
 use Rattle.meaning.specs.Data.{dataRead, paired, assigned, assign, assigns}
 use Rattle.meaning.proofs.Takes.{Takes}
 use Rattle.meaning.proofs.Taking.{takes-keeps, takes-due, takes-old, takes-bind, takes-until, keeps-bind, keeps-give, keeps-if}
-use Rattle.meaning.proofs.Gives.{no-not, Gives, gives-bind, gives-after, gives-give, gives-if, gives-until}
+use Rattle.meaning.proofs.Gives.{Gives, gives-bind, gives-after, gives-give, gives-if, gives-until}
 use Rattle.sets.proofs.Tidy.{TidyBelow, bare, next, tidy-append}
 use Rattle.signals.specs.Names.{AllTidy, none, more}
 use Rattle.signals.proofs.Tidy.{gives-known}
@@ -83,7 +83,7 @@ module _ {most : ℕ} (ns : Names) (m : Bool) (all : AllTidy most ns) where
       gives-bind (λ u. not (eqb (length (d .0)) (length (x .1))) ≡ false) Differ _ _ (gives-if _ _ _) λ v k.
       gives-give Differ _ (
       subst (TidyBelow most)
-      (sym (assigned-append xs (paired (x .1) (d .0)) ∙ ap (λ (l : List ℕ). assigned xs ++ l) (assigned-paired (x .1) (d .0) (eqb-true _ _ (no-not _ k)))))
+      (sym (assigned-append xs (paired (x .1) (d .0)) ∙ ap (λ (l : List ℕ). assigned xs ++ l) (assigned-paired (x .1) (d .0) (eqb-true _ _ (not-false _ k)))))
       (tidy-append h t e))
 
   -- no signal is assigned twice, and each is a signal of the text

@@ -1,12 +1,12 @@
 -- A name's row, read where it lies in the table: how long it is, its numbers, and one turn of a loop over them.
 use Prim.Native.Nat.{ℕ, zero, suc, _+_, _*_, _≤_, _<_, min}
 use native.Mathlib.Omega.{arith}
-use native.Mathlib.Numerals.{add-one}
 use mathlib.Core.Path.{_≡_, _∙_}
 use mathlib.Core.Bool.{true, false}
-use mathlib.Core.List.{List, _∷_}
+use mathlib.Core.List.{List}
 use lib.ListN.{length, getD, take, drop, set, length-take, length-drop, drop-of-length-le}
-use lib.Seq.{drop-cons, getD-take, getD-drop}
+use lib.Seq.{getD-take, getD-drop}
+use Rattle.tokens.proofs.Reading.{cut}
 use Rattle.meaning.specs.Bounds.{signalsMost}
 use Rattle.meaning.specs.Lists.{has, meets}
 use Rattle.sets.proofs.Tidy.{TidyBelow, bare, next}
@@ -63,17 +63,14 @@ module _ {lists given : List ℕ} {i : ℕ} (row : Row lists i given) (j : ℕ) 
 
 module _ (l : List ℕ) (j : ℕ) where
   module _ (h : j < length l) where
-    cut : drop j l ≡ getD l j 0 ∷ drop (j + 1) l
-    cut = rw (add-one, drop-cons l j 0 h)
-
     module _ (g : List ℕ) where
       pub meets-here : has (getD l j 0) g ≡ true → meets (drop j l) g ≡ true
       unfolding meets
-      meets-here e = rw cut (rw e)
+      meets-here e = rw (cut l j h) (rw e)
 
       pub meets-next : has (getD l j 0) g ≡ false → meets (drop j l) g ≡ meets (drop (j + 1) l) g
       unfolding meets
-      meets-next e = rw cut (rw e)
+      meets-next e = rw (cut l j h) (rw e)
 
   pub meets-end : length l ≤ j → (g : List ℕ) → meets (drop j l) g ≡ false
   unfolding meets

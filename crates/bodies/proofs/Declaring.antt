@@ -8,6 +8,7 @@ use lib.Dec.{leb}
 use lib.ListN.{length, replicate, length-append}
 use borrow.Author.Tests.{leb-false}
 use Rattle.tokens.specs.Tokens.{Tok, toks}
+use Rattle.tokens.proofs.Bools.{true-false}
 use Rattle.meaning.specs.Bounds.{bodiesMost, depthMost}
 use Rattle.meaning.specs.Refusals.{tooMany}
 use Rattle.meaning.specs.Reader.{_>>=_, give, due}
@@ -38,7 +39,6 @@ use Rattle.heads.proofs.ByNumber.{of-part, fromFirst, from-first}
 use Rattle.heads.proofs.Callers.{describes-frame}
 use Rattle.bodies.specs.Bodies.{Notes, Summed}
 use Rattle.bodies.specs.Blocks.{oneMore, oneOf, Declared}
-use Rattle.bodies.proofs.Stating.{differ}
 use Rattle.bodies.proofs.Noting.{knows-grow}
 use Rattle.bodies.proofs.Callers.{declared-made}
 
@@ -171,7 +171,7 @@ module _ {text places lists tplaces book rows : List ℕ} {known : Known} {e : E
       given)
 
   pub body-refused : {P : Env → Type 0} → alive r ≡ false → Makes text c (oneOf macros e) r P
-  body-refused off = made read-all (λ live. differ (sym live ∙ off))
+  body-refused off = made read-all (λ live. true-false live off)
 
   module _ (live : alive r ≡ true) where
     pub room-for : known .macros + known .procs < bodiesMost

@@ -3,8 +3,10 @@ use Prim.Native.Nat.{ℕ}
 use mathlib.Core.Path.{_≡_, refl, sym, ap, _∙_}
 use mathlib.Core.Bool.{Bool, true, false, not, _&&_}
 use mathlib.Core.List.{List}
+use borrow.Author.Tests.{not-true, not-false}
 use Rattle.tokens.specs.Written.{bytes}
 use Rattle.tokens.specs.Tokens.{Toks}
+use Rattle.tokens.proofs.Bools.{true-false}
 use Rattle.meaning.specs.Reader.{Res, Reader, after, _>>=_, give, ahead, aheadOf, due, ifAhead, option}
 use Rattle.meaning.specs.Statements.{Env}
 use Rattle.meaning.specs.Document.{macroDefs, procedures, bodies}
@@ -17,11 +19,9 @@ use Rattle.words.proofs.Flow.{from-on, from-stop, stays}
 use Rattle.words.proofs.Choice.{there, missing}
 use Rattle.timing.specs.Makes.{Makes, Brings}
 use Rattle.timing.proofs.Making.{made, makes-bind, first, first-then}
-use Rattle.meaning.proofs.Gives.{no-not}
 use Rattle.noted.specs.Known.{Knows}
 use Rattle.heads.specs.declared.Known.{Known}
 use Rattle.bodies.specs.Blocks.{wordOf, oneOf, opening, blockOf, Declared}
-use Rattle.bodies.proofs.Stating.{differ}
 
 pub takes-one : (macros : Bool) (e : Env) → Takes (oneOf macros e)
 unfolding oneOf
@@ -35,18 +35,14 @@ module _ {text places lists tplaces book rows used : List ℕ} {known : Known} {
       → Makes text c m r (Declared text places lists tplaces book′ rows′ known′ N used′)
   declared-then f = made (f .goes) (λ live. record { describes = f .held live .describes; knows = λ n. f .held live .knows (h .knows n) })
 
-is-false : (b : Bool) → not b ≡ true → b ≡ false
-is-false true h = sym h
-is-false false h = refl
-
 -- a block that may be missing
 module _ {text : List ℕ} {c : Cursor} {b : Bool} {P : Env → Type 0} (macros : Bool) (e : Env)
     (q : b ≡ (alive c && aheadOf (bytes (wordOf macros)) (stream text c))) where
   pub block-there : {r : Cursor} → not b ≡ false → Makes text c (blockOf macros e) r P → Makes text c (option (wordOf macros) (blockOf macros) e) r P
-  block-there h m = made (there (wordOf macros) (blockOf macros) e q (no-not b h) (m .goes)) (m .held)
+  block-there h m = made (there (wordOf macros) (blockOf macros) e q (not-false b h) (m .goes)) (m .held)
 
   pub block-missing : not b ≡ true → P e → Makes text c (option (wordOf macros) (blockOf macros) e) c P
-  block-missing h p = made (missing (wordOf macros) (blockOf macros) e q (is-false b h)) (λ live. p)
+  block-missing h p = made (missing (wordOf macros) (blockOf macros) e q (not-true b h)) (λ live. p)
 
 -- the word and `{` are read
 pub block-opened : {text : List ℕ} {c a r : Cursor} {p q : ℕ} (macros : Bool) (k : Reader Env) → Goes text c (due (wordOf macros)) a p
@@ -93,4 +89,4 @@ module _ {text : List ℕ} {c d : Cursor} {P Q : Env → Type 0} (z : Bool) (e :
 
   -- the first was refused
   pub block-refused : alive d ≡ false → Makes text c (bodies e) d P
-  block-refused off = both-blocks (made {a = e} (stays off) (λ live. differ (sym live ∙ off)))
+  block-refused off = both-blocks (made {a = e} (stays off) (λ live. true-false live off))

@@ -1,9 +1,10 @@
 -- One statement: what is said of it, whichever head it has.
 use Prim.Native.Nat.{ℕ, _-_, _<_}
 use native.Mathlib.Omega.{arith}
-use mathlib.Core.Path.{_≡_, sym, _∙_}
+use mathlib.Core.Path.{_≡_}
 use mathlib.Core.Bool.{Bool, true, false}
 use mathlib.Core.List.{List}
+use Rattle.tokens.proofs.Bools.{true-false}
 use Rattle.meaning.specs.Reader.{Reader}
 use Rattle.meaning.specs.Body.{Assigns, Setting, Args, Kind, looped, shifted, entered, Body, done, vec, set′, inner}
 use Rattle.meaning.specs.Statements.{Decl, Env, Head, ends, vecs, sets, loops, shifts, uses, head, inShift, statements}
@@ -25,9 +26,6 @@ use Rattle.bodies.specs.Bodies.{Counted, Summed, Held, rest, went, last,
 use Rattle.bodies.proofs.Turning.{turn-ends, turn-vecs, turn-sets, turn-uses, turn-loops, turn-shifts, deeper-goes}
 use Rattle.bodies.proofs.Allowed.{allowed-head}
 use Rattle.bodies.proofs.Rowing.{counted-none, counted-setting, counted-entered, counted-looped}
-
-pub differ : {A : Type 0} → true ≡ false → A
-differ e = let z : _≡_ {A = ℕ} 0 1 = cc in absurd (omega arith)
 
 -- one measure is that of statements, and others behind them
 abbrev pub Plus : Measure → Measure → Measure → Type 0
@@ -64,7 +62,7 @@ module _ {text : List ℕ} {e : Env} {own : Bool} {d : ℕ} {c : Cursor} {seen :
 
     -- it was refused
     pub turned-refused : {h : Head} → Goes text c (head e own d seen) b h → alive b ≡ false → Turned text e own d c seen x row (last b x) row N
-    turned-refused g off = turned-ends (valued g (λ live. differ (sym live ∙ off))) (λ live. differ (sym live ∙ off))
+    turned-refused g off = turned-ends (valued g (λ live. true-false live off)) (λ live. true-false live off)
 
     module _ {y z : Measure} (p : Plus x y z) where
       pub turned-vector : {row′ : List ℕ} {at : ℕ} {a : Assigns} → Goes text c (head e own d seen) b (vecs at a) → Measures (vec at a done) y
@@ -87,7 +85,7 @@ module _ {text : List ℕ} {e : Env} {own : Bool} {d : ℕ} {c : Cursor} {seen :
           turned-one (λ front. turn-shifts text e own d seen front g (m .goes))
           (λ l. less-within e own d seen g l (leaves-keeps (moves-leaves (moves-inShift (e .names)))) (m .goes)) p
           (λ l. (let h = m .held l in rw (h .is) (y-is (h .at) (h .assigns))))
-          (λ l. record { counts = λ o. m .held l .counts; stays = λ o. differ (sym (gave (allowed-head own d e seen) g live) ∙ o) })
+          (λ l. record { counts = λ o. m .held l .counts; stays = λ o. true-false (gave (allowed-head own d e seen) g live) o })
           (λ l. (let h = m .held l in rw (h .is) (n (h .at) (h .assigns) (h .gives))))
 
       pub turned-loop : {n : ℕ} {row′ : List ℕ} {r : Cursor} {w : Measure} {M : Body → Type 0} → Goes text c (head e own d seen) b (loops n) → 0 < d

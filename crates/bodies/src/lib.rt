@@ -25,9 +25,7 @@ use heads::Known;
 use measures::DEPTH;
 use measures::Measure;
 use words::Cursor;
-
-// Refusal: more of them than the bound.
-pub const TOO_MANY: u8 = 8;
+use words::TOO_MANY;
 
 // The cursor behind statements, and their measure.
 pub struct Measured {

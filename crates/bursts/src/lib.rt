@@ -7,12 +7,11 @@ ghost use Rattle.meaning.specs.Document.{listEntry, burst as burstDue, exec as 
 ghost use Rattle.words.specs.Cursor.{Goes};
 ghost use Rattle.bursts.specs.Listed.{tokenAt, listedIn, listLength, Lists, Bursts};
 use words::Cursor;
+use words::TOO_MANY;
 
 const LIST: usize = 16;
 // Two numbers a listed name.
 pub const LISTED: usize = LIST * 2;
-
-const TOO_MANY: u8 = 8;
 
 // The cursor behind the block, the burst's name by its place and end, and how many names it lists.
 pub struct Named {

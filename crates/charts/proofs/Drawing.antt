@@ -18,9 +18,10 @@ use Rattle.timing.specs.declared.Watch.{Watch}
 use Rattle.waves.specs.Waves.{EntryAt, Reads}
 use Rattle.waves.proofs.Entries.{entry-found}
 use Rattle.waves.proofs.Fronts.{times-front, letters-front}
-use Rattle.charts.specs.Serving.{Accepted, Sights, Outlines}
+use Rattle.charts.specs.Serving.{toldAll, Accepted, Sights, Outlines}
 use Rattle.charts.specs.declared.Outline.{Outline}
 use Rattle.charts.proofs.Rooms.{room}
+use Rattle.charts.proofs.Telling.{told-times}
 use Rattle.charts.proofs.Lists.{Next}
 
 -- ---- an answer as it is told
@@ -49,11 +50,11 @@ module _ {es : List Event} {n : ℕ} {ts ts′ ls ls′ : List ℕ} (d : Reads e
   events-full z = outline-refused noRoom (λ h. absurd (omega arith)) (rw (tested ∙ ap not z, eventsOut))
 
   pub events-put : {times′ letters′ : List ℕ} → y ≡ false → length ts ≡ entryMost → length ls ≡ entryMost
-      → (times′ ≡ take n ts′ ++ drop n times) × (letters′ ≡ take n ls′ ++ drop n letters)
+      → (times′ ≡ toldAll (take n ts′) ++ drop n times) × (letters′ ≡ take n ls′ ++ drop n letters)
       → Outlines (eventsOut es times letters) times times′ letters letters′ (record { no = 0; count = n })
   unfolding eventsOut
   events-put z p q k =
-      outline-given (rw (tested ∙ ap not z, eventsOut) (rw (k .0, k .1, times-front d p, letters-front d q, d .count)))
+      outline-given (rw (tested ∙ ap not z, eventsOut) (rw (k .0, k .1, times-front d p, told-times es, letters-front d q, d .count)))
 
 -- ---- the single call
 

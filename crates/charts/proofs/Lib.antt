@@ -1,5 +1,6 @@
 pub mod Fronts
 pub mod Rooms
+pub mod Telling
 mod Lists
 mod Sighting
 mod Drawing

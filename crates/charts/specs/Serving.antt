@@ -3,17 +3,23 @@ use Prim.Native.Nat.{ℕ}
 use mathlib.Core.Path.{_≡_}
 use mathlib.Core.Bool.{Bool, true, false}
 use mathlib.Core.Option.{Option, none, some}
-use mathlib.Core.List.{List}
+use mathlib.Core.List.{List, [], _∷_}
 use lib.Dec.{eqb}
 use Rattle.meaning.specs.Meaning.{Answer, given, refused, tableAt, Meaning, meaning}
-use Rattle.meaning.specs.Services.{Waveform}
+use Rattle.meaning.specs.Timing.{uncounted}
+use Rattle.meaning.specs.Services.{bitsOf, Waveform}
 use Rattle.meaning.specs.Charts.{Chart}
 use Rattle.timing.specs.Watch.{Watched}
 use Rattle.timing.specs.declared.Watch.{Watch}
 use Rattle.charts.specs.declared.Outline.{Outline}
 use Rattle.charts.specs.declared.Served.{Served}
 
--- a text that no refusal of 1 to 17 meets
+-- times that were counted, as they are told
+unfoldable pub toldAll : List ℕ → List ℕ
+toldAll [] = []
+toldAll (t ∷ ts) = bitsOf (uncounted t) ∷ toldAll ts
+
+-- a text that no refusal of 1 to 17 or 25 meets
 pub record Accepted (text : List ℕ) : Type 0 where
   pub meant : Meaning
   pub is : meaning text ≡ given meant

@@ -6,25 +6,28 @@ ghost use Prim.Native.Nat.{_*_, _≤_, _<_};
 ghost use lib.ListN.{length, take, drop};
 ghost use lib.Dec.{leb};
 ghost use mathlib.Core.Bool.{not};
-ghost use Rattle.meaning.specs.Timing.{Event};
-ghost use Rattle.meaning.specs.Services.{eventsOut, waveform};
+ghost use Rattle.meaning.specs.Timing.{Event, uncounted};
+ghost use Rattle.meaning.specs.Services.{bitsOf, eventsOut, waveform};
 ghost use Rattle.meaning.specs.Charts.{chartMost, Asked, askedIn, called, chart};
 ghost use Rattle.waves.specs.Waves.{EntryAt};
-ghost use Rattle.charts.specs.Serving.{Accepted, Sights, Outlines, Serves};
+ghost use Rattle.charts.specs.Serving.{toldAll, Accepted, Sights, Outlines, Serves};
 use timing::Watch;
+use words::NO_ROOM;
+use words::START;
 
 // Waveforms of a list at most, and the numbers that ask for one: a table, a signal and a character.
 pub const MOST: usize = 64;
 
 const ASK: usize = 3;
 
+// The largest number of 64 bits.
+const LAST: u64 = 18_446_744_073_709_551_615;
+
 // A character's greatest number.
 const CHAR: u64 = 255;
 
-// Refusals, all at place 0.
+// Refusal, at place 0 as all here.
 pub const NO_SUCH: u8 = 18;
-
-const NO_ROOM: u8 = 19;
 
 // Where a waveform's entry stands, if there is one (`found`).
 struct Sighted {
@@ -47,15 +50,25 @@ pub struct Served {
 
 // ---- one waveform
 
-// The first n of two arrays, to the front of two others.
+// A counted time as it is told: the 64 bits of its number of ps, which is negative before the cycle's start.
+fn told(time: u64) -> u64
+    ensures { λ r. ⌜ r ≡ bitsOf (uncounted time) ⌝ }
+{
+    if time < START {
+        return LAST - (START - 1 - time);
+    }
+    time - START
+}
+
+// The first n of two arrays, counted times and letters, to the front of two others, the times as they are told.
 pub fn put(ts: &[u64], ls: &[u8], n: usize, times: &mut [u64], letters: &mut [u8])
     requires { ⌜ (n ≤ length (now ts)) × (n ≤ length (now ls)) ⌝ }
     requires { ⌜ (n ≤ length (now times)) × (n ≤ length (now letters)) ⌝ }
-    ensures { λ _. ⌜ (now (times .exit) ≡ take n (now (ts .entry)) ++ drop n (now (times .entry))) × (now (letters .exit) ≡ take n (now (ls .entry)) ++ drop n (now (letters .entry))) ⌝ }
+    ensures { λ _. ⌜ (now (times .exit) ≡ toldAll (take n (now (ts .entry))) ++ drop n (now (times .entry))) × (now (letters .exit) ≡ take n (now (ls .entry)) ++ drop n (now (letters .entry))) ⌝ }
 {
     let mut i = 0;
     while i < n {
-        times[i] = ts[i];
+        times[i] = told(ts[i]);
         letters[i] = ls[i];
         i += 1;
     }

@@ -1,5 +1,5 @@
 -- What is told of the declarations, from what reading them promises: a refusal as it is, or where the next token stands and how many there are.
-use Prim.Native.Nat.{ℕ, zero, suc, _+_, _*_, _≤_, _<_}
+use Prim.Native.Nat.{ℕ, _+_, _*_, _≤_, _<_}
 use native.Mathlib.Omega.{arith}
 use mathlib.Core.Path.{_≡_, refl, sym, ap, _∙_}
 use mathlib.Core.Bool.{Bool, true, false}
@@ -13,6 +13,7 @@ use Rattle.meaning.specs.Bounds.{tablesMost}
 use Rattle.meaning.specs.Reader.{Res, give}
 use Rattle.meaning.specs.Signals.{Names}
 use Rattle.meaning.specs.Timing.{Tables}
+pub use Rattle.words.proofs.Words.{zeros}
 use Rattle.words.specs.Cursor.{ahead, stopNo, stream, Stands}
 use Rattle.words.specs.declared.Cursor.{Cursor}
 use Rattle.words.proofs.Flow.{from-on, from-stop}
@@ -24,13 +25,6 @@ use Rattle.timing.proofs.TableReading.{held-count}
 use Rattle.declared.specs.Declarations.{declarations, Declares}
 use Rattle.declared.specs.Numbers.{placeOf, refusal, numbersOf, toldOf, written}
 use Rattle.declared.specs.declared.Told.{Told}
-
--- an array of zeros
-pub zeros : (n i : ℕ) → _≡_ {A = ℕ} (getD (replicate n 0) i 0) 0
-zeros zero zero = refl
-zeros zero (suc i) = refl
-zeros (suc n) zero = refl
-zeros (suc n) (suc i) = zeros n i
 
 -- chains before any name is read
 pub blank-chains : Unchained (replicate placesLength 0)

@@ -9,7 +9,7 @@ use Rattle.meaning.specs.Timing.{Tables}
 use Rattle.meaning.specs.Run.{Cycle}
 use Rattle.meaning.proofs.Turns.{copies, orElse}
 use Rattle.turns.proofs.Thins.{or-first}
-use Rattle.edges.specs.Edges.{lastBehind, fineBehind, failingBehind}
+use Rattle.meaning.specs.Edges.{lastBehind, fineBehind, failingBehind}
 
 pub or-same : (x : Option ℕ) → orElse x x ≡ x
 or-same x = or-first x x λ h. h

@@ -8,16 +8,17 @@ use mathlib.Core.List.{List, [], _∷_}
 use lib.Dec.{ltb, eqb}
 use borrow.Author.Tests.{ltb-true, ltb-false}
 use Rattle.meaning.specs.Bounds.{timeMost}
-use Rattle.meaning.specs.Timing.{Event, Wave, Tables}
+use Rattle.meaning.specs.Timing.{Event, Wave, Tables, Signed, plus, minus, counted}
 use Rattle.meaning.specs.Body.{Body}
 use Rattle.meaning.specs.Run.{unassigned, Cycle}
 use Rattle.meaning.specs.Meaning.{tableAt}
 use Rattle.meaning.specs.Services.{waveOf}
-use Rattle.edges.specs.Edges.{Category, drive, compare, belongs, timesIn, firstOf, lastBehind, firstTime, lastTime, before, apart, follows, eventsOf, allFollow, periodAt, inOrder, fineBehind, failingBehind, firstFailingPair, listedCycles, firstAmong, firstInRun}
-use Rattle.edges.specs.Signed.{Signed, plus, minus, counted, uncounted, signedBefore, eventsFrom, wavesFrom, tablesFrom}
+use Rattle.meaning.proofs.Signs.{amount}
+use Rattle.meaning.specs.Edges.{Category, drive, compare, belongs, timesIn, firstOf, lastBehind, firstTime, lastTime, before, apart, follows, eventsOf, allFollow, periodAt, inOrder, fineBehind, failingBehind, firstFailingPair, listedCycles, firstAmong, firstInRun}
+use Rattle.edges.specs.Signed.{signedBefore, eventsFrom, wavesFrom, tablesFrom}
 
 -- two tests that hold together
-ltb-alike : (a b c d : ℕ) → (a < b → c < d) → (c < d → a < b) → ltb a b ≡ ltb c d
+pub ltb-alike : (a b c d : ℕ) → (a < b → c < d) → (c < d → a < b) → ltb a b ≡ ltb c d
 ltb-alike a b c d f g = by (ltb a b) refl (ltb c d) refl
   where
     by : (x : Bool) → ltb a b ≡ x → (y : Bool) → ltb c d ≡ y → x ≡ y
@@ -28,26 +29,12 @@ ltb-alike a b c d f g = by (ltb a b) refl (ltb c d) refl
 
 -- ---- with a sign
 
--- the amount of ps
-unfoldable pub amount : Signed → ℕ
-amount (plus n) = n
-amount (minus n) = n
-
 pub counted-before : (l f : Signed) (period : ℕ) → amount l ≤ timeMost → amount f ≤ timeMost → ltb (counted l) (period + counted f) ≡ signedBefore l period f
 unfolding amount counted signedBefore
 counted-before (plus l) (plus f) period h k = ltb-alike (timeMost + l) (period + (timeMost + f)) l (period + f) (λ x. omega arith) (λ x. omega arith)
 counted-before (plus l) (minus f) period h k = ltb-alike (timeMost + l) (period + (timeMost - f)) (l + f) period (λ x. omega arith) (λ x. omega arith)
 counted-before (minus l) (plus f) period h k = ltb-alike (timeMost - l) (period + (timeMost + f)) 0 (l + (period + f)) (λ x. omega arith) (λ x. omega arith)
 counted-before (minus l) (minus f) period h k = ltb-alike (timeMost - l) (period + (timeMost - f)) f (l + period) (λ x. omega arith) (λ x. omega arith)
-
--- nothing is lost
-pub counted-back : (t : ℕ) → counted (uncounted t) ≡ t
-unfolding counted uncounted
-counted-back t = by (ltb t timeMost) refl
-  where
-    by : (w : Bool) → ltb t timeMost ≡ w → counted (elim w [ true ↦ minus (timeMost - t) | false ↦ plus (t - timeMost) ]) ≡ t
-    by true e = let h = ltb-true t timeMost e in omega (arith, h)
-    by false e = let h = ltb-false t timeMost e in omega (arith, h)
 
 -- ---- from a zero that lies k earlier
 

@@ -12,4 +12,3 @@ pub mod Pairs
 pub mod Rising
 pub mod Signals
 pub mod Ordered
-pub mod Reading

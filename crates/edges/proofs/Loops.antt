@@ -12,7 +12,7 @@ use Rattle.meaning.specs.Body.{Body}
 use Rattle.meaning.specs.Run.{State, Cycle, Played, cycles, follow, again, play}
 use Rattle.meaning.proofs.Turns.{Plain, plain-twice, copies, steady, turns-repeat, orElse}
 use Rattle.meaning.proofs.Rows.{length-play}
-use Rattle.edges.specs.Edges.{lastBehind, fineBehind, failingBehind}
+use Rattle.meaning.specs.Edges.{lastBehind, fineBehind, failingBehind}
 use Rattle.edges.proofs.Behind.{last-++, last-copies, failing-++, failing-copies}
 
 or-alike : (x y z : Option ℕ) → (x ≡ none → y ≡ z) → orElse x y ≡ orElse x z

@@ -12,7 +12,7 @@ use Rattle.meaning.specs.Timing.{Event, Wave, Tables}
 use Rattle.meaning.specs.Run.{unassigned, Cycle}
 use Rattle.meaning.specs.Meaning.{tableAt}
 use Rattle.meaning.proofs.Turns.{orElse}
-use Rattle.edges.specs.Edges.{Category, drive, compare, lastBehind, firstTime, lastTime, before, apart, follows, eventsOf, allFollow, periodAt, inOrder, fineBehind, failingBehind, firstFailingPair}
+use Rattle.meaning.specs.Edges.{Category, drive, compare, lastBehind, firstTime, lastTime, before, apart, follows, eventsOf, allFollow, periodAt, inOrder, fineBehind, failingBehind, firstFailingPair}
 use Rattle.edges.specs.Pairs.{FirstPair, Across}
 use Rattle.edges.proofs.Behind.{last-++, failing-++}
 

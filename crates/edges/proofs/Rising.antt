@@ -18,7 +18,7 @@ use Rattle.meaning.specs.Services.{waveOf}
 use Rattle.meaning.proofs.Gives.{known-ok, Gives, gives-bind, gives-after, gives-give, gives-until}
 use Rattle.meaning.proofs.Choices.{gives-refuse, gives-either}
 use Rattle.meaning.proofs.Accepted.{accepted}
-use Rattle.edges.specs.Edges.{Category, drive, compare, belongs, timesIn, firstOf, lastBehind}
+use Rattle.meaning.specs.Edges.{Category, drive, compare, belongs, timesIn, firstOf, lastBehind}
 use Rattle.edges.specs.Rising.{Risen, no-event, one-more, WavesRise, TablesRise, Each}
 use Rattle.edges.proofs.Behind.{last-++}
 

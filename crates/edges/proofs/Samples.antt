@@ -1,113 +1,37 @@
--- Samples at the edges: pairs inside a turn, into the second turn, into the third alone, behind a Loop, of two listed patterns; what is skipped; times with a
--- sign. The definitions compute them.
-use Prim.Native.Nat.{ℕ}
-use Prim.Native.String.{String}
+-- Samples of the third turn, of a Shift's turns, and of times with a sign: the definitions compute them. Those of whole texts stand beside the definitions.
 use mathlib.Core.Path.{_≡_, refl}
 use mathlib.Core.Option.{Option, none, some}
 use mathlib.Core.List.{List, [], _∷_}
-use Rattle.tokens.specs.Written.{bytes}
 use Rattle.tokens.specs.Tokens.{toks}
 use Rattle.meaning.specs.Reader.{Res, ok, refuse}
-use Rattle.meaning.specs.Timing.{Wave, Tables}
+use Rattle.meaning.specs.Timing.{Wave, Tables, Signed, plus, minus, counted}
 use Rattle.meaning.specs.Body.{Body}
 use Rattle.meaning.specs.Run.{Cycle}
-use Rattle.meaning.specs.Meaning.{Answer, given, refused, Meaning, meaning}
+use Rattle.meaning.specs.Document.{Read, document}
+use Rattle.meaning.specs.Meaning.{given, refused, runOf}
 use Rattle.meaning.specs.Open.{everything}
-use Rattle.meaning.specs.Edited.{alone}
 use Rattle.meaning.specs.Samples.{whole, oneListed}
 use Rattle.meaning.proofs.Turns.{shortened, fewer, twice}
-use Rattle.edges.specs.Edges
-use Rattle.edges.specs.Edges.{firstFailingPair, firstInRun, orderedMeaning}
-use Rattle.edges.specs.Signed as Signs
-use Rattle.edges.specs.Signed.{Signed, plus, minus, counted, signedQuoted}
+use Rattle.meaning.proofs.EdgesSamples.{listing, playing}
+use Rattle.meaning.specs.Edges.{firstFailingPair, firstInRun}
 use Rattle.edges.specs.Three.{fewTurns, inThree}
 use Rattle.edges.specs.Turned
 use Rattle.edges.specs.Turned.{turnsInRun}
 
 unfoldable opened : Unit {0}
-unfolding everything whole oneListed alone Edges.belongs Edges.timesIn Edges.firstOf Edges.lastBehind Edges.firstTime Edges.lastTime Edges.before Edges.apart Edges.follows Edges.eventsOf Edges.allFollow Edges.periodAt Edges.inOrder Edges.fineBehind Edges.failingBehind Edges.firstFailingPair Edges.listedCycles Edges.firstAmong Edges.firstInRun Edges.ordered Edges.orderedMeaning
+unfolding everything whole oneListed
 opened = tt
-
--- ---- whole texts
-
--- A's waveforms in two tables: 0 drives at 0, 1 until the end of t0's cycle, 2 first at 1 ps; L and X compare alone
-unfoldable pub listing : String → List String → List ℕ
-unfolding whole
-listing list =
-    whole "Signals { A InOut; B Out; }" "SignalGroups { ab = 'A+B'; }"
-    "Timing { WaveformTable t0 { Period '100ns'; Waveforms { A { 0 { '0ns' D; } 1 { '0ns' U; '100ns' D; } 2 { '1ps' D; } L { '150ns' L; } X { '0ns' X; } } } }"
-    " WaveformTable t1 { Period '200ns'; Waveforms { A { 0 { '0ns' D; } 1 { '0ns' U; '100ns' D; } } B { 0 { '0ns' D; } } } } }"
-    "MacroDefs { m { V { A = 0; } } s { Shift { V { A = #; } } } } Procedures { f { V { } } g { V { A = 1; } V { A = 0; } } }" list
-
-unfoldable pub playing : String → List ℕ
-unfolding listing
-playing s = listing "PatternBurst b { PatList { p; } }" (s ∷ [])
-
--- each text with its refusal, if any
-abbrev pub Sample : Type 0
-Sample = List ℕ × Option (ℕ × ℕ)
-
-unfoldable pub edges : List Sample
-unfolding listing playing
-edges =
-    -- a pair inside a turn
-    (playing "Pattern p { W t0; Loop 2 { V { A = 1; } V { A = 0; } } }", some (25, 570))
-    -- into the second turn
-    ∷ (playing "Pattern p { W t0; Loop 2 { V { A = 0; } V { A = 1; } } }", some (25, 557))
-    ∷ (playing "Pattern p { W t0; Loop 1 { V { A = 0; } V { A = 1; } } }", none)
-    -- into the third turn, and not before
-    ∷ (playing "Pattern p { W t0; C { A = 0; } Loop 3 { V { } C { A = 1; } } }", some (25, 570))
-    ∷ (playing "Pattern p { W t0; C { A = 0; } Loop 2 { V { } C { A = 1; } } }", none)
-    -- behind a Loop: at the same time is not before, 1 ps later is
-    ∷ (playing "Pattern p { W t0; Loop 3 { V { A = 2; } V { A = 1; } } V { A = 0; } }", some (25, 585))
-    ∷ (playing "Pattern p { W t0; Loop 3 { V { A = 2; } V { A = 1; } } V { A = 2; } }", none)
-    -- a value that is held
-    ∷ (playing "Pattern p { W t0; V { A = 1; } V { } }", some (25, 561))
-    -- the earlier cycle's period counts
-    ∷ (playing "Pattern p { W t0; V { A = 1; } W t1; V { A = 0; } }", some (25, 567))
-    ∷ (playing "Pattern p { W t1; V { A = 1; } W t0; V { A = 0; } }", none)
-    -- a category that either lacks is skipped, and the cycle behind that is not asked
-    ∷ (playing "Pattern p { W t0; V { A = 1; } V { A = L; } V { A = 0; } }", none)
-    -- compare events as well
-    ∷ (playing "Pattern p { W t0; V { A = L; } V { A = X; } }", some (25, 561))
-    -- in a macro, at its V
-    ∷ (playing "Pattern p { W t0; V { A = 1; } Macro m; }", some (25, 359))
-    -- a procedure begins without values; within it pairs are asked for
-    ∷ (playing "Pattern p { W t0; V { A = 1; } Call f; V { A = 0; } }", none)
-    ∷ (playing "Pattern p { W t0; Call g; }", some (25, 447))
-    -- 17 comes before
-    ∷ (playing "Pattern p { W t0; V { A = 1; } V { } V { A = H; } }", some (17, 567))
-    -- between two listed patterns nothing is asked
-    ∷ (listing "PatternBurst b { PatList { p; q; p; } }" ("Pattern p { W t0; V { A = 0; } V { A = 1; } }" ∷ "Pattern q { W t0; V { A = 0; } }" ∷ []), none)
-    ∷ (listing "PatternBurst b { PatList { p; q; p; } }" ("Pattern p { W t0; V { A = 0; } V { A = 1; } }" ∷ "Pattern q { W t0; V { A = 1; } V { } }" ∷ []), some (25, 613))
-    ∷ []
-
-unfoldable pub told : Answer Meaning → Option (ℕ × ℕ)
-told (given m) = none
-told (refused n p) = some (n, p)
-
-unfoldable pub asked : List Sample → List (Option (ℕ × ℕ))
-asked [] = []
-asked (x ∷ xs) = told (orderedMeaning (x .0)) ∷ asked xs
-
-unfoldable pub answered : List Sample → List (Option (ℕ × ℕ))
-answered [] = []
-answered (x ∷ xs) = x .1 ∷ answered xs
-
-pub all-told : asked edges ≡ answered edges
-unfolding opened edges listing playing told asked answered
-all-told = refl
 
 -- ---- the third turn
 
--- what f makes of the tables and the run of an accepted text
-unfoldable pub meant : {A : Type 0} → (Tables → Body → Option A) → Answer Meaning → Option A
-meant f (given m) = f (m .tables) (m .run)
-meant f (refused n p) = none
+-- what f makes of the tables and the run of a text that is read
+unfoldable pub meant : {A : Type 0} → (Tables → Body → Option A) → Res Read → Option A
+meant f (ok d ts) = elim (runOf (d .patterns) (d .listed)) [ given r ↦ f (d .tables) r | refused n p ↦ none ]
+meant f (refuse n p) = none
 
-unfoldable pub third : Answer Meaning
+unfoldable pub third : Res Read
 unfolding playing listing
-third = meaning (playing "Pattern p { W t0; C { A = 0; } Loop 4 { V { } C { A = 1; } } }")
+third = document (toks (playing "Pattern p { W t0; C { A = 0; } Loop 4 { V { } C { A = 1; } } }") 0)
 
 -- two turns of each Loop find no pair that fails, and three find the one into the third turn
 pub two-miss : (meant (λ tabs r. firstInRun tabs 2 (shortened r)) third ≡ none)
@@ -117,9 +41,9 @@ unfolding opened meant third playing listing shortened fewer twice fewTurns inTh
 two-miss = (refl, refl, refl)
 
 -- a Shift plays all of its turns: here the fifth fails first, and lies in no Loop
-unfoldable pub shifting : Answer Meaning
+unfoldable pub shifting : Res Read
 unfolding playing listing
-shifting = meaning (playing "Pattern p { W t0; Macro s { A = 00010; } }")
+shifting = document (toks (playing "Pattern p { W t0; Macro s { A = 00010; } }") 0)
 
 pub in-shift : (meant (λ tabs r. firstInRun tabs 2 r) shifting ≡ some 386) × (meant (λ tabs r. turnsInRun tabs 2 r) shifting ≡ some [])
 unfolding opened meant shifting playing listing Turned.shiftTurns Turned.around Turned.turnsIn Turned.turnsOfFailing Turned.turnsInRun
@@ -141,22 +65,3 @@ both = record { at = 3; table = some 0; pins = 48 ∷ [] } ∷ record { at = 5; 
 pub signs : (firstFailingPair (signed (plus 0)) both ≡ none) × (firstFailingPair (signed (minus 0)) both ≡ none) × (firstFailingPair (signed (minus 1)) both ≡ some 5)
 unfolding opened signed both counted
 signs = (refl, refl, refl)
-
--- as they will be read: counted, or refused; the place is the word's, or that of the token that is not allowed
-unfoldable pub timed : Res ℕ → Answer ℕ
-timed (ok n ts) = given n
-timed (refuse n p) = refused n p
-
-unfoldable pub times : List String → List (Answer ℕ)
-times [] = []
-times (s ∷ l) = timed (signedQuoted (toks (bytes s) 0)) ∷ times l
-
-pub signs-read : times ("'5ns'" ∷ "'-5ns'" ∷ "' - /**/ 5ns'" ∷ "'-0ps'" ∷ "'0ps'" ∷ "'-1000000ns'" ∷ "'1000000ns'" ∷ [])
-    ≡ given 1000005000 ∷ given 999995000 ∷ given 999995000 ∷ given 1000000000 ∷ given 1000000000 ∷ given 0 ∷ given 2000000000 ∷ []
-unfolding opened timed times counted Signs.timeOf signedQuoted
-signs-read = refl
-
-pub signs-refused : times ("'-1000000001ps'" ∷ "'-1'" ∷ "'--1ps'" ∷ "'+1ps'" ∷ "'-'" ∷ "'1ps-'" ∷ "'-1ps" ∷ [])
-    ≡ refused 9 2 ∷ refused 9 2 ∷ refused 4 2 ∷ refused 4 1 ∷ refused 4 2 ∷ refused 4 4 ∷ refused 4 5 ∷ []
-unfolding opened timed times counted Signs.timeOf signedQuoted
-signs-refused = refl

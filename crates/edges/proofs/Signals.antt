@@ -9,7 +9,7 @@ use lib.ListN.{getD}
 use Rattle.meaning.specs.Timing.{Wave, Tables}
 use Rattle.meaning.specs.Run.{unassigned, Cycle}
 use Rattle.meaning.specs.Meaning.{tableAt}
-use Rattle.edges.specs.Edges.{drive, compare, timesIn, firstOf, lastBehind, firstTime, lastTime, before, apart, follows, eventsOf, allFollow, periodAt, inOrder}
+use Rattle.meaning.specs.Edges.{drive, compare, timesIn, firstOf, lastBehind, firstTime, lastTime, before, apart, follows, eventsOf, allFollow, periodAt, inOrder}
 use Rattle.edges.proofs.Rising.{and-both}
 
 -- where one of the two is unassigned nothing is asked

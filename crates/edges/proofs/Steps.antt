@@ -7,12 +7,12 @@ use mathlib.Core.List.{List}
 use Rattle.meaning.specs.Bounds.{depthMost}
 use Rattle.meaning.specs.Body.{Way, looped, shifted, entered, Body, done, vec, set′, inner, depth}
 use Rattle.meaning.specs.Run.{shiftOf}
-use Rattle.meaning.specs.Meaning.{given, Meaning, meaning}
+use Rattle.meaning.specs.Document.{Read}
 use Rattle.meaning.proofs.Everywhere.{Runs, no-more, one-more, runs}
 use Rattle.meaning.proofs.Depth.{patterns-within}
-use Rattle.meaning.proofs.Accepted.{accepted}
 use Rattle.turns.specs.Steps.{loopSteps, inSteps, steps}
 use Rattle.edges.specs.Steps.{loopPairs, inPairs, pairSteps, worth}
+use Rattle.edges.proofs.Texts.{RunOf}
 
 worth-one : (d : ℕ) → 1 ≤ worth d
 unfolding worth
@@ -70,9 +70,7 @@ run-within d no-more = omega arith
 run-within d (one-more {b} {r} p h) =
     grows-sum d _ (1 + steps 0 0 b) _ (steps 0 0 r) (grows-one d (pairSteps 0 b) (steps 0 0 b) (pairs-within d b p 0)) (run-within d h)
 
--- and so of every accepted text
-pub run-pairs : (text : List ℕ) (m : Meaning) → meaning text ≡ given m → pairSteps 0 (m .run) ≤ 511 * steps 0 0 (m .run)
+-- and so of every text that is read
+pub run-pairs : (text : List ℕ) {d : Read} {r : Body} → RunOf text d r → pairSteps 0 r ≤ 511 * steps 0 0 r
 unfolding worth
-run-pairs text m e =
-    let a = accepted text m e in
-    run-within depthMost (runs _ (a .doc .patterns) (patterns-within .all _ _ _ (a .read)) (a .doc .listed) (m .run) (a .run))
+run-pairs text {d} {r} x = run-within depthMost (runs _ (d .patterns) (patterns-within .all _ _ _ (x .read)) (d .listed) r (x .run))

@@ -1,19 +1,20 @@
--- Of every accepted text, at most three turns of each Loop find the first failing pair of the run. And what is judged pattern by pattern is
--- the run, cut where a listed pattern begins.
+-- Of every text that is read, at most three turns of each Loop find the first failing pair of its run, whatever 16, 17 and 25 then say of it. And what is
+-- judged pattern by pattern is the run, cut where a listed pattern begins.
 use mathlib.Core.Path.{_≡_, refl, ap₂}
 use Prim.Native.Nat.{ℕ}
 use mathlib.Core.Option.{Option, none, some}
 use mathlib.Core.List.{List, [], _∷_, _++_, append-nil}
+use Rattle.tokens.specs.Tokens.{Toks, toks}
+use Rattle.meaning.specs.Reader.{ok}
 use Rattle.meaning.specs.Timing.{Tables}
 use Rattle.meaning.specs.Body.{listed, Body, done, vec, set′, inner}
-use Rattle.meaning.specs.Run.{shiftOf, Cycle, follow, entering, playing, play, start, cyclesOf}
-use Rattle.meaning.specs.Meaning.{given, Meaning, meaning}
-use Rattle.meaning.specs.Edited.{alone}
+use Rattle.meaning.specs.Run.{shiftOf, Cycle, follow, entering, playing, play, start, cyclesOf, alone}
+use Rattle.meaning.specs.Document.{Read, document}
+use Rattle.meaning.specs.Meaning.{given, runOf}
 use Rattle.meaning.proofs.Turns.{Good}
 use Rattle.meaning.proofs.TwoTurns.{run-good}
 use Rattle.meaning.proofs.Everywhere.{Runs, no-more, one-more}
-use Rattle.meaning.proofs.Accepted.{accepted}
-use Rattle.edges.specs.Edges.{firstFailingPair, listedCycles, firstAmong, firstInRun}
+use Rattle.meaning.specs.Edges.{firstFailingPair, listedCycles, firstAmong, firstInRun}
 use Rattle.edges.specs.Three.{fewTurns, inThree}
 use Rattle.edges.proofs.Three.{first-pair-three}
 
@@ -23,10 +24,14 @@ pub good-alone : (b : Body) → Good b → Good (alone b)
 unfolding Good alone
 good-alone b h = (tt, h, tt)
 
-pub meant-good : (text : List ℕ) (m : Meaning) → meaning text ≡ given m → Good (m .run)
-meant-good text m e =
-    let a = accepted text m e in
-    run-good text (a .doc) (a .rest) (m .run) (a .read) (a .run)
+-- a text's parts, and the run that its list makes of them
+pub record RunOf (text : List ℕ) (d : Read) (r : Body) : Type 0 where
+  pub rest : Toks
+  pub read : document (toks text 0) ≡ ok d rest
+  pub run : runOf (d .patterns) (d .listed) ≡ given r
+
+pub read-good : (text : List ℕ) {d : Read} {r : Body} → RunOf text d r → Good r
+read-good text {d} {r} x = run-good text d (x .rest) r (x .read) (x .run)
 
 -- ---- the third turn
 
@@ -45,8 +50,8 @@ module _ (tabs : Tables) (n : ℕ) where
       ap₂ (λ (o q : Option ℕ). elim o [ some p ↦ some p | none ↦ q ]) (pattern-three b (h .1)) (run-three r (h .2))
 
 -- THE THEOREM
-pub three-turns : (text : List ℕ) (m : Meaning) → meaning text ≡ given m → (n : ℕ) → firstInRun (m .tables) n (m .run) ≡ firstInRun (m .tables) n (inThree (m .run))
-three-turns text m e n = run-three (m .tables) n (m .run) (meant-good text m e)
+pub three-turns : (text : List ℕ) {d : Read} {r : Body} → RunOf text d r → (n : ℕ) → firstInRun (d .tables) n r ≡ firstInRun (d .tables) n (inThree r)
+three-turns text {d} {r} x n = run-three (d .tables) n r (read-good text x)
 
 -- ---- the listed patterns are the run
 

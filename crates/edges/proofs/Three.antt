@@ -9,7 +9,7 @@ use Rattle.meaning.specs.Timing.{Tables}
 use Rattle.meaning.specs.Body.{macro, procedure, listed, Way, looped, shifted, entered, Body, done, vec, set′, inner}
 use Rattle.meaning.specs.Run.{shiftOf, State, Cycle, Played, changed, follow, again, entering, playing, play}
 use Rattle.meaning.proofs.Turns.{IfLoop, Plain, Good, plain-twice, copies, turns-repeat, orElse}
-use Rattle.edges.specs.Edges.{lastBehind, failingBehind}
+use Rattle.meaning.specs.Edges.{lastBehind, failingBehind}
 use Rattle.edges.specs.Three.{turnsMost, fewTurns, inThree}
 use Rattle.edges.proofs.Behind.{last-++, last-copies, failing-++, failing-copies}
 

@@ -7,15 +7,14 @@ use mathlib.Core.Option.{Option, none, some}
 use mathlib.Core.List.{List, [], _∷_, _++_}
 use Rattle.meaning.specs.Timing.{Tables}
 use Rattle.meaning.specs.Body.{macro, procedure, listed, Way, looped, shifted, entered, Body, done, vec, set′, inner}
-use Rattle.meaning.specs.Run.{shiftOf, State, Cycle, Played, puts, changed, cycleAt, follow, again, entering, playing, play, start, cyclesOf}
-use Rattle.meaning.specs.Meaning.{given, Meaning, meaning}
-use Rattle.meaning.specs.Edited.{alone}
+use Rattle.meaning.specs.Run.{shiftOf, State, Cycle, Played, puts, changed, cycleAt, follow, again, entering, playing, play, start, cyclesOf, alone}
+use Rattle.meaning.specs.Document.{Read}
 use Rattle.meaning.proofs.Turns.{IfLoop, Plain, Good, plain-twice}
-use Rattle.edges.specs.Edges.{lastBehind, fineBehind, failingBehind, firstFailingPair, listedCycles, firstAmong, firstInRun}
+use Rattle.meaning.specs.Edges.{lastBehind, fineBehind, failingBehind, firstFailingPair, listedCycles, firstAmong, firstInRun}
 use Rattle.edges.specs.Three.{turnsMost}
 use Rattle.edges.specs.Turned.{Turnings, inTurn, loopTurns, shiftTurns, around, turnsIn, turnsOfFailing, turnsInRun, NoneLater}
 use Rattle.edges.proofs.Behind.{last-twice}
-use Rattle.edges.proofs.Texts.{good-alone, meant-good}
+use Rattle.edges.proofs.Texts.{good-alone, RunOf, read-good}
 
 module _ (tabs : Tables) where
   -- a row of cycles and their turns: as many up to the first failing pair, whose later cycle lies in none behind the third
@@ -197,7 +196,7 @@ module _ (tabs : Tables) where
             let x = none-later (alone b) good 0 (start n) none q e in
             (x .0, ap (λ (q : Option (List ℕ)). elim q [ some ks ↦ some ks | none ↦ rest ]) (x .1), x .2)
 
--- THE THEOREM, of every accepted text
-pub text-none-later : (text : List ℕ) (m : Meaning) → meaning text ≡ given m → (n p : ℕ) → firstInRun (m .tables) n (m .run) ≡ some p
-    → (ks : List ℕ) × (turnsInRun (m .tables) n (m .run) ≡ some ks) × NoneLater ks
-text-none-later text m e n p = run-none-later (m .tables) n (m .run) (meant-good text m e) p
+-- THE THEOREM, of every text that is read
+pub text-none-later : (text : List ℕ) {d : Read} {r : Body} → RunOf text d r → (n p : ℕ) → firstInRun (d .tables) n r ≡ some p
+    → (ks : List ℕ) × (turnsInRun (d .tables) n r ≡ some ks) × NoneLater ks
+text-none-later text {d} {r} x n p = run-none-later (d .tables) n r (read-good text x) p

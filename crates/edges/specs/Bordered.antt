@@ -11,7 +11,7 @@ use Rattle.meaning.specs.Timing.{Event, Tables}
 use Rattle.meaning.specs.Run.{unassigned, Cycle}
 use Rattle.meaning.specs.Meaning.{tableAt}
 use Rattle.meaning.specs.Services.{waveOf}
-use Rattle.edges.specs.Edges.{Category, firstTime, lastTime, periodAt}
+use Rattle.meaning.specs.Edges.{Category, firstTime, lastTime, periodAt}
 
 -- is a character of a signal used at all
 abbrev pub Used : Type 0

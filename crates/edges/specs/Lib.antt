@@ -1,4 +1,3 @@
-pub mod Edges
 pub mod Signed
 pub mod Three
 pub mod Turned

@@ -9,7 +9,7 @@ use lib.ListN.{getD}
 use Rattle.meaning.specs.Timing.{Tables}
 use Rattle.meaning.specs.Run.{unassigned, Cycle}
 use Rattle.meaning.specs.Meaning.{tableAt}
-use Rattle.edges.specs.Edges.{Category, firstTime, lastTime, eventsOf, periodAt, inOrder, firstFailingPair}
+use Rattle.meaning.specs.Edges.{Category, firstTime, lastTime, eventsOf, periodAt, inOrder, firstFailingPair}
 
 -- p is the place of the later one's V
 pub record FirstPair (tabs : Tables) (l : List Cycle) (p : ℕ) : Type 0 where

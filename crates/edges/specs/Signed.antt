@@ -1,40 +1,9 @@
--- Times with a sign (request 8): how they are counted, so that they are numbers without one.
-use Prim.Native.Nat.{ℕ, _+_, _-_}
-use mathlib.Core.Bool.{Bool, true, false}
+-- Times with a sign across the edge, and the same tables with their times counted from another zero.
+use Prim.Native.Nat.{ℕ, _+_}
+use mathlib.Core.Bool.{Bool}
 use mathlib.Core.List.{List, [], _∷_}
 use lib.Dec.{ltb}
-use Rattle.meaning.specs.Bounds.{timeMost}
-use Rattle.meaning.specs.Reader.{Reader, _>>=_, _>>_, give, due, word, ifAhead}
-use Rattle.meaning.specs.Names.{within}
-use Rattle.meaning.specs.Timing.{Event, Wave, Tables, picoseconds}
-
--- an amount of ps behind the cycle's start, or before it
-pub data Signed : Type 0 where
-  plus minus : ℕ → Signed
-
--- counted from the earliest time that there may be; -0 is 0
-unfoldable pub counted : Signed → ℕ
-counted (plus n) = timeMost + n
-counted (minus n) = timeMost - n
-
--- and what was counted so
-unfoldable pub uncounted : ℕ → Signed
-uncounted t = elim (ltb t timeMost) [ true ↦ minus (timeMost - t) | false ↦ plus (t - timeMost) ]
-
--- ---- an event's 'T', also with a `-` before the word: as it will be read
-
-unfoldable pub timeOf : (ℕ → Signed) → Reader Signed
-timeOf sign = do
-  t ← word
-  n ← within 0 timeMost (picoseconds (t .word)) (t .at)
-  give (sign n)
-
-unfoldable pub signedQuoted : Reader ℕ
-signedQuoted = do
-  due "'"
-  t ← ifAhead "-" (do due "-"; timeOf minus) (timeOf plus)
-  due "'"
-  give (counted t)
+use Rattle.meaning.specs.Timing.{Event, Wave, Tables, Signed, plus, minus}
 
 -- ---- across the edge
 

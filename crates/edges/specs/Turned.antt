@@ -5,9 +5,8 @@ use mathlib.Core.Option.{Option, none, some}
 use mathlib.Core.List.{List, [], _∷_, _++_}
 use Rattle.meaning.specs.Timing.{Tables}
 use Rattle.meaning.specs.Body.{Way, looped, shifted, entered, Body, done, vec, set′, inner}
-use Rattle.meaning.specs.Run.{shiftOf, Cycle, cyclesOf}
-use Rattle.meaning.specs.Edited.{alone}
-use Rattle.edges.specs.Edges.{fineBehind}
+use Rattle.meaning.specs.Run.{shiftOf, Cycle, cyclesOf, alone}
+use Rattle.meaning.specs.Edges.{fineBehind}
 use Rattle.edges.specs.Three.{turnsMost}
 
 -- the turns of each cycle of a row

@@ -10,12 +10,12 @@ use lib.ListN.{length, length-append}
 use borrow.Author.Tests.{lt-leb, leb-false, ltb-true, ltb-false, eqb-true, eqb-false}
 use Rattle.tokens.specs.Written.{bytes}
 use Rattle.tokens.specs.Tokens.{Toks, toks}
+use Rattle.tokens.proofs.Bools.{neither, never}
 use Rattle.meaning.specs.Reader.{ok, refuse, _>>=_, give, due, dueOf, ahead as aheadIs, aheadOf, while, closed, until}
 use Rattle.meaning.specs.Meaning.{Answer, given, refused, answering}
 use Rattle.meaning.proofs.Gives.{bind-ok, give-ok}
 use Rattle.meaning.proofs.Takes.{while-done}
 use Rattle.held.proofs.Leads.{Leads as LeadsTo, leads-bind, leads-give, leads-while}
-use Rattle.labels.proofs.Laws.{never}
 use Rattle.words.specs.Cursor.{span, ahead, stream, Stands, alive, from, Goes}
 use Rattle.words.specs.Values.{told}
 use Rattle.words.specs.declared.Cursor.{Cursor}
@@ -32,10 +32,6 @@ use Rattle.reports.proofs.Passing.{takes-record}
 use Rattle.fails.specs.Judged.{JudgesRecord, Roomed, Answered, Records, Judges}
 use Rattle.fails.specs.declared.Judged.{Judged}
 use Rattle.fails.specs.declared.Room.{Room}
-
-either : (x y : Bool) → (x || y) ≡ false → (x ≡ false) × (y ≡ false)
-either true y e = never (sym e)
-either false y e = (refl, e)
 
 -- the word that a reference is looked up by
 pub at-word : {o : Option ℕ} {v w : List ℕ} (past : List ℕ → Option ℕ) → o ≡ past v → v ≡ w → o ≡ past w
@@ -57,11 +53,11 @@ module _ (x : Room) (n : ℕ) where
       by false q false p e = never e
 
   pub enough : (x .full || ltb (x .left) n) ≡ false → n ≤ x .left
-  enough e = ltb-false (x .left) n (either (x .full) (ltb (x .left) n) e .1)
+  enough e = ltb-false (x .left) n (neither (x .full) (ltb (x .left) n) e .1)
 
   pub some-taken : (x .full || ltb (x .left) n) ≡ false → (room used : ℕ) → Roomed room used x → Roomed room (used + n) (record { left = x .left - n; full = false })
   some-taken e room used r = record {
-    fits = λ z. omega (arith, enough e, r .fits (either (x .full) (ltb (x .left) n) e .0));
+    fits = λ z. omega (arith, enough e, r .fits (neither (x .full) (ltb (x .left) n) e .0));
     lacks = λ z. never z;
   }
 
@@ -153,10 +149,10 @@ module _ {report : List ℕ} {c a : Cursor} (ss : Signals) (cycles : ℕ) (past 
   pub judges-in : (not (b .known) || (eqb (p .count) 0 && eqb left 0)) ≡ false → {n : ℕ} → (p .count ≡ 0 → n ≡ 1) × ((p .count ≡ 0 → ⊥) → n ≡ p .count)
       → JudgesRecord report c ss cycles past (record { cursor = p .cursor; outside = p .outside; place = p .place; count = n })
   unfolding firstOutside
-  judges-in e {n} m = by (eqb (p .count) 0) refl (eqb left 0) refl (either (not (b .known)) (eqb (p .count) 0 && eqb left 0) e .1)
+  judges-in e {n} m = by (eqb (p .count) 0) refl (eqb left 0) refl (neither (not (b .known)) (eqb (p .count) 0 && eqb left 0) e .1)
     where
       on : b .known ≡ true
-      on = yes (b .known) (either (not (b .known)) (eqb (p .count) 0 && eqb left 0) e .0)
+      on = yes (b .known) (neither (not (b .known)) (eqb (p .count) 0 && eqb left 0) e .0)
         where
           yes : (x : Bool) → not x ≡ false → x ≡ true
           yes true q = refl

@@ -8,15 +8,15 @@ use mathlib.Core.List.{List, [], _∷_, _++_, append-assoc, append-nil}
 use lib.ListN.{getD}
 use Rattle.tokens.specs.Written.{same}
 use Rattle.tokens.specs.Tokens.{toks}
+use Rattle.tokens.proofs.Bools.{never}
 use Rattle.meaning.specs.Bounds.{cyclesMost}
 use Rattle.meaning.specs.Names.{find}
 use Rattle.meaning.specs.Body.{Body}
 use Rattle.meaning.specs.Run.{cycles}
 use Rattle.meaning.specs.Meaning.{firsts}
 use Rattle.meaning.specs.Statements.{Decl, Decls}
-use Rattle.labels.proofs.Laws.{never}
+use Rattle.meaning.proofs.Others.{same-eq}
 use Rattle.words.specs.Table.{nameOf}
-use Rattle.words.proofs.Words.{same-eq}
 use Rattle.bursts.specs.Listed.{listedIn}
 use Rattle.texts.proofs.Runs.{listFrom, list-end}
 use Rattle.index.specs.Index.{Line, keywords, linesFrom}

@@ -1,16 +1,10 @@
 -- What the patterns of an accepted text have: no `#` and no Shift of their own, labels that are used once, and a place where each is held.
 use Prim.Native.Nat.{ℕ, _≤_}
-use native.Mathlib.Omega.{arith}
-use mathlib.Core.Path.{_≡_, refl, sym, _∙_, subst}
-use mathlib.Core.Bool.{Bool, true, false}
+use mathlib.Core.Path.{_≡_, sym, _∙_, subst}
+use mathlib.Core.Bool.{true}
 use mathlib.Core.Option.{none, some}
 use mathlib.Core.List.{List, [], _∷_, _++_}
-use lib.Dec.{ltb}
-use lib.ListN.{length}
-use borrow.Author.Tests.{ltb-true, ltb-false}
-use Rattle.tokens.specs.Refusals.{textMost}
 use Rattle.tokens.specs.Tokens.{Tok, Toks, toks}
-use Rattle.tokens.proofs.Faults.{fault-too-long}
 use Rattle.meaning.specs.Bounds.{depthMost, cyclesMost}
 use Rattle.meaning.specs.Reader.{ok}
 use Rattle.meaning.specs.Names.{find}
@@ -20,7 +14,7 @@ use Rattle.meaning.specs.Labels.{usedTwice, eachOnce}
 use Rattle.meaning.specs.Run.{cycles}
 use Rattle.meaning.specs.Statements.{Decl, Decls, Env, forPatterns}
 use Rattle.meaning.specs.Document.{oneMacro, oneProcedure, bodies, pattern, patterns, Read, document, documentUpTo}
-use Rattle.meaning.specs.Meaning.{given, refused}
+use Rattle.meaning.specs.Meaning.{refused}
 use Rattle.meaning.proofs.Gives.{bind-ok, bind-go}
 use Rattle.meaning.proofs.Once.{earlier-ok}
 use Rattle.meaning.proofs.Turns.{Plain, Good}
@@ -34,10 +28,10 @@ use Rattle.held.proofs.Bodies.{leads-bodies}
 use Rattle.held.proofs.Parts.{firstEnv, Parts}
 use Rattle.held.proofs.Whole.{whole}
 use Rattle.timing.specs.declared.Watch.{Watch}
-use Rattle.texts.specs.Texts.{Sound, sound}
 use Rattle.texts.specs.Tables.{Found}
 use Rattle.texts.specs.declared.Verdict.{Verdict}
-use Rattle.texts.proofs.Sounds.{sound-fault, sound-runs}
+use Rattle.texts.proofs.Sounds.{sound-runs}
+use Rattle.texts.proofs.Deciding.{short-sound}
 use Rattle.plays.proofs.Patterns.{Playing, patterns-fit}
 use Rattle.references.proofs.Parted.{Parted, patterns-parted}
 use Rattle.fails.specs.Referred.{Pattern}
@@ -119,16 +113,6 @@ module _ {ts us : Toks} {d : Read} (p : Parts ts d us) where
 
 -- ---- an accepted text
 
-sound-short : (text : List ℕ) {x : Sound} → sound text ≡ given x → length text ≤ textMost
-sound-short text {x} e = by (ltb textMost (length text)) refl
-  where
-    by : (b : Bool) → ltb textMost (length text) ≡ b → length text ≤ textMost
-    by true q =
-        let z = sym (sound-fault text (fault-too-long text (ltb-true textMost (length text) q))) ∙ e in
-        let y : _≡_ {A = ℕ} 0 1 = cc in
-        absurd (omega arith)
-    by false q = ltb-false textMost (length text) q
-
 -- THE LAW: a pattern that a name finds
 module _ {w : Watch} {text places lists tplaces waves book rows list : List ℕ} {v : Verdict} (f : Found text w places lists tplaces waves book rows list v) where
   pub pattern-is : (name : List ℕ) (d : Decl) → find (f .it .read .patterns) name ≡ some d → cycles 0 (d .body) ≤ cyclesMost
@@ -146,7 +130,7 @@ module _ {w : Watch} {text places lists tplaces waves book rows list : List ℕ}
         deep = all-found (λ x. Playing (x .1 .body)) ps (patterns-fit (toks text 0) (f .it .read) (f .tabled .rest) p) name d found .1 .deep;
         plain = all-found (λ x. Plain (x .1 .body)) ps (patterns-plain p) name d found .1;
         fits = fits;
-        short = sound-short text (f .is);
+        short = short-sound text (f .is);
         burst = p .burst-name .word;
         all = p .patterns-at;
         once = labels-once p (sound-runs text (f .is) .read);

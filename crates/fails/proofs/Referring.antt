@@ -1,5 +1,5 @@
 -- The references of a pattern: where it begins, its labels, and the cycles before each X of it.
-use Prim.Native.Nat.{ℕ, zero, suc, _+_, _*_, _<_}
+use Prim.Native.Nat.{ℕ, _+_, _*_, _<_}
 use native.Mathlib.Omega.{arith}
 use mathlib.Core.Path.{_≡_, refl, sym, ap, _∙_, subst}
 use mathlib.Core.Bool.{Bool, true, false}
@@ -20,6 +20,7 @@ use Rattle.words.specs.Cursor.{stream, Stands, alive}
 use Rattle.words.specs.Table.{names}
 use Rattle.words.specs.Values.{told}
 use Rattle.words.specs.declared.Cursor.{Cursor}
+use Rattle.words.proofs.Words.{zeros}
 use Rattle.measures.specs.Book.{entries, firstPattern, startAt, Entry}
 use Rattle.heads.specs.declared.Known.{Known}
 use Rattle.texts.proofs.Runs.{found-none, found-pattern}
@@ -96,11 +97,6 @@ module _ {text places lists tplaces book rows : List ℕ} {known : Known} {patte
           past-is empty E (stream text c) (d .body) filled (subst (λ (m : ℕ). Labelled text labels m (referred E (stream text c) 0 (d .body))) n l) name w ∙ ap (λ (ts : Toks). past E ts (d .body) name w) stands-there
 
 -- ---- tables of zeros
-
-zeros : (n i : ℕ) → _≡_ {A = ℕ} (getD (replicate n 0) i 0) 0
-zeros zero i = refl
-zeros (suc n) zero = refl
-zeros (suc n) (suc i) = zeros n i
 
 pub blank-tables : (text : List ℕ) → Blank text (replicate (2 * labelsMost) 0) (replicate hashes 0) (replicate labelsMost 0) (replicate labelsMost 0)
 blank-tables text = record {

@@ -7,44 +7,36 @@ use mathlib.Core.Option.{Option, none, some}
 use mathlib.Core.List.{List, [], _∷_, _++_}
 use lib.Dec.{leb}
 use lib.ListN.{length}
-use borrow.Author.Tests.{le-leb, lt-leb, leb-true}
-use Rattle.tokens.specs.Tokens.{Tok, Toks, toks}
-use Rattle.meaning.specs.Bounds.{sizeMost, cyclesMost}
-use Rattle.meaning.specs.Refusals.{noRoom, notPlayable}
-use Rattle.meaning.specs.Reader.{Res, ok}
-use Rattle.meaning.specs.Names.{find}
-use Rattle.meaning.specs.Run.{size, cycles}
+use borrow.Author.Tests.{le-leb, leb-true}
+use Rattle.tokens.specs.Tokens.{Tok}
+use Rattle.tokens.proofs.Bools.{never}
+use Rattle.meaning.specs.Refusals.{noRoom}
+use Rattle.meaning.specs.Run.{cycles}
 use Rattle.meaning.specs.Statements.{Decl, Decls, Env, numbered}
-use Rattle.meaning.specs.Document.{Read, document}
-use Rattle.meaning.specs.Meaning.{Answer, given, refused, answering, fitting, Meaning, meaning}
+use Rattle.meaning.specs.Meaning.{Answer, given, refused, answering}
 use Rattle.words.specs.Cursor.{span}
 use Rattle.words.specs.Table.{nameOf, namesFrom, names, named}
 use Rattle.signals.specs.Names.{listAt}
 use Rattle.timing.specs.declared.Watch.{Watch}
-use Rattle.arguments.proofs.Lists.{both}
 use Rattle.bursts.specs.Listed.{listedIn}
 use Rattle.texts.specs.Texts.{sound}
 use Rattle.texts.specs.Tables.{Found}
 use Rattle.texts.specs.declared.Verdict.{Verdict}
 use Rattle.texts.proofs.Sounds.{sound-runs}
-use Rattle.plays.specs.declared.Failing.{Failing}
+use Rattle.verdicts.specs.declared.Unfit.{Unfit}
 use Rattle.heads.specs.declared.Known.{Known}
-use Rattle.sections.specs.Listing.{Short}
 use Rattle.index.specs.Index.{Line, linesFrom, linesOf, indexOf}
-use Rattle.index.specs.Lines.{Lists, blocksIn}
-use Rattle.index.proofs.Names.{listed-few}
-use Rattle.labels.specs.Table.{Held}
-use Rattle.labels.proofs.Laws.{never}
+use Rattle.index.specs.Lines.{blocksIn}
 use Rattle.references.specs.References.{pastBy, past}
 use Rattle.references.specs.Filled.{noted}
-use Rattle.reports.specs.Report.{Record, Report, reported, Fail, notInPattern, answeredOf, answeredAll}
+use Rattle.reports.specs.Report.{Record, reported, Fail, notInPattern, answeredOf, answeredAll}
 use Rattle.reports.specs.Read.{Holds}
 use Rattle.verdicts.specs.Found.{Plays}
-use Rattle.verdicts.proofs.Found.{meantBy, meaning-refused, meaning-failing, meaning-given}
-use Rattle.fails.specs.Fails.{Told, answers, refuses, telling, linesNamed, onlyLine, listedOnce, declarations, pastIn, failsOf, failsIn, Rows, Failed, inFront, roomFor, failsOut, fails}
+use Rattle.verdicts.proofs.Found.{meaning-refused}
+use Rattle.fails.specs.Fails.{Told, answers, refuses, telling, linesNamed, onlyLine, pastIn, failsOf, failsIn, Rows, Failed, inFront, roomFor, failsOut, fails}
 use Rattle.fails.specs.Once.{Often}
-use Rattle.fails.specs.Judged.{Records, Judges}
-use Rattle.fails.specs.Written.{Stand, Roomy, Writes}
+use Rattle.fails.specs.Judged.{Judges}
+use Rattle.fails.specs.Written.{Roomy, Writes}
 use Rattle.fails.specs.Referred.{Pattern, Refers}
 use Rattle.fails.specs.Service.{rowsOf, rowAfter, sparedTold, Reports, Answering}
 use Rattle.fails.specs.declared.Times.{Times}
@@ -206,37 +198,19 @@ unfolding fails telling sparedTold
 fails-refused text report spare e = reports-refused (rw (meaning-refused text e))
 
 module _ {w : Watch} {text places lists tplaces waves book rows list : List ℕ} {v : Verdict} (f : Found text w places lists tplaces waves book rows list v) where
-  few-cycles : cycles 0 (f .it .run) ≤ cyclesMost
-  unfolding fitting
-  few-cycles =
-      let k = both (leb (size (f .it .run)) sizeMost) (leb (cycles 0 (f .it .run)) cyclesMost) (sound-runs text (f .is) .fits) in
-      leb-true (cycles 0 (f .it .run)) cyclesMost (k .1)
-
-  pub lists-are : Lists text book list (v .parts .listed) (v .parts .patterns) (f .it .read .patterns) (f .it .run)
-  lists-are = record {
-    book-long = f .tabled .describes .book-long;
-    patterns-are = f .tabled .patterns-are;
-    counted = f .tabled .patterns-counted;
-    few = f .tabled .few-patterns;
-    few-listed = f .tabled .few-listed;
-    short = subst Short (f .tabled .listed-are) (listed-few .all _ _ _ (f .tabled .parts .burst-read));
-    run-is = rw (f .tabled .listed-are) at (sound-runs text (f .is) .run-is);
-    fits = few-cycles;
-  }
-
   abbrev lines : List Line
   lines = linesFrom 0 (blocksIn text (f .it .read .patterns)) (listedIn text list (v .parts .listed))
 
-  module _ {a : Failing} (p : Plays text places lists tplaces waves book rows list v a) (report : List ℕ) (spare : Bool) (c s l : List ℕ) where
-    pub fails-failing : a .failed ≡ true → Reports (sparedTold spare (fails text report (rowsOf c s l))) c c s s l l (Refused notPlayable (a .place))
+  module _ {a : Unfit} (p : Plays text places lists tplaces waves book rows list v a) (report : List ℕ) (spare : Bool) (c s l : List ℕ) where
+    pub fails-failing : (a .no ≡ 0 → ⊥) → Reports (sparedTold spare (fails text report (rowsOf c s l))) c c s s l l (Refused (a .no) (a .place))
     unfolding fails telling sparedTold
-    fails-failing h = reports-refused (rw (meaning-failing f p h))
+    fails-failing h = reports-refused (rw (p .refuses f h))
 
-    module _ (on : a .failed ≡ false) where
+    module _ (on : a .no ≡ 0) where
       -- an accepted text is what is asked of
       asked : fails text report (rowsOf c s l) ≡ telling true (failsOf lines (f .tabled .parts .env) (f .it .read) report) (λ fs. failsOut fs (rowsOf c s l))
       unfolding fails telling failsIn indexOf linesOf
-      asked = rw (meaning-given f p on, sound-runs text (f .is) .read, declarations-are (f .tabled .parts), f .tabled .listed-are)
+      asked = rw (p .accepts f on, sound-runs text (f .is) .read, declarations-are (f .tabled .parts), f .tabled .listed-are)
 
       signals-are : numbered 0 (f .it .read .signals) ≡ names text places (v .parts .signals)
       signals-are = ap (numbered 0) (f .tabled .signals-are) ∙ numbered-named (listAt lists) text places 0 (v .parts .signals)

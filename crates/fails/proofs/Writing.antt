@@ -10,6 +10,7 @@ use lib.ListN.{length, set, drop, length-append, length-drop}
 use borrow.Author.Tests.{lt-leb, leb-false, le-ltb, ltb-false}
 use Rattle.tokens.specs.Written.{bytes}
 use Rattle.tokens.specs.Tokens.{Tok, Toks}
+use Rattle.tokens.proofs.Bools.{neither}
 use Rattle.meaning.specs.Bounds.{cyclesMost}
 use Rattle.meaning.specs.Reader.{due, aheadOf, while, until}
 use Rattle.meaning.specs.Meaning.{Answer, given, refused, answering}
@@ -48,10 +49,6 @@ module _ (f : Fail → ℕ) where
 
 -- ---- cycles
 
-either : (x y : Bool) → (x || y) ≡ false → (x ≡ false) × (y ≡ false)
-either true y e = let z : _≡_ {A = ℕ} 0 1 = cc in absurd (omega arith)
-either false y e = (refl, e)
-
 module _ (a b : ℕ) where
   pub too-far : (ltb cyclesMost a || ltb cyclesMost b) ≡ true → a + b ≤ cyclesMost → 0 ≡ a + b
   too-far e h =
@@ -60,21 +57,16 @@ module _ (a b : ℕ) where
       absurd (omega arith)
 
   pub near : (ltb cyclesMost a || ltb cyclesMost b) ≡ false → a + b ≤ cyclesMost + cyclesMost
-  near e = let h = either (ltb cyclesMost a) (ltb cyclesMost b) e in omega (arith, ltb-false cyclesMost a (h .0), ltb-false cyclesMost b (h .1))
+  near e = let h = neither (ltb cyclesMost a) (ltb cyclesMost b) e in omega (arith, ltb-false cyclesMost a (h .0), ltb-false cyclesMost b (h .1))
 
 -- ---- three rows
-
-neither : (x y z : Bool) → (x || y || z) ≡ false → (x ≡ false) × (y ≡ false) × (z ≡ false)
-neither false false false e = (refl, refl, refl)
-neither false false true e = let z : _≡_ {A = ℕ} 0 1 = cc in absurd (omega arith)
-neither false true z e = let z : _≡_ {A = ℕ} 0 1 = cc in absurd (omega arith)
-neither true y z e = let z : _≡_ {A = ℕ} 0 1 = cc in absurd (omega arith)
 
 -- where each row has room
 pub there : (c s l at : ℕ) → (leb c at || leb s at || leb l at) ≡ false → (at < c) × (at < s) × (at < l)
 there c s l at e =
-    let h = neither (leb c at) (leb s at) (leb l at) e in
-    (leb-false c at (h .0), leb-false s at (h .1), leb-false l at (h .2))
+    let h = neither (leb c at || leb s at) (leb l at) e in
+    let k = neither (leb c at) (leb s at) (h .0) in
+    (leb-false c at (k .0), leb-false s at (k .1), leb-false l at (h .1))
 
 roomy-less : {m n : ℕ} {b : Rows} → Roomy n b → m ≤ n → Roomy m b
 roomy-less r h = record { cycles = omega (arith, r .cycles); signals = omega (arith, r .signals); letters = omega (arith, r .letters) }

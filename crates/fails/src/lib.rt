@@ -24,16 +24,14 @@ ghost use Rattle.fails.specs.Written.{PutsOne, WritesOffsets, WritesReco
 ghost use Rattle.fails.specs.Referred.{SomePattern, Blank, Refers};
 ghost use Rattle.fails.specs.Service.{rowsOf, sparedTold, Reports, Answering};
 use heads::Known;
+use measures::DEPTH;
 use references::Before;
-use verdicts::NO_ROOM;
-use verdicts::NOT_PLAYABLE;
 use words::Cursor;
-
-const DEPTH: usize = 8;
+use words::NO_ROOM;
 
 const NOT_IN_PATTERN: u8 = 24;
 
-const CYCLES_MOST: u64 = 1_099_511_627_776;
+const CYCLES_MOST: u64 = measures::CYCLES_MOST as u64;
 
 // How often a pattern is listed, 2 for more than once; the run's cycle at which it begins the last time, and how many it has.
 struct Times {
@@ -602,8 +600,8 @@ fn answer_found<'a>(
         used,
         v,
     );
-    if f.failed {
-        return Failures::Refused(NOT_PLAYABLE, f.place);
+    if f.no != 0 {
+        return Failures::Refused(f.no, f.place);
     }
     match reports::reported(report, text, places, parts.signals) {
         reports::Finding::Refused(n, p) => Failures::ReportRefused(n, p),

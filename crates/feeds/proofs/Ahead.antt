@@ -10,7 +10,7 @@ use lib.ListN.{length, take, drop}
 use borrow.Author.Tests.{lt-ltb, ltb-true}
 use Rattle.tokens.specs.Written.{bytes, same}
 use Rattle.tokens.specs.Tokens.{Tok, Toks, stop, tok, toks, left}
-use Rattle.meaning.specs.Reader.{Reader, ok, give, any, aheadOf}
+use Rattle.meaning.specs.Reader.{ok, any, aheadOf}
 use Rattle.meaning.specs.Names.{number}
 use Rattle.meaning.specs.Data.{stretched, repeatOf, times, repeated, piece, dataRead}
 use Rattle.meaning.proofs.Taking.{takes-any}
@@ -18,12 +18,11 @@ use Rattle.words.specs.declared.Cursor.{Cursor}
 use Rattle.words.specs.declared.Value.{Value}
 use Rattle.words.specs.Cursor.{span, ahead, stream, Stands, alive, Goes}
 use Rattle.words.specs.Values.{most, capped, told, valueOf}
-use Rattle.words.proofs.Words.{rest}
-use Rattle.words.proofs.Flow.{from-on, from-stop, read, stream-on, stream-stop}
+use Rattle.words.proofs.Words.{rest, span-none}
+use Rattle.words.proofs.Flow.{read, stream-on, stream-stop, went}
 use Rattle.feeds.specs.declared.Feed.{Feed}
 use Rattle.feeds.specs.Feeds.{Feeds, Times, Spells, Repeats, NextWord}
 use Rattle.data.proofs.Stretched.{stretched-one}
-use Rattle.feeds.proofs.Spans.{span-none}
 use Rattle.feeds.proofs.Pieces.{data-more, data-done, data-some, piece-repeat, piece-word, Repeat, times-ok, repeated-ok}
 
 -- ---- a cursor
@@ -49,28 +48,6 @@ token text c {t} {ts} e = by (ltb (c .at) (c .end)) refl
 pub token-fewer : (text : List ℕ) (c : Cursor) → c .at < c .end → left (toks text (c .end)) < left (stream text c)
 unfolding left
 token-fewer text c h = rw (stream-on text c (lt-ltb (c .at) (c .end) h)) (omega arith)
-
--- a reader that answers leaves a cursor that goes on, behind what it took
-pub record Went {A : Type 0} (text : List ℕ) (r : Cursor) (a b : A) (us : Toks) : Type 0 where
-  pub on : alive r ≡ true
-  pub is : a ≡ b
-  pub behind : stream text r ≡ us
-
-pub went : {A : Type 0} {text : List ℕ} {c r : Cursor} {m : Reader A} {a b : A} {us : Toks} → Goes text c m r a → alive c ≡ true
-    → m (stream text c) ≡ ok b us → Went text r a b us
-unfolding give
-went {A} {text} {c} {r} {m} {a} {b} {us} g h e = by (alive r) refl
-  where
-    by : (x : Bool) → alive r ≡ x → Went text r a b us
-    by true k =
-        let q = sym (read g k .gave) ∙ e in
-        let o : a ≡ b = cc in
-        let p : stream text r ≡ us = cc in
-        record { on = k; is = o; behind = p }
-    by false k =
-        let q = sym (from-stop text r (give a) k) ∙ g .same ∙ from-on text c m h ∙ e in
-        let z : _≡_ {A = ℕ} 0 1 = cc in
-        absurd (omega arith)
 
 -- ---- a repeat
 

@@ -6,20 +6,16 @@ use mathlib.Core.Path.{_≡_, refl, sym, ap, _∙_}
 use mathlib.Core.Bool.{Bool, true, false}
 use mathlib.Core.List.{List, [], _∷_, _++_, append-assoc}
 use lib.Dec.{eqb}
-use lib.ListN.{length, getD, drop}
+use lib.ListN.{length, getD, drop, List·getD-eq-default}
 use borrow.Author.Tests.{eq-eqb, ne-eqb, eqb-true}
 use Rattle.meaning.specs.Data.{stretched}
 use Rattle.meaning.specs.Run.{next}
 use Rattle.words.specs.Cursor.{span}
+use Rattle.words.proofs.Words.{span-none}
 use Rattle.feeds.specs.declared.Feed.{Feed}
 use Rattle.feeds.specs.Feeds.{Feeds, front, Fine}
-use Rattle.feeds.proofs.Spans.{span-none, span-length, span-cut}
+use Rattle.feeds.proofs.Spans.{span-length, span-cut}
 use Rattle.feeds.proofs.Passing.{feeds-within}
-
-pub getD-past : (l : List ℕ) (i : ℕ) → length l ≤ i → getD l i 0 ≡ 0
-getD-past [] i h = refl
-getD-past (x ∷ l) zero h = absurd (omega arith)
-getD-past (x ∷ l) (suc i) h = getD-past l i (omega arith)
 
 module _ (marks : List ℕ) where
   front-most : (l : List ℕ) → front marks l ≤ length l
@@ -80,7 +76,7 @@ module _ (marks : List ℕ) where
 
   -- behind the marks there is none
   pub unmarked-past : (c : ℕ) → length marks ≤ c → getD marks c 0 ≡ 1 → ⊥
-  unmarked-past c h e = let z : _≡_ {A = ℕ} 0 1 = sym (getD-past marks c h) ∙ e in omega arith
+  unmarked-past c h e = let z : _≡_ {A = ℕ} 0 1 = sym (List·getD-eq-default marks 0 h) ∙ e in omega arith
 
   front-one : (c : ℕ) (cs : List ℕ) → getD marks c 0 ≡ 1 → front marks (c ∷ cs) ≡ suc (front marks cs)
   unfolding front

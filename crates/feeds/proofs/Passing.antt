@@ -13,11 +13,12 @@ use Rattle.tokens.specs.Tokens.{toks, left}
 use Rattle.meaning.specs.Data.{stretched}
 use Rattle.meaning.specs.Run.{next, behind}
 use Rattle.words.specs.Cursor.{span}
+use Rattle.words.proofs.Words.{span-none}
 use Rattle.data.proofs.Stretched.{stretched-parts, length-stretched}
 use Rattle.feeds.specs.declared.Feed.{Feed}
 use Rattle.feeds.specs.Feeds.{Feeds, Takes, Skips, BehindOne, Onward, Passes, NextWord, AtWord}
 use Rattle.feeds.proofs.Pieces.{data-within}
-use Rattle.feeds.proofs.Spans.{span-none, span-length, span-cut, span-drop, drop-past}
+use Rattle.feeds.proofs.Spans.{span-length, span-cut, span-drop, drop-past}
 use Rattle.feeds.proofs.Ahead.{feeds-data}
 
 -- ---- the characters of a word
@@ -184,15 +185,6 @@ word-next {text} {f} {r} h n =
     }
 
 -- ---- the next character
-
--- the code's test: there is a word, and it lies within the text
-pub both-below : (a b c : ℕ) → (ltb a b && ltb a c) ≡ true → (a < b) × (a < c)
-both-below a b c h = by (ltb a b) refl (ltb a c) refl h
-  where
-    by : (x : Bool) → ltb a b ≡ x → (y : Bool) → ltb a c ≡ y → (x && y) ≡ true → (a < b) × (a < c)
-    by true e true f h = (ltb-true a b e, ltb-true a c f)
-    by true e false f h = let z : _≡_ {A = ℕ} 0 1 = cc in absurd (omega arith)
-    by false e y f h = let z : _≡_ {A = ℕ} 0 1 = cc in absurd (omega arith)
 
 not-below : (a b c : ℕ) → (ltb a b && ltb a c) ≡ false → b < c → b ≤ a
 not-below a b c h l = by (ltb a b) refl (ltb a c) refl h

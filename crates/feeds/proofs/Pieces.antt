@@ -19,8 +19,8 @@ use Rattle.meaning.specs.Reader.{Res, ok, refuse, after, _>>=_, give, refuseIf,
 use Rattle.meaning.specs.Names.{number, within}
 use Rattle.meaning.specs.Data.{charsOf, stretched, repeatOf, times, repeated, piece, part, dataRead}
 use Rattle.meaning.proofs.Takes.{while-done, while-on}
-use Rattle.meaning.proofs.Gives.{bind-ok, bind-go, give-ok, if-ok}
-use Rattle.words.proofs.Words.{same-eq}
+use Rattle.meaning.proofs.Gives.{bind-ok, bind-go, give-ok, if-ok, any-ok}
+use Rattle.meaning.proofs.Others.{same-eq}
 use Rattle.data.proofs.Characters.{takes-part, takes-data}
 
 -- ---- characters that are there already stand in front
@@ -168,11 +168,6 @@ module _ (t : Tok) (ts : Toks) {vs : Toks} {ds : List ℕ} (e : piece false t ts
       by false false false h e = let z : _≡_ {A = ℕ} 0 1 = cc in absurd (omega arith)
 
 -- ---- a repeat
-
-any-ok : (ts : Toks) {t : Tok} {us : Toks} → any ts ≡ ok t us → ts ≡ tok t us
-unfolding any
-any-ok (stop n p) e = let z : _≡_ {A = ℕ} 0 1 = cc in absurd (omega arith)
-any-ok (tok u vs) {t} {us} e = let p : u ≡ t = cc in let q : vs ≡ us = cc in cc
 
 word-ok : (ts : Toks) {t : Tok} {us : Toks} → word ts ≡ ok t us → ts ≡ tok t us
 unfolding word

@@ -8,9 +8,6 @@ use lib.ListN.{length, getD, take, drop, length-drop}
 use Rattle.words.specs.Cursor.{span}
 use Rattle.words.proofs.Words.{cut}
 
-pub span-none : (text : List ℕ) (at end : ℕ) → end ≤ at → span text at end ≡ []
-span-none text at end h = let e : end - at ≡ 0 = omega arith in rw e
-
 pub span-length : (text : List ℕ) (at end : ℕ) → end ≤ length text → length (span text at end) ≡ end - at
 span-length text at end h = length-take-le (end - at) (drop at text) (omega (arith, length-drop at text))
 

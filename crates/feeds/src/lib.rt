@@ -44,12 +44,6 @@ pub fn start(place: usize) -> Feed
     }
 }
 
-fn least(a: usize, b: usize) -> usize
-    ensures { λ r. ⌜ r ≡ min b a ⌝ }
-{
-    if a < b { a } else { b }
-}
-
 // a less b, or 0.
 fn less(a: usize, b: usize) -> usize
     ensures { λ r. ⌜ r ≡ a - b ⌝ }
@@ -280,7 +274,7 @@ fn fine_times(
     let width = end - from;
     let n = marked(text, from, end, marks) - from;
     if n < width {
-        return least(n, most);
+        return sets::least(most, n);
     }
     if most / width < times {
         return most;
@@ -303,7 +297,7 @@ pub fn fine(text: &[u8], feed: Feed, marks: &[u8], most: usize) -> usize
     }
     let n = marked(text, at, end, marks) - at;
     if n < end - at {
-        return least(n, most);
+        return sets::least(most, n);
     }
     if most <= n {
         return most;

@@ -2,15 +2,15 @@
 use Prim.Native.Nat.{ℕ, _+_, _-_, _≤_, _<_}
 use native.Mathlib.Nat.{zero-add}
 use native.Mathlib.Omega.{arith}
-use mathlib.Core.Path.{_≡_, refl, sym, ap, ap₂, _∙_, subst}
+use mathlib.Core.Path.{_≡_, refl, sym, ap, ap₂, _∙_}
 use mathlib.Core.Bool.{Bool, true, false, not, _&&_, _||_}
-use mathlib.Core.List.{List, [], _++_}
+use mathlib.Core.List.{List, _++_}
 use lib.Dec.{leb, ltb}
 use lib.ListN.{length, take, drop}
 use borrow.Author.Tests.{le-leb, lt-leb, ltb-true, ltb-false}
 use Rattle.tokens.specs.Refusals.{textMost}
-use Rattle.meaning.specs.Bounds.{patternsMost, signalsMost}
-use Rattle.meaning.specs.Refusals.{noRoom, notPlayable}
+use Rattle.meaning.specs.Bounds.{patternsMost}
+use Rattle.meaning.specs.Refusals.{noRoom}
 use Rattle.meaning.specs.Run.{cycles}
 use Rattle.meaning.specs.Meaning.{Answer, given, refused, answering, Meaning, meaning}
 use Rattle.meaning.specs.Services.{Counts, counts, namesOf}
@@ -18,16 +18,16 @@ use Rattle.timing.specs.declared.Watch.{Watch}
 use Rattle.texts.specs.Texts.{sound}
 use Rattle.texts.specs.Tables.{Found}
 use Rattle.texts.specs.declared.Verdict.{Verdict}
-use Rattle.plays.specs.Plays.{Ground, ground}
-use Rattle.plays.specs.declared.Failing.{Failing}
+use Rattle.plays.specs.Plays.{ground}
+use Rattle.verdicts.specs.declared.Unfit.{Unfit}
 use Rattle.pages.specs.Pages.{Puts as Put}
-use Rattle.verdicts.specs.Found.{Plays}
-use Rattle.verdicts.proofs.Found.{meantBy, meaning-refused, meaning-failing, meaning-given, runs, names-are, counts-met}
+use Rattle.verdicts.specs.Found.{meantBy, Plays}
+use Rattle.verdicts.proofs.Found.{meaning-refused, runs, names-are, counts-met}
 use Rattle.folded.specs.Flat.{patternsOf, flat}
 use Rattle.folded.specs.Layout.{written}
 use Rattle.folded.specs.Fold.{foldedMost, manyPatterns, manyCycles, Folded as Bytes, foldedIn, folded, fold}
-use Rattle.flats.specs.Meant.{Meant, SomeMeant}
-use Rattle.flats.specs.Flattens.{flatIn, flatOf, Stands, Puts, Flattens, bufferOf, Folds}
+use Rattle.flats.specs.Meant.{Meant}
+use Rattle.flats.specs.Flattens.{flatIn, flatOf, Puts, Flattens, Folds}
 use Rattle.verdicts.specs.Buffers.{afterwards, spared}
 use Rattle.flats.specs.declared.Flat.{Flat}
 use Rattle.flats.specs.declared.Folded.the-variants.{Text, Refused}
@@ -38,13 +38,13 @@ pub flat-refused : (text : List ℕ) {page : List ℕ} {n p : ℕ} {r : Flat} �
 unfolding flatOf answering
 flat-refused text e z k = record { refuses = λ h. (rw (meaning-refused text e, flatOf) (rw (k .0, k .1))); gives = λ h. absurd (z (sym (k .0) ∙ h)) }
 
-module _ {w : Watch} {text places lists tplaces waves book rows list : List ℕ} {v : Verdict} (f : Found text w places lists tplaces waves book rows list v) {a : Failing}
+module _ {w : Watch} {text places lists tplaces waves book rows list : List ℕ} {v : Verdict} (f : Found text w places lists tplaces waves book rows list v) {a : Unfit}
     (p : Plays text places lists tplaces waves book rows list v a) where
-  pub flat-failing : {page : List ℕ} {r : Flat} → a .failed ≡ true → (r .no ≡ notPlayable) × (r .place ≡ a .place) → Flattens text page r
+  pub flat-failing : {page : List ℕ} {r : Flat} → (a .no ≡ 0 → ⊥) → (r .no ≡ a .no) × (r .place ≡ a .place) → Flattens text page r
   unfolding flatOf answering
-  flat-failing h k = record { refuses = λ z. (rw (meaning-failing f p h, flatOf) (rw (k .0, k .1))); gives = λ z. absurd (omega (arith, k .0)) }
+  flat-failing h k = record { refuses = λ z. (rw (p .refuses f h, flatOf) (rw (k .0, k .1))); gives = λ z. absurd (h (sym (k .0) ∙ z)) }
 
-  module _ (on : a .failed ≡ false) where
+  module _ (on : a .no ≡ 0) where
     cycles-are : cycles 0 (f .it .run) ≡ v .total .cycles
     unfolding counts
     cycles-are = ap (λ (c : Counts). c .cycles) (counts-met f)
@@ -52,7 +52,7 @@ module _ {w : Watch} {text places lists tplaces waves book rows list : List ℕ}
     by-cycles : {c : Bool} → leb (cycles 0 (f .it .run)) foldedMost ≡ c → flatOf text ≡ elim c as (λ x. Answer (List ℕ)) [ false ↦ refused manyCycles 0 | true ↦ flatIn text (meantBy (f .it)) ]
     unfolding flatOf answering
     by-cycles e =
-        ap (λ x. answering x λ m. elim (leb (cycles 0 (m .run)) foldedMost) as (λ x. Answer (List ℕ)) [ false ↦ refused manyCycles 0 | true ↦ flatIn text m ]) (meaning-given f p on)
+        ap (λ x. answering x λ m. elim (leb (cycles 0 (m .run)) foldedMost) as (λ x. Answer (List ℕ)) [ false ↦ refused manyCycles 0 | true ↦ flatIn text m ]) (p .accepts f on)
         ∙ ap (λ (c : Bool). elim c as (λ x. Answer (List ℕ)) [ false ↦ refused manyCycles 0 | true ↦ flatIn text (meantBy (f .it)) ]) e
 
     -- 23
@@ -69,7 +69,7 @@ module _ {w : Watch} {text places lists tplaces waves book rows list : List ℕ}
         parts = v .parts;
         read = f .it .read;
         runs = runs f;
-        meant = meaning-given f p on;
+        meant = p .accepts f on;
         size-is = ap (λ (c : Counts). c .size) (counts-met f);
         few = omega (arith, cycles-are);
         signals-are = names-are f false;

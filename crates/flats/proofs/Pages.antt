@@ -9,6 +9,7 @@ use lib.ListN.{length, take, drop, length-append}
 use lib.Seq.{take-at}
 use borrow.Author.Tests.{le-leb, lt-leb, leb-true, leb-false}
 use Rattle.tokens.specs.Refusals.{textMost}
+use Rattle.tokens.proofs.Bools.{true-false}
 use Rattle.meaning.specs.Bounds.{patternsMost}
 use Rattle.meaning.specs.Refusals.{noRoom}
 use Rattle.meaning.specs.Meaning.{Answer, given, refused, Meaning, meaning}
@@ -18,7 +19,6 @@ use Rattle.folded.specs.Layout.{written}
 use Rattle.folded.specs.Fold.{manyPatterns}
 use Rattle.pens.specs.Pens.{Holds, Writes}
 use Rattle.pens.specs.declared.Pen.{Pen}
-use Rattle.pens.proofs.Laws.{absurd-full}
 use Rattle.flats.specs.Meant.{Meant, signalsIn, tablesIn, Bodied}
 use Rattle.flats.specs.Flattens.{headed, Heads, Fits, Joins, flatIn, Stands, Puts}
 use Rattle.flats.specs.declared.Part.{Part}
@@ -34,7 +34,7 @@ full-long : {before front page : List ℕ} {p : Pen} → Holds before front p pa
 full-long {before} {front} h e = by (leb (length front) (length before)) refl
   where
     by : (b : Bool) → leb (length front) (length before) ≡ b → length before < length front
-    by true q = absurd-full e (h .some (leb-true (length front) (length before) q) .0)
+    by true q = true-false e (h .some (leb-true (length front) (length before) q) .0)
     by false q = leb-false (length front) (length before) q
 
 roomy : {before front page : List ℕ} {p : Pen} → Holds before front p page → p .full ≡ false → length front ≤ length before
@@ -42,7 +42,7 @@ roomy {before} {front} h e = by (leb (length front) (length before)) refl
   where
     by : (b : Bool) → leb (length front) (length before) ≡ b → length front ≤ length before
     by true q = leb-true (length front) (length before) q
-    by false q = absurd-full (h .none (leb-false (length front) (length before) q)) e
+    by false q = true-false (h .none (leb-false (length front) (length before) q)) e
 
 front-is : {before front page : List ℕ} {p : Pen} → Holds before front p page → p .full ≡ false → take (p .at) page ≡ front
 front-is {before} {front} {page} {p} h e =

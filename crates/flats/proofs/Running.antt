@@ -11,10 +11,9 @@ use Rattle.tokens.specs.Tokens.{Tok}
 use Rattle.meaning.specs.Bounds.{cyclesMost}
 use Rattle.meaning.specs.Names.{find}
 use Rattle.meaning.specs.Body.{listed as byList, entered, Body, done, inner}
-use Rattle.meaning.specs.Run.{Cycle, cycles, turnsOf, shiftOf, play, playing, entering, follow, start, cyclesOf}
+use Rattle.meaning.specs.Run.{Cycle, cycles, turnsOf, shiftOf, play, playing, entering, follow, start, cyclesOf, alone}
 use Rattle.meaning.specs.Meaning.{Answer, given, answering, runOf, Meaning}
 use Rattle.meaning.specs.Statements.{Decl, Decls}
-use Rattle.meaning.specs.Edited.{alone}
 use Rattle.meaning.proofs.Rows.{rows-are-cycles}
 use Rattle.walks.specs.Seen.{seen}
 use Rattle.words.specs.Table.{nameOf}

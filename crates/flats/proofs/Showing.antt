@@ -1,5 +1,5 @@
 -- What a window writes with the mark 0 are the rows themselves; window by window they are a listed pattern's.
-use Prim.Native.Nat.{ℕ, zero, suc, _+_, _*_, _-_, _≤_, _<_}
+use Prim.Native.Nat.{ℕ, suc, _+_, _*_, _-_, _≤_, _<_}
 use native.Mathlib.Nat.{suc-mul, zero-mul}
 use native.Mathlib.Omega.{arith}
 use mathlib.Core.Path.{_≡_, refl, sym, ap, ap₂, _∙_, subst}
@@ -14,6 +14,7 @@ use Rattle.meaning.specs.Run.{Cycle, unassigned, cycles, cyclesOf}
 use Rattle.meaning.specs.Meaning.{Meaning}
 use Rattle.meaning.specs.Services.{shown, shownAll, digitOf, row, rows, rowWidth}
 use Rattle.meaning.proofs.Rows.{AllWide, every-cycle-wide, rows-are-cycles, row-width}
+use Rattle.meaning.proofs.Windows.{wide-take, wide-drop}
 use Rattle.walks.specs.Seen.{seen}
 use Rattle.walks.proofs.Seen.{length-seen, seen-more}
 use Rattle.plays.specs.Plays.{Ground}
@@ -75,16 +76,6 @@ rows-behind n (c ∷ cs) w front rest r h =
 
 rows-shown : (n : ℕ) (cs : List Cycle) → AllWide n cs → (rest : List ℕ) → rowsIn n (rows 0 cs ++ rest) 0 (length cs) ≡ rowsOf cs
 rows-shown n cs w rest = rows-behind n cs w [] rest 0 (sym (zero-mul (n + 2)))
-
-wide-take : (n k : ℕ) (cs : List Cycle) → AllWide n cs → AllWide n (take k cs)
-wide-take n zero cs h = tt
-wide-take n (suc k) [] h = tt
-wide-take n (suc k) (c ∷ cs) h = (h .0, wide-take n k cs (h .1))
-
-wide-drop : (n k : ℕ) (cs : List Cycle) → AllWide n cs → AllWide n (drop k cs)
-wide-drop n zero cs h = h
-wide-drop n (suc k) [] h = tt
-wide-drop n (suc k) (c ∷ cs) h = wide-drop n k cs (h .1)
 
 -- ---- a window of an accepted text
 

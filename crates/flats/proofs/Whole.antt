@@ -8,10 +8,9 @@ use lib.ListN.{length, length-append}
 use Rattle.tokens.specs.Written.{bytes}
 use Rattle.tokens.specs.Tokens.{Tok}
 use Rattle.meaning.specs.Bounds.{signalsMost}
-use Rattle.meaning.specs.Timing.{Event, Tables}
+use Rattle.meaning.specs.Timing.{Event, Tables, Signed, plus, minus, uncounted}
 use Rattle.meaning.specs.Body.{listed as byList, Way, entered, Body, done, inner}
-use Rattle.meaning.specs.Edited.{alone}
-use Rattle.meaning.specs.Run.{cyclesOf}
+use Rattle.meaning.specs.Run.{cyclesOf, alone}
 use Rattle.meaning.specs.Meaning.{Answer, given, runOf, firsts, Meaning, meaning}
 use Rattle.words.specs.Table.{names}
 use Rattle.bursts.proofs.Entries.{listed-length}
@@ -21,7 +20,7 @@ use Rattle.plays.specs.Plays.{Ground}
 use Rattle.folded.specs.Pieces.{Piece, word, only, laid, each}
 use Rattle.folded.specs.Flat.{Row, Chart, Sheet, Line, directed, direction, sheets, rowsOf, listedRows, parted, partedAll, linesOf, patternsOf, flat}
 use Rattle.pages.specs.Pages.{digits, decimal}
-use Rattle.folded.specs.Layout.{patternName, signalPut, signalsPut, eventPut, entryPut, chartPut, sheetPut, timingPut, namesFrom, listedPut, burstPut, burstName, execPut, patternPut, namedFrom, orOne, namesOf, sheetNames, pieces, written}
+use Rattle.folded.specs.Layout.{patternName, signalPut, signalsPut, timePut, eventPut, entryPut, chartPut, sheetPut, timingPut, namesFrom, listedPut, burstPut, burstName, execPut, patternPut, namedFrom, orOne, namesOf, sheetNames, pieces, written}
 use Rattle.folded.specs.Walk.{walkedAll, begunAll}
 use Rattle.folded.specs.Same.{wordsOf}
 use Rattle.folded.proofs.Walk.{walked-all, begun-all}
@@ -62,9 +61,14 @@ prefix-signals : (xs : List (List ℕ × List ℕ)) → Prefix (signalsPut xs)
 unfolding signalsPut signalPut
 prefix-signals xs = prefix-word _ _ _ (prefix-each signalPut (λ x. prefix-word _ _ _ (prefix-word _ _ _ prefix-none)) xs _ (prefix-only _ _ (prefix-only _ _ prefix-none)))
 
+prefix-time : (s : Signed) (P : List Piece → List Piece) → Prefix P → Prefix (λ k. timePut s (P k))
+unfolding timePut
+prefix-time (plus n) P h = prefix-word _ _ P h
+prefix-time (minus n) P h = prefix-only _ _ (prefix-word _ _ P h)
+
 prefix-event : (e : Event) → Prefix (eventPut e)
 unfolding eventPut
-prefix-event e = prefix-only _ _ (prefix-word _ _ _ (prefix-word _ _ _ prefix-none))
+prefix-event e = prefix-only _ _ (prefix-time (uncounted (e .time)) _ (prefix-word _ _ _ prefix-none))
 
 prefix-entry : (x : ℕ × List Event) → Prefix (entryPut x)
 unfolding entryPut

@@ -19,10 +19,9 @@ use pens::Pen;
 use stretches::Folding;
 use stretches::TAIL;
 use texts::PATTERNS;
-use texts::TEXT_MOST;
 use texts::Verdict;
-use verdicts::NO_ROOM;
-use verdicts::NOT_PLAYABLE;
+use tokens::TEXT_MOST;
+use words::NO_ROOM;
 
 // Bytes of a window: many rows, since each window reads the text anew.
 const WINDOW: usize = 262_144;
@@ -61,16 +60,6 @@ pub enum Folded {
 }
 
 // ---- the Patterns
-
-// The smaller of two.
-fn least(a: usize, b: usize) -> usize
-    ensures { λ r. ⌜ r ≡ min a b ⌝ }
-{
-    if a < b {
-        return a;
-    }
-    b
-}
 
 // So many cycles of the run from the cycle `first` on, folded.
 fn window<'a>(
@@ -160,7 +149,7 @@ fn pattern<'a>(
     let mut f = stretches::begin(page, pen, i);
     let mut done = 0;
     while done < count {
-        let due = least(most, count - done);
+        let due = sets::least(most, count - done);
         f = window(
             page,
             f,
@@ -405,7 +394,7 @@ fn put<'a>(
     join(page, pen, &body, part.pen)
 }
 
-// A text that 1 to 16 leave: 17, 23, 22, 19, or its folded text's length.
+// A text that 1 to 16 leave: 17, 25, 23, 22, 19, or its folded text's length.
 fn flat_found<'a>(
     page: &mut [u8],
     text: &'a [u8],
@@ -436,8 +425,8 @@ fn flat_found<'a>(
         used,
         v,
     );
-    if f.failed {
-        return refused(NOT_PLAYABLE, f.place);
+    if f.no != 0 {
+        return refused(f.no, f.place);
     }
     if CYCLES < total.cycles {
         return refused(MANY_CYCLES, 0);

@@ -7,9 +7,8 @@ use mathlib.Core.List.{List, [], _∷_, _++_, append-nil}
 use Rattle.tokens.specs.Tokens.{Tok}
 use Rattle.meaning.specs.Timing.{Event, Wave}
 use Rattle.meaning.specs.Body.{Body, done, vec, set′, inner}
-use Rattle.meaning.specs.Run.{Cycle, cyclesOf}
+use Rattle.meaning.specs.Run.{Cycle, cyclesOf, alone}
 use Rattle.meaning.specs.Services.{waveOf}
-use Rattle.meaning.specs.Edited.{alone}
 use Rattle.meaning.proofs.Unplaced.{unplaced}
 use Rattle.folded.specs.Flat.{characters, Entries, entriesOf, chart, chartsFrom, Row, tableOf, rowOf, rowsOf, listedRows, breaks, onto, parted, partedAll, linesFrom, linesOf, stretches}
 use Rattle.folded.specs.Shapes.{concat, Steady, Begins}

@@ -3,8 +3,8 @@ use Prim.Native.Nat.{ℕ, zero, suc, _+_, _≤_, _<_}
 use native.Mathlib.Nat.{add-suc, suc-add, add-zero}
 use native.Mathlib.Omega.{arith}
 use mathlib.Core.Path.{_≡_, refl, sym, ap, ap₂, _∙_, subst}
-use mathlib.Core.Bool.{Bool, true, false, _&&_, _||_}
-use mathlib.Core.Option.{Option, none, some}
+use mathlib.Core.Bool.{Bool, true, false, _&&_, _||_, or-false}
+use mathlib.Core.Option.{Option, none, some, orElse}
 use mathlib.Core.List.{List, [], _∷_, _++_}
 use lib.Dec.{leb, eqb}
 use lib.ListN.{length, getD}
@@ -16,10 +16,12 @@ use Rattle.meaning.specs.Names.{isName, isSome}
 use Rattle.meaning.specs.Timing.{Event, Wave, waveChar}
 use Rattle.meaning.specs.Meaning.{hasWave}
 use Rattle.meaning.specs.Services.{waveOf}
+use Rattle.meaning.proofs.Options.{or-none}
+use Rattle.meaning.proofs.Lists.{has-append}
 use Rattle.folded.specs.Flat.{upFrom, characters, Entries, entriesOf, Chart, chart, chartsFrom}
 use Rattle.folded.proofs.Words.{Proper}
 use Rattle.folded.proofs.Reading.{AllFit, findIn}
-use Rattle.folded.proofs.TimingBack.{FirstFits, wavesIn, NewEntry, wavesAll, NewChart, or-false}
+use Rattle.folded.proofs.TimingBack.{FirstFits, wavesIn, NewEntry, wavesAll, NewChart}
 use Rattle.folded.specs.Same.{wordsOf}
 use Rattle.folded.proofs.SourceTiming.{AllSound}
 
@@ -40,15 +42,6 @@ has-up x a (suc n) = rw (has-up x (suc a) n) (by (eqb a x) refl (leb a x) refl)
     by false e true f = rw (le-leb (suc a) x (omega (arith, eqb-false a x e, leb-true a x f))) (let k : suc a + n ≡ a + suc n = omega arith in rw k)
     by false e false f = rw (lt-leb (suc a) x (omega (arith, leb-false a x f)))
 
-has-++ : (x : ℕ) (l m : List ℕ) → has x (l ++ m) ≡ (has x l || has x m)
-unfolding has
-has-++ x [] m = refl
-has-++ x (y ∷ l) m = rw (has-++ x l m) (by (eqb y x))
-  where
-    by : (b : Bool) → (b || (has x l || has x m)) ≡ ((b || has x l) || has x m)
-    by true = refl
-    by false = refl
-
 has-to : (x a n : ℕ) → has x (upFrom a (suc n)) ≡ (leb a x && leb x (a + n))
 has-to x a n = has-up x a (suc n) ∙ ap (λ (b : Bool). leb a x && b) (by (leb x (a + n)) refl)
   where
@@ -60,8 +53,8 @@ has-to x a n = has-up x a (suc n) ∙ ap (λ (b : Bool). leb a x && b) (by (leb 
 pub is-character : (c : ℕ) → has c characters ≡ waveChar c
 unfolding characters waveChar letter digit between upFrom
 is-character c =
-    has-++ c (upFrom 48 10) (upFrom 65 26 ++ upFrom 97 26)
-    ∙ ap₂ (λ (a b : Bool). a || b) (has-to c 48 9) (has-++ c (upFrom 65 26) (upFrom 97 26) ∙ ap₂ (λ (a b : Bool). a || b) (has-to c 65 25) (has-to c 97 25))
+    has-append c (upFrom 48 10) (upFrom 65 26 ++ upFrom 97 26)
+    ∙ ap₂ (λ (a b : Bool). a || b) (has-to c 48 9) (has-append c (upFrom 65 26) (upFrom 97 26) ∙ ap₂ (λ (a b : Bool). a || b) (has-to c 65 25) (has-to c 97 25))
     ∙ turned (leb 48 c && leb c 57) (leb 65 c && leb c 90) (leb 97 c && leb c 122)
   where
     turned : (a b d : Bool) → (a || (b || d)) ≡ ((b || d) || a)
@@ -80,12 +73,8 @@ or-true false = refl
 
 -- ---- waveforms one behind the other
 
-abbrev orElse : {A : Type 0} → Option A → Option A → Option A
-orElse none y = y
-orElse (some x) y = some x
-
 wave-++ : (s c : ℕ) (ws vs : List Wave) → waveOf s c (ws ++ vs) ≡ orElse (waveOf s c ws) (waveOf s c vs)
-unfolding waveOf
+unfolding waveOf orElse
 wave-++ s c [] vs = refl
 wave-++ s c (w ∷ ws) vs = by (eqb (w .signal) s && eqb (w .char) c) (wave-++ s c ws vs)
   where
@@ -163,7 +152,7 @@ module _ (n s : ℕ) (ws base : List Wave) (sound : AllSound n ws) (free : (c : 
   Fresh before cs = (c : ℕ) → has c cs ≡ true → lookup c before ≡ none
 
   lookup-more : (c : ℕ) (xs : Entries) (x : ℕ × List Event) → lookup c (xs ++ x ∷ []) ≡ orElse (lookup c xs) (elim (eqb (x .0) c) [ true ↦ some (x .1) | false ↦ none ])
-  unfolding lookup
+  unfolding lookup orElse
   lookup-more c [] x = refl
   lookup-more c (y ∷ xs) x = by (eqb (y .0) c) (lookup-more c xs x)
     where
@@ -176,14 +165,14 @@ module _ (n s : ℕ) (ws base : List Wave) (sound : AllSound n ws) (free : (c : 
       by false ih = ih
 
   fresh-more : (before : Entries) (d : ℕ) (es : List Event) (cs : List ℕ) → has d cs ≡ false → Fresh before (d ∷ cs) → Fresh (before ++ (d, es) ∷ []) cs
-  unfolding has
+  unfolding has orElse
   fresh-more before d es cs r h c k =
       let p : eqb d c ≡ false = ne-eqb d c (λ e. let z : true ≡ false = sym k ∙ ap (λ (x : ℕ). has x cs) (sym e) ∙ r in let y : _≡_ {A = ℕ} 0 1 = cc in omega arith) in
       let q : (eqb d c || has c cs) ≡ true = rw (p, k) in
       lookup-more c before (d, es) ∙ rw (h c q, p)
 
   new-entry : (before : Entries) (c : ℕ) (es : List Event) → waveOf s c ws ≡ some es → lookup c before ≡ none → NewEntry base s before (c, es)
-  unfolding isSome
+  unfolding isSome orElse
   new-entry before c es e h =
       let w = wave-sound n s c ws sound es e in
       let none-found : waveOf s c (base ++ wavesIn s before) ≡ none = wave-++ s c base (wavesIn s before) ∙ rw (free c, wave-in s c before) h in
@@ -247,7 +236,7 @@ lower-suc s [] h = tt
 lower-suc s (x ∷ xs) h = (omega (arith, h .0), lower-suc s xs (h .1))
 
 lower-none : (s c : ℕ) (xs : List Chart) → Lower s xs → waveOf s c (wavesAll xs) ≡ none
-unfolding wavesAll waveOf
+unfolding wavesAll waveOf orElse
 lower-none s c [] h = refl
 lower-none s c (x ∷ xs) h =
     wave-++ s c (wavesIn (x .signal) (x .first ∷ x .others)) (wavesAll xs) ∙ rw (wave-other s (x .signal) c (x .first ∷ x .others) (λ e. omega (arith, h .0))) (lower-none s c xs (h .1))
@@ -270,24 +259,20 @@ module _ (names : List (List ℕ × List ℕ)) (n : ℕ) (ws : List Wave) (sound
 
 -- a chart's waveforms
 wave-chart : (s c : ℕ) (w : List ℕ) (t : ℕ) (xs : Entries) (rest : List Chart) → waveOf s c (wavesAll (chart w t xs rest)) ≡ orElse (waveOf s c (wavesIn t xs)) (waveOf s c (wavesAll rest))
-unfolding chart wavesAll waveOf wavesIn
+unfolding chart wavesAll waveOf wavesIn orElse
 wave-chart s c w t [] rest = refl
 wave-chart s c w t (x ∷ xs) rest = wave-++ s c (wavesIn t (x ∷ xs)) (wavesAll rest)
 
 -- of signals behind s nothing is told
 charts-behind : (s c t : ℕ) (ts : List Tok) (ws : List Wave) → s < t → waveOf s c (wavesAll (chartsFrom t ts ws)) ≡ none
-unfolding chartsFrom wavesAll waveOf
+unfolding chartsFrom wavesAll waveOf orElse
 charts-behind s c t [] ws h = refl
 charts-behind s c t (u ∷ ts) ws h =
     wave-chart s c (u .word) t (entriesOf t ws characters) (chartsFrom (suc t) ts ws)
     ∙ rw (wave-other s t c (entriesOf t ws characters) (λ e. omega arith)) (charts-behind s c (suc t) ts ws (omega arith))
 
-or-none : {A : Type 0} (o : Option A) → orElse o none ≡ o
-or-none none = refl
-or-none (some a) = refl
-
 charts-of : (s c t : ℕ) (ts : List Tok) (ws : List Wave) → t ≤ s → s < t + length ts → waveOf s c (wavesAll (chartsFrom t ts ws)) ≡ among (has c characters) (waveOf s c ws)
-unfolding chartsFrom
+unfolding chartsFrom orElse
 charts-of s c t [] ws h k = absurd (omega arith)
 charts-of s c t (u ∷ ts) ws h k = wave-chart s c (u .word) t (entriesOf t ws characters) (chartsFrom (suc t) ts ws) ∙ by (eqb t s) refl (charts-of s c (suc t) ts ws)
   where
@@ -299,7 +284,7 @@ charts-of s c t (u ∷ ts) ws h k = wave-chart s c (u .word) t (entriesOf t ws c
     by false e ih = rw (wave-other s t c (entriesOf t ws characters) (eqb-false t s e)) (ih (omega (arith, eqb-false t s e)) (omega arith))
 
 charts-past : (s c t : ℕ) (ts : List Tok) (ws : List Wave) → t + length ts ≤ s → waveOf s c (wavesAll (chartsFrom t ts ws)) ≡ none
-unfolding chartsFrom wavesAll waveOf
+unfolding chartsFrom wavesAll waveOf orElse
 charts-past s c t [] ws h = refl
 charts-past s c t (u ∷ ts) ws h =
     wave-chart s c (u .word) t (entriesOf t ws characters) (chartsFrom (suc t) ts ws)

@@ -11,7 +11,8 @@ use borrow.Author.Tests.{le-leb}
 use Rattle.tokens.specs.Written as Written
 use Rattle.tokens.specs.Bytes.{blank}
 use Rattle.tokens.specs.Refusals.{textMost, notHere}
-use Rattle.tokens.specs.Tokens.{Tok, Toks, stop, toks, faultIn, faultOf}
+use Rattle.tokens.specs.Tokens.{Tok, Toks, stop, toks, faultOf}
+use Rattle.tokens.proofs.Faults.{short-clean}
 use Rattle.meaning.specs.Bounds.{patternsMost, sizeMost, cyclesMost}
 use Rattle.meaning.specs.Reader.{ok}
 use Rattle.meaning.specs.Names.{isSome}
@@ -20,11 +21,16 @@ use Rattle.meaning.specs.Timing.{Wave, Table, Tables}
 use Rattle.meaning.specs.Body.{Body}
 use Rattle.meaning.specs.Document.{Read, document}
 use Rattle.meaning.specs.Run.{Cycle, unassigned, size, cycles, cyclesOf}
-use Rattle.meaning.specs.Refusals.{tooLarge, notPlayable}
-use Rattle.meaning.specs.Meaning.{Answer, given, refused, answering, runOf, hasWave, allWaves, tableAt, playable, firstFailing, firsts, fitting, judged, accept, Meaning, meaning}
+use Rattle.meaning.specs.Refusals.{tooLarge, notPlayable, acrossEdge}
+use Rattle.meaning.specs.Edges.{firstInRun}
+use Rattle.meaning.specs.Meaning.{Answer, given, refused, answering, runOf, hasWave, allWaves, tableAt, playable, firstFailing, Meaning, firsts, fitting, ordered, meaningOf, judged, accept, meaning}
 use Rattle.meaning.specs.Services.{waveOf}
 use Rattle.held.proofs.Parts.{parts as doc-parts}
 use Rattle.meaning.proofs.Rows.{rows-are-cycles}
+use Rattle.meaning.proofs.Everywhere.{runs}
+use Rattle.meaning.proofs.Depth.{patterns-within}
+use Rattle.edges.proofs.Parted.{SameTables}
+use Rattle.meaning.proofs.Listed.{length-firsts}
 use Rattle.folded.specs.Flat.{Row, rowsOf, directed, Chart, Sheet, sheets, chartsFrom, listedRows, partedAll, linesOf, patternsOf, flat}
 use Rattle.folded.specs.Layout.{namesOf, sheetNames, signalsPut, pieces, written}
 use Rattle.folded.specs.Fold.{foldedMost}
@@ -46,9 +52,10 @@ use Rattle.folded.proofs.RunBack.{RunIs, run-back, placeless-rows, plac
 use Rattle.folded.proofs.GoodRows.{GoodRow, SoundTables, tables-sound, rows-fair}
 use Rattle.folded.proofs.FlatGood.{listed-new, patterns-good, all-lines, lines-length}
 use Rattle.folded.proofs.Sizes.{run-fits}
-use Rattle.folded.proofs.Source.{Source, length-firsts, at-signals}
+use Rattle.folded.proofs.Source.{Source, at-signals}
 use Rattle.folded.proofs.Directions.{signals-took, directions-read, behind-version}
 use Rattle.folded.proofs.Again.{charts-alike, parted-again, run-listed}
+use Rattle.folded.proofs.InOrder.{periods-at, parts-of-run}
 
 -- ---- lengths
 
@@ -162,28 +169,23 @@ playing-rows tabs (c ∷ cs) (x ∷ xs) e h =
 
 -- ---- what makes a text accepted
 
-clean-text : (text : List ℕ) → length text ≤ textMost → faultIn (toks text 0) ≡ none → faultOf text ≡ none
-unfolding faultOf
-clean-text text h e = rw (le-leb (length text) textMost h, faultOf) e
-
-abbrev pub meaningOf : Read → Body → Meaning
-meaningOf d r = record { signals = firsts (d .signals); tables = d .tables; listed = length (d .listed); run = r }
-
-judged-so : (d : Read) (r : Body) → fitting r ≡ true → firstFailing (d .tables) (cyclesOf (length (d .signals)) r) ≡ none → judged d r ≡ given (meaningOf d r)
-unfolding judged
-judged-so d r e h =
+judged-so : (d : Read) (r : Body) → fitting r ≡ true → firstFailing (d .tables) (cyclesOf (length (d .signals)) r) ≡ none
+    → firstInRun (d .tables) (length (firsts (d .signals))) r ≡ none → judged d r ≡ given (meaningOf d r)
+unfolding judged ordered
+judged-so d r e h k =
     ap (λ (b : Bool). elim b as (λ c. Answer Meaning) [
       | false ↦ refused tooLarge 0
-      | true ↦ elim (firstFailing (d .tables) (cyclesOf (length (d .signals)) r)) [ some p ↦ refused notPlayable p | none ↦ given (meaningOf d r) ]
+      | true ↦ elim (firstFailing (d .tables) (cyclesOf (length (d .signals)) r)) [ some p ↦ refused notPlayable p | none ↦ ordered (meaningOf d r) ]
     ]) e
-    ∙ ap (λ (o : Option ℕ). elim o as (λ c. Answer Meaning) [ some p ↦ refused notPlayable p | none ↦ given (meaningOf d r) ]) h
+    ∙ ap (λ (o : Option ℕ). elim o as (λ c. Answer Meaning) [ some p ↦ refused notPlayable p | none ↦ ordered (meaningOf d r) ]) h
+    ∙ ap (λ (o : Option ℕ). elim o as (λ c. Answer Meaning) [ some p ↦ refused acrossEdge p | none ↦ given (meaningOf d r) ]) k
 
 accepts : (text : List ℕ) (d : Read) (ts : Toks) (r : Body) → faultOf text ≡ none → document (toks text 0) ≡ ok d ts → runOf (d .patterns) (d .listed) ≡ given r → fitting r ≡ true
-    → firstFailing (d .tables) (cyclesOf (length (d .signals)) r) ≡ none → meaning text ≡ given (meaningOf d r)
+    → firstFailing (d .tables) (cyclesOf (length (d .signals)) r) ≡ none → firstInRun (d .tables) (length (firsts (d .signals))) r ≡ none → meaning text ≡ given (meaningOf d r)
 unfolding meaning accept answering
-accepts text d ts r f e g h k =
+accepts text d ts r f e g h k l =
     ap (λ (o : Option (ℕ × ℕ)). elim o as (λ c. Answer Meaning) [ some f ↦ refused (f .0) (f .1) | none ↦ accept (document (toks text 0)) ]) f
-    ∙ ap accept e ∙ ap (λ (a : Answer Body). answering a (judged d)) g ∙ judged-so d r h k
+    ∙ ap accept e ∙ ap (λ (a : Answer Body). answering a (judged d)) g ∙ judged-so d r h k l
 
 -- ---- what is written may be read
 
@@ -286,12 +288,16 @@ module _ (text : List ℕ) (m : Meaning) (s : Source text m) (few : length (patt
       directed-length bytes (firsts (back .doc .signals)) ∙ length-firsts (back .doc .signals) ∙ as-many ∙ sym (directed-length text (m .signals)) in
       directions-read bytes (directed text (m .signals)) (behindSignals (flat text m)) (back .doc .signals) (p .signals-at) (stop notHere (spelled .0)) b w l
 
+  -- its listed patterns are the Patterns
+  listed-same : listedRows n (run-is .run) ≡ patternsOf m
+  listed-same =
+      run-listed n (run-is .run) (patternsOf m) (run-is .twins) steady
+      (rows-fair n (m .tables) sound (concat (patternsOf m)) (subst (All (GoodRow n (m .tables))) (sym rows-are) (s .rows)))
+
   pub patterns-back : patternsOf (meaningOf (back .doc) (run-is .run)) ≡ patternsOf m
   unfolding patternsOf
   patterns-back =
-      let fair = rows-fair n (m .tables) sound (concat (patternsOf m)) (subst (All (GoodRow n (m .tables))) (sym rows-are) (s .rows)) in
-      ap (λ (k : ℕ). partedAll (listedRows k (run-is .run))) (length-firsts (back .doc .signals) ∙ as-many)
-      ∙ ap partedAll (run-listed n (run-is .run) (patternsOf m) (run-is .twins) steady fair) ∙ parted-again (patternsOf m) steady
+      ap (λ (k : ℕ). partedAll (listedRows k (run-is .run))) (length-firsts (back .doc .signals) ∙ as-many) ∙ ap partedAll listed-same ∙ parted-again (patternsOf m) steady
 
   -- THE LAW
   pub flat-again : flat bytes (meaningOf (back .doc) (run-is .run)) ≡ flat text m
@@ -306,7 +312,7 @@ module _ (text : List ℕ) (m : Meaning) (s : Source text m) (few : length (patt
 
   module _ (fits : length bytes ≤ textMost) where
     clean : faultOf bytes ≡ none
-    clean = clean-text bytes fits (no-fault (words (pieces (flat text m))) (toks bytes 0) spelled)
+    clean = short-clean bytes fits (no-fault (words (pieces (flat text m))) (toks bytes 0) spelled)
 
     run-fitting : fitting (run-is .run) ≡ true
     unfolding fitting flat
@@ -322,9 +328,24 @@ module _ (text : List ℕ) (m : Meaning) (s : Source text m) (few : length (patt
     rows-play [] g = tt
     rows-play (x ∷ xs) g = (row-plays x (g .0), rows-play xs (g .1))
 
-    plays : firstFailing (back .doc .tables) (cyclesOf (length (back .doc .signals)) (run-is .run)) ≡ none
-    plays = rw as-many (playing-rows (back .doc .tables) (cyclesOf n (run-is .run)) rows cycles-same (rows-play rows (s .rows)))
+    plays : firstFailing (back .doc .tables) (cyclesOf n (run-is .run)) ≡ none
+    plays = playing-rows (back .doc .tables) (cyclesOf n (run-is .run)) rows cycles-same (rows-play rows (s .rows))
+
+    tables-alike : SameTables (m .tables) (back .doc .tables)
+    unfolding flat
+    tables-alike = record {
+      periods = λ k. sym (periods-at (back .doc .tables) (m .tables) (names-same (m .signals) (m .tables) (back .doc .tables) (back .is .tables) .1) k);
+      waves = λ k s c. sym (same-tables k s c);
+    }
+
+    in-order : firstInRun (back .doc .tables) n (run-is .run) ≡ none
+    unfolding patternsOf
+    in-order =
+        parts-of-run (m .tables) (back .doc .tables) tables-alike n (s .runs-listed)
+        (runs _ (back .doc .patterns) (patterns-within .all _ _ _ (back .read)) (back .doc .listed) (run-is .run) (run-is .is)) (s .plays) plays listed-same (s .pairs)
 
     -- THE LAW
     pub folded-accepted : meaning bytes ≡ given (meaningOf (back .doc) (run-is .run))
-    folded-accepted = accepts bytes (back .doc) (back .rest) (run-is .run) clean (back .read) (run-is .is) run-fitting plays
+    folded-accepted =
+        accepts bytes (back .doc) (back .rest) (run-is .run) clean (back .read) (run-is .is) run-fitting (rw as-many plays)
+        (rw (length-firsts (back .doc .signals) ∙ as-many) in-order)

@@ -1,5 +1,5 @@
 -- The pieces of a flat text that a reader takes: each word is one, and no byte behind it belongs to it.
-use Prim.Native.Nat.{ℕ}
+use Prim.Native.Nat.{ℕ, _≤_}
 use native.Mathlib.Omega.{arith}
 use mathlib.Core.Path.{_≡_, refl, sym, ap, _∙_, subst}
 use mathlib.Core.Bool.{Bool, true, false, _&&_, _||_}
@@ -9,15 +9,17 @@ use lib.Dec.{leb, eqb}
 use borrow.Author.Tests.{eqb-true}
 use Rattle.tokens.specs.Written.{bytes, same}
 use Rattle.tokens.specs.Bytes.{between, blank, allowed, digit, letter, wordy}
+use Rattle.meaning.specs.Bounds.{timeMost}
 use Rattle.meaning.specs.Lists.{has}
 use Rattle.meaning.specs.Names.{among}
 use Rattle.meaning.specs.Signals.{directions}
-use Rattle.meaning.specs.Timing.{Event, Wave, Table, drives, compares, eventLetter}
+use Rattle.meaning.specs.Timing.{Event, Wave, Table, Signed, plus, minus, uncounted, drives, compares, eventLetter}
 use Rattle.meaning.specs.Body.{Assigns}
-use Rattle.meaning.proofs.Others.{same-is}
-use Rattle.folded.specs.Pieces.{Piece, word, only, each, lf, space, quote, semicolon, equals, opening, closing}
+use Rattle.meaning.proofs.Others.{same-eq}
+use Rattle.meaning.proofs.Signs.{amount, amount-most}
+use Rattle.folded.specs.Pieces.{Piece, word, only, each, lf, space, quote, dash, semicolon, equals, opening, closing}
 use Rattle.folded.specs.Flat.{Entries, Chart, Sheet, Line, chooses, repeats, Flat}
-use Rattle.folded.specs.Layout.{signalPut, signalsPut, eventPut, entryPut, chartPut, sheetPut, timingPut, burstName, listedPut, burstPut, execPut, valuePut, vectorPut, linePut, patternPut, namedFrom, orOne, namesOf, sheetNames, pieces}
+use Rattle.folded.specs.Layout.{signalPut, signalsPut, timePut, eventPut, entryPut, chartPut, sheetPut, timingPut, burstName, listedPut, burstPut, execPut, valuePut, vectorPut, linePut, patternPut, namedFrom, orOne, namesOf, sheetNames, pieces}
 use Rattle.pages.specs.Pages.{decimal}
 use Rattle.folded.proofs.Words.{AllWordy, Proper, Apart, Good}
 use Rattle.folded.proofs.Reading.{AllFit, SomeFit}
@@ -42,6 +44,10 @@ space-apart = record { good = refl; ends = refl; plain = λ e. omega arith }
 quote-apart : Apart quote
 unfolding allowed blank wordy letter digit between
 quote-apart = record { good = refl; ends = refl; plain = λ e. omega arith }
+
+dash-apart : Apart dash
+unfolding allowed blank wordy letter digit between
+dash-apart = record { good = refl; ends = refl; plain = λ e. omega arith }
 
 semicolon-apart : Apart semicolon
 unfolding allowed blank wordy letter digit between
@@ -98,9 +104,9 @@ unfolding among directions bytes isProper allWordy wordy letter digit between
 direction-proper w h = by (same w (bytes "In")) refl (same w (bytes "Out")) refl (same w (bytes "InOut")) refl h
   where
     by : (a : Bool) → same w (bytes "In") ≡ a → (b : Bool) → same w (bytes "Out") ≡ b → (c : Bool) → same w (bytes "InOut") ≡ c → (a || (b || (c || false))) ≡ true → Proper w
-    by true p b q c r h = subst Proper (sym (same-is w (bytes "In") p)) (said (bytes "In") refl)
-    by false p true q c r h = subst Proper (sym (same-is w (bytes "Out") q)) (said (bytes "Out") refl)
-    by false p false q true r h = subst Proper (sym (same-is w (bytes "InOut") r)) (said (bytes "InOut") refl)
+    by true p b q c r h = subst Proper (sym (same-eq w (bytes "In") p)) (said (bytes "In") refl)
+    by false p true q c r h = subst Proper (sym (same-eq w (bytes "Out") q)) (said (bytes "Out") refl)
+    by false p false q true r h = subst Proper (sym (same-eq w (bytes "InOut") r)) (said (bytes "InOut") refl)
     by false p false q false r h = absurd (let z : _≡_ {A = ℕ} 0 1 = cc in omega arith)
 
 good-signal : (before : List Directed) (x : Directed) (k : List Piece) → NewSignal before x → Good k → Good (signalPut x k)
@@ -132,9 +138,14 @@ letter-wordy e h = by (has e (bytes "DUZP")) refl (has e (bytes "LHXTlhx")) refl
     by false p true q h = (among-wordy e (bytes "LHXTlhx") refl q, tt)
     by false p false q h = absurd (let z : _≡_ {A = ℕ} 0 1 = cc in omega arith)
 
+good-time : (s : Signed) (k : List Piece) → amount s ≤ timeMost → Good k → Good (timePut s k)
+unfolding timePut amount
+good-time (plus n) k h g = (time-read n h .proper, quote-apart, g)
+good-time (minus n) k h g = (dash-apart, (time-read n h .proper, quote-apart, g))
+
 good-event : (before : List Event) (e : Event) (k : List Piece) → NewEvent before e → Good k → Good (eventPut e k)
 unfolding eventPut
-good-event before e k f g = (quote-apart, (time-read (e .time) (f .within) .proper, quote-apart, (letter-wordy (e .letter) (f .lettered), semicolon-apart, g)))
+good-event before e k f g = (quote-apart, good-time (uncounted (e .time)) _ (amount-most (e .time) (f .within)) (letter-wordy (e .letter) (f .lettered), semicolon-apart, g))
 
 all-fit : (es : List Event) → FirstFits es → AllFit NewEvent [] es
 all-fit [] f = absurd f

@@ -2,14 +2,13 @@
 use Prim.Native.Nat.{ℕ, zero, suc, _+_, _≤_, _<_}
 use native.Mathlib.Nat.{zero-add}
 use native.Mathlib.Omega.{arith}
-use mathlib.Core.Path.{_≡_, refl, sym, ap, ap₂, _∙_, subst}
-use mathlib.Core.Bool.{Bool, true, false, _&&_, _||_}
+use mathlib.Core.Path.{_≡_, refl, sym, ap, ap₂, _∙_}
+use mathlib.Core.Bool.{Bool, true, false, _&&_, _||_, or-false}
 use mathlib.Core.Option.{Option, none, some}
 use mathlib.Core.List.{List, [], _∷_, _++_}
 use lib.Dec.{eqb}
 use lib.ListN.{length}
 use borrow.Author.Tests.{eqb-true, ne-eqb}
-use Rattle.tokens.specs.Bytes.{between, digit, letter}
 use Rattle.meaning.specs.Bounds.{loopMost}
 use Rattle.meaning.specs.Lists.{has}
 use Rattle.meaning.specs.Names.{isSome}
@@ -20,13 +19,13 @@ use Rattle.meaning.specs.Run.{Cycle, unassigned}
 use Rattle.meaning.specs.Meaning.{hasWave, allWaves, tableAt, playable, firstFailing}
 use Rattle.meaning.specs.Services.{waveOf}
 use Rattle.meaning.proofs.Rows.{AllWide}
+use Rattle.meaning.proofs.Plain.{free-char}
 use Rattle.folded.specs.Flat.{Row, tableOf, rowOf, rowsOf, Stretch, Line, chooses, valued, choosing, linesFrom}
 use Rattle.folded.specs.Layout.{nameAt}
 use Rattle.folded.proofs.Reading.{AllFit, findIn}
 use Rattle.folded.proofs.SourceTiming.{AllSound, TableFits}
 use Rattle.folded.proofs.SourceRows.{AllLow}
 use Rattle.folded.proofs.Charts.{has-wave, wave-sound, Along, along-at, Known, Knowns, one}
-use Rattle.folded.proofs.TimingBack.{or-false}
 use Rattle.folded.proofs.StatementsBack.{numberedIn, NewValue, GoodLine, GoodLines}
 use Rattle.folded.proofs.Sheets.{itself}
 use Rattle.folded.proofs.Stretches.{All, Stepping}
@@ -65,15 +64,6 @@ cycles-good n tabs (c ∷ cs) w l f = by (playable tabs c) refl f (cycles-good n
 
 -- ---- characters
 
--- a letter or a digit is no `#`
-no-mark : (c : ℕ) → waveChar c ≡ true → eqb c mark ≡ false
-unfolding waveChar letter digit between
-no-mark c h = by (eqb c mark) refl
-  where
-    by : (w : Bool) → eqb c mark ≡ w → w ≡ false
-    by true e = let z : false ≡ true = subst (λ (x : ℕ). waveChar x ≡ true) (eqb-true c mark e) h in sym z
-    by false e = refl
-
 -- a character that has a waveform is one
 wave-char : (n s c : ℕ) (ws : List Wave) → AllSound n ws → hasWave s c ws ≡ true → waveChar c ≡ true
 unfolding isSome
@@ -101,7 +91,7 @@ clean-pins n s (c ∷ pins) ws g h =
   where
     by : (b : Bool) → eqb c unassigned ≡ b → (eqb c unassigned ≡ false → hasWave s c ws ≡ true) → eqb c mark ≡ false
     by true e k = ap (λ (x : ℕ). eqb x mark) (eqb-true c unassigned e)
-    by false e k = no-mark c (wave-char n s c ws g (k e))
+    by false e k = free-char c (wave-char n s c ws g (k e))
 
 -- all tables of a text
 abbrev pub SoundTables : ℕ → Tables → Type 0

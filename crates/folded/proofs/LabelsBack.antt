@@ -17,7 +17,7 @@ use Rattle.meaning.specs.Timing.{Table}
 use Rattle.meaning.specs.Body.{Assigns, Body}
 use Rattle.meaning.specs.Document.{over}
 use Rattle.meaning.proofs.Once.{once-none}
-use Rattle.meaning.proofs.Others.{same-is}
+use Rattle.meaning.proofs.Others.{same-eq}
 use Rattle.folded.specs.Pieces.{Piece, each, only, word, closing, opening, lf, space, semicolon}
 use Rattle.folded.specs.Flat.{Line, chooses, repeats}
 use Rattle.folded.specs.Layout.{burstName, nameAt, valuePut, vectorPut, linePut, patternPut}
@@ -66,7 +66,7 @@ unlike P w v e f = by (same w v) refl
   where
     by : (b : Bool) → same w v ≡ b → b ≡ false
     by false q = refl
-    by true q = let z : true ≡ false = sym f ∙ ap P (same-is w v q) ∙ e in z
+    by true q = let z : true ≡ false = sym f ∙ ap P (same-eq w v q) ∙ e in z
 
 no-parting : (w : List ℕ) → isWord w ≡ true → parting w ≡ false
 unfolding parting bytes isWord wordy letter digit between

@@ -26,5 +26,6 @@ pub mod Sizes
 pub mod Source
 pub mod Directions
 pub mod Again
+mod InOrder
 pub mod Folding
 pub mod Theorem

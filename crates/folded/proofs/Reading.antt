@@ -116,6 +116,19 @@ pub skipped : {S : Type 0} (s : String) (part : S → Reader S) (x : S) (ts : To
 unfolding option ifAhead give
 skipped {S} s part x ts e = ap (λ (b : Bool). elim b as (λ c. Res S) [ true ↦ part x ts | false ↦ ok x ts ]) e
 
+-- one reader where this word is next, and another where it is not
+either : {A : Type 0} (m k : Reader A) → Toks → Bool → Res A
+either m k ts b = elim b [ true ↦ m ts | false ↦ k ts ]
+
+module _ {A : Type 0} {P : A → Type 0} (s : String) (m k : Reader A) {ws vs : List (List ℕ)} where
+  pub reads-there : Reads m (bytes s ∷ ws) vs P → Reads (ifAhead s m k) (bytes s ∷ ws) vs P
+  unfolding ifAhead either
+  reads-there f = record { all = λ ts us h. (let i = f .all ts us h in (i .0, i .1, ap (either m k ts) (is-ahead (bytes s) ws ts us h) ∙ i .2, i .3, i .4)) }
+
+  pub reads-elsewhere : Unlike (bytes s) ws → Reads k ws vs P → Reads (ifAhead s m k) ws vs P
+  unfolding ifAhead either
+  reads-elsewhere n f = record { all = λ ts us h. (let i = f .all ts us h in (i .0, i .1, ap (either m k ts) (not-ahead (bytes s) ws ts us h n) ∙ i .2, i .3, i .4)) }
+
 -- a part that is missing
 pub reads-without : {S B : Type 0} {P : B → Type 0} (s : String) (part : S → Reader S) (x : S) (k : S → Reader B) {ws vs : List (List ℕ)} → Unlike (bytes s) ws → Reads (k x) ws vs P
     → Reads (option s part x >>= k) ws vs P

@@ -1,5 +1,5 @@
 -- The run of a folded text that was read: the Patterns that were written, one after the other, but for places; and the cycles without places.
-use Prim.Native.Nat.{ℕ, zero, suc, _+_, _<_, _^_}
+use Prim.Native.Nat.{ℕ, suc, _+_, _<_, _^_}
 use native.Mathlib.Omega.{arith}
 use mathlib.Core.Path.{_≡_, refl, sym, ap, ap₂, _∙_, subst}
 use mathlib.Core.Bool.{Bool, true, false}
@@ -10,12 +10,12 @@ use Rattle.tokens.specs.Written.{same}
 use Rattle.tokens.specs.Tokens.{Tok}
 use Rattle.meaning.specs.Refusals.{notDefined}
 use Rattle.meaning.specs.Names.{find}
-use Rattle.meaning.specs.Body.{Args, Kind, macro, procedure, listed, Way, looped, shifted, entered, Body, done, vec, set′, inner}
+use Rattle.meaning.specs.Body.{listed, entered, Body, done, vec, set′, inner}
 use Rattle.meaning.specs.Statements.{Decl, Decls}
-use Rattle.meaning.specs.Run.{State, Cycle, Played, size, shiftOf, changed, cycleAt, follow, again, entering, playing, play, start, cyclesOf}
+use Rattle.meaning.specs.Run.{Cycle, size, cycleAt, start, cyclesOf}
 use Rattle.meaning.specs.Meaning.{Answer, given, refused, answering, runOf}
-use Rattle.meaning.proofs.Others.{same-is}
-use Rattle.meaning.proofs.Unplaced.{unplaced}
+use Rattle.meaning.proofs.Unplaced.{unplaced, alike-play}
+use Rattle.meaning.proofs.Others.{same-eq}
 use Rattle.folded.specs.Flat.{Row, Line}
 use Rattle.folded.specs.Layout.{patternName, namesFrom, namedFrom, orOne}
 use Rattle.folded.specs.Same.{wordsOf, placeless}
@@ -37,7 +37,7 @@ pub other-name : (i j : ℕ) → i < j → j < 2 ^ 64 → same (patternName i) (
 other-name i j h k = by (same (patternName i) (patternName j)) refl
   where
     by : (b : Bool) → same (patternName i) (patternName j) ≡ b → b ≡ false
-    by true e = let z = pattern-apart i j (omega arith) k (same-is _ _ e) in absurd (omega arith)
+    by true e = let z = pattern-apart i j (omega arith) k (same-eq _ _ e) in absurd (omega arith)
     by false e = refl
 
 finds-behind : (k : ℕ) (b : Body) (xs : List (List ℕ × Body)) (i : ℕ) (ps : List (List Line)) → k < i → i + length ps < 2 ^ 64 → Finds xs i ps → Finds ((patternName k, b) ∷ xs) i ps
@@ -111,48 +111,13 @@ unfolding placeless cyclesFor cycleOf
 placeless-rows [] = refl
 placeless-rows (x ∷ xs) = ap (λ (l : List Cycle). cycleOf x ∷ l) (placeless-rows xs)
 
--- two plays that end alike
-abbrev Alike : Played → Played → Type 0
-Alike x y = (x .0 ≡ y .0) × (placeless (x .1) ≡ placeless (y .1))
-
-alike-follow : (x y : Played) (f g : State → Played) → Alike x y → ((s : State) → Alike (f s) (g s)) → Alike (follow x f) (follow y g)
-unfolding follow
-alike-follow x y f g h k = (
-  ap (λ (s : State). f s .0) (h .0) ∙ k (y .0) .0,
-  placeless-++ (x .1) (f (x .0) .1) ∙ ap₂ (λ (a b : List Cycle). a ++ b) (h .1) (ap (λ (s : State). placeless (f s .1)) (h .0) ∙ k (y .0) .1) ∙ sym (placeless-++ (y .1) (g (y .0) .1)),
-)
-
-module _ (f g : State → Played) (h : (s : State) → Alike (f s) (g s)) where
-  alike-again : (n : ℕ) (s : State) → Alike (again n f s) (again n g s)
-  unfolding again
-  alike-again zero s = (refl, refl)
-  alike-again (suc n) s = alike-follow (f s) (g s) (again n f) (again n g) (h s) (alike-again n)
-
-  alike-entering : (k : Kind) (a : Args) (s : State) → Alike (entering k a f s) (entering k a g s)
-  unfolding entering
-  alike-entering macro a s =
-      let x : State = record { pins = s .pins; table = s .table; args = a } in
-      (ap (λ (y : State). record { pins = y .pins; table = y .table; args = s .args }) (h x .0), h x .1)
-  alike-entering procedure a s = (refl, h _ .1)
-  alike-entering listed a s = (refl, h _ .1)
-
-  alike-playing : (t : ℕ) (w : Way) (s : State) → Alike (playing t w f s) (playing t w g s)
-  unfolding playing
-  alike-playing t (looped n) s = alike-again n s
-  alike-playing t shifted s = alike-again t s
-  alike-playing t (entered k u a) s = alike-entering k a s
-
-alike-play : (t : ℕ) (b : Body) (s : State) → Alike (play t (unplaced b) s) (play t b s)
-unfolding unplaced play cycleAt placeless
-alike-play t done s = (refl, refl)
-alike-play t (vec p a r) s = alike-follow _ _ _ _ (refl, refl) (alike-play t r)
-alike-play t (set′ x r) s = alike-play t r (changed x s)
-alike-play t (inner w b r) s = alike-follow _ _ _ _ (alike-playing _ _ (alike-play (shiftOf t w) b) t w s) (alike-play t r)
+placeless-joined : (a b c d : List Cycle) → placeless a ≡ placeless b → placeless c ≡ placeless d → placeless (a ++ c) ≡ placeless (b ++ d)
+placeless-joined a b c d h k = placeless-++ a c ∙ ap₂ (λ (x y : List Cycle). x ++ y) h k ∙ sym (placeless-++ b d)
 
 -- THE LAW
 pub placeless-cycles : (n : ℕ) (b : Body) → placeless (cyclesOf n (unplaced b)) ≡ placeless (cyclesOf n b)
-unfolding cyclesOf
-placeless-cycles n b = alike-play 0 b (start n) .1
+unfolding cyclesOf placeless cycleAt
+placeless-cycles n b = alike-play placeless placeless-joined (λ p s. refl) 0 b (start n) .1
 
 pub unplaced-size : (b : Body) → size (unplaced b) ≡ size b
 unfolding unplaced size

@@ -6,7 +6,7 @@ use mathlib.Core.List.{List, [], _∷_, _++_}
 use lib.ListN.{length, replicate}
 use Rattle.tokens.specs.Written
 use Rattle.meaning.specs.Open.{everything}
-use Rattle.meaning.specs.Edited.{alone}
+use Rattle.meaning.specs.Run.{alone}
 use Rattle.meaning.specs.Meaning.{Answer, given, refused}
 use Rattle.meaning.specs.Samples.{worked, playing, listing, whole, twoSignals, oneGroup, oneTable, itsWaveforms, oneMacro, oneListed}
 use Rattle.pages.specs.Pages.{digits, decimal}
@@ -16,7 +16,7 @@ use Rattle.folded.specs.Layout
 use Rattle.folded.specs.Fold
 
 unfoldable opened : Unit {0}
-unfolding everything worked playing listing whole twoSignals oneGroup oneTable itsWaveforms oneMacro oneListed alone digits decimal Pieces.laid Pieces.each Flat.firstWord Flat.direction Flat.directed Flat.upFrom Flat.characters Flat.entriesOf Flat.chart Flat.chartsFrom Flat.sheets Flat.tableOf Flat.rowOf Flat.rowsOf Flat.sameRow Flat.listedRows Flat.loses Flat.breaks Flat.onto Flat.parted Flat.partedAll Flat.longer Flat.stretches Flat.valued Flat.choosing Flat.linesFrom Flat.linesOf Flat.patternsOf Flat.flat Layout.timed Layout.signalPut Layout.signalsPut Layout.eventPut Layout.entryPut Layout.chartPut Layout.sheetPut Layout.timingPut Layout.patternName Layout.burstName Layout.namesFrom Layout.listedPut Layout.burstPut Layout.execPut Layout.valuePut Layout.vectorPut Layout.linePut Layout.patternPut Layout.namedFrom Layout.orOne Layout.namesOf Layout.sheetNames Layout.pieces Layout.written Fold.foldedIn Fold.folded Fold.fold
+unfolding everything worked playing listing whole twoSignals oneGroup oneTable itsWaveforms oneMacro oneListed alone digits decimal Pieces.laid Pieces.each Flat.firstWord Flat.direction Flat.directed Flat.upFrom Flat.characters Flat.entriesOf Flat.chart Flat.chartsFrom Flat.sheets Flat.tableOf Flat.rowOf Flat.rowsOf Flat.sameRow Flat.listedRows Flat.loses Flat.breaks Flat.onto Flat.parted Flat.partedAll Flat.longer Flat.stretches Flat.valued Flat.choosing Flat.linesFrom Flat.linesOf Flat.patternsOf Flat.flat Layout.timed Layout.timePut Layout.signalPut Layout.signalsPut Layout.eventPut Layout.entryPut Layout.chartPut Layout.sheetPut Layout.timingPut Layout.patternName Layout.burstName Layout.namesFrom Layout.listedPut Layout.burstPut Layout.execPut Layout.valuePut Layout.vectorPut Layout.linePut Layout.patternPut Layout.namedFrom Layout.orOne Layout.namesOf Layout.sheetNames Layout.pieces Layout.written Fold.foldedIn Fold.folded Fold.fold
 opened = tt
 
 -- a text, and what it is folded to in a buffer that has one byte more
@@ -119,6 +119,14 @@ samples =
       to = under (
           "PatternBurst b{PatList{p0;}}" ∷ "PatternExec{PatternBurst b;}" ∷ "Pattern p0{" ∷ "W t0;"
           ∷ "V{A=1;B=X;}" ∷ "V{A=0;B=H;}" ∷ "V{A=1;B=H;}" ∷ "V{A=0;B=H;}" ∷ "V{A=1;B=L;}" ∷ "V{A=0;B=H;}" ∷ "V{A=1;B=H;}" ∷ "}" ∷ []);
+    }
+    -- times before the cycle's start
+    ∷ record {
+      text = whole twoSignals oneGroup oneTable " A { 01 { '-1000000ns' D/U; '-0ns' Z; '1500ps' P; } } B { L { '-1500ps' L; } } } } }" oneMacro oneListed ("Pattern p { W t0; V { A = 0; } }" ∷ []);
+      to = Written.lines (
+          "STIL 1.0;" ∷ "Signals{A In;B Out;}" ∷ "Timing{" ∷ "WaveformTable t0{Period'100ns';Waveforms{"
+          ∷ "A{0{'-1000000ns'D;'0ns'Z;'1500ps'P;}1{'-1000000ns'U;'0ns'Z;'1500ps'P;}}" ∷ "B{L{'-1500ps'L;}}" ∷ "}}" ∷ "}"
+          ∷ "PatternBurst b{PatList{p0;}}" ∷ "PatternExec{PatternBurst b;}" ∷ "Pattern p0{" ∷ "W t0;" ∷ "V{A=0;}" ∷ "}" ∷ []);
     }
     -- an empty list
     ∷ record {

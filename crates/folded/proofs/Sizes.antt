@@ -6,13 +6,13 @@ use mathlib.Core.List.{List, [], _∷_}
 use lib.Dec.{leb}
 use lib.ListN.{length, getD, length-append}
 use Rattle.tokens.specs.Written.{bytes}
-use Rattle.meaning.specs.Timing.{Event}
+use Rattle.meaning.specs.Timing.{Event, Signed, plus, minus, uncounted}
 use Rattle.meaning.specs.Body.{Assigns, looped, Body, done, vec, inner}
 use Rattle.meaning.specs.Run.{size}
 use Rattle.pages.specs.Pages.{decimal}
-use Rattle.folded.specs.Pieces.{Piece, word, only, laid, each, lf, space, opening, closing}
+use Rattle.folded.specs.Pieces.{Piece, word, only, laid, each, lf, space, semicolon, opening, closing}
 use Rattle.folded.specs.Flat.{Chart, Sheet, Line, chooses, repeats, Flat}
-use Rattle.folded.specs.Layout.{patternName, signalPut, signalsPut, eventPut, entryPut, chartPut, sheetPut, timingPut, listedPut, burstPut, execPut, valuePut, vectorPut, linePut, patternPut, namesFrom, namedFrom, orOne, namesOf, sheetNames, pieces, written}
+use Rattle.folded.specs.Layout.{patternName, signalPut, signalsPut, timePut, eventPut, entryPut, chartPut, sheetPut, timingPut, listedPut, burstPut, execPut, valuePut, vectorPut, linePut, patternPut, namesFrom, namedFrom, orOne, namesOf, sheetNames, pieces, written}
 use Rattle.folded.proofs.StatementsBack.{bodyOf}
 use Rattle.folded.proofs.PlayBack.{runBack}
 
@@ -106,9 +106,17 @@ on-signal : (x : List ℕ × List ℕ) (k : List Piece) → long k ≤ long (sig
 unfolding signalPut
 on-signal x k = on-word _ _ _ (on-word _ _ k (omega arith))
 
+on-time : (s : Signed) (k : List Piece) → long k ≤ long (timePut s k)
+unfolding timePut
+on-time (plus n) k = on-word _ _ k (omega arith)
+on-time (minus n) k = on-only _ _ (on-word _ _ k (omega arith))
+
 on-event : (e : Event) (k : List Piece) → long k ≤ long (eventPut e k)
 unfolding eventPut
-on-event e k = on-only _ _ (on-word _ _ _ (on-word _ _ k (omega arith)))
+on-event e k =
+    let letter = word (e .letter ∷ []) semicolon ∷ k in
+    let m : long k ≤ long letter = on-word _ _ k (omega arith) in
+    on-only _ _ (omega (arith, on-time (uncounted (e .time)) letter))
 
 on-entry : (x : ℕ × List Event) (k : List Piece) → long k ≤ long (entryPut x k)
 unfolding entryPut

@@ -1,23 +1,26 @@
 -- All that an accepted text tells of what is written: names, tables, rows.
-use Prim.Native.Nat.{ℕ, suc}
+use Prim.Native.Nat.{ℕ, _≤_}
 use mathlib.Core.Path.{_≡_, refl, sym, ap, _∙_, subst}
 use mathlib.Core.Option.{none}
-use mathlib.Core.List.{List, [], _∷_, _++_, append-nil}
+use mathlib.Core.List.{List, [], _∷_, _++_}
 use lib.ListN.{length}
-use Rattle.tokens.specs.Tokens.{Tok, Toks, toks}
+use Rattle.tokens.specs.Tokens.{Toks, toks}
+use Rattle.meaning.specs.Bounds.{depthMost}
 use Rattle.meaning.specs.Reader.{ok, give}
 use Rattle.meaning.specs.Signals.{signals}
 use Rattle.meaning.specs.Groups.{groups}
-use Rattle.meaning.specs.Body.{listed, entered, Body, inner}
+use Rattle.meaning.specs.Body.{listed, Body, depth}
 use Rattle.meaning.specs.Statements.{Env}
 use Rattle.meaning.specs.Document.{Read}
-use Rattle.meaning.specs.Run.{Cycle, entering, follow, playing, play, shiftOf, start, cyclesOf}
-use Rattle.meaning.specs.Meaning.{given, firstFailing, firsts, Meaning, meaning}
-use Rattle.meaning.specs.Edited.{alone}
+use Rattle.meaning.specs.Run.{Cycle, play, cyclesOf, alone}
+use Rattle.meaning.specs.Edges.{firstInRun}
+use Rattle.meaning.specs.Meaning.{given, firstFailing, Meaning, meaning}
 use Rattle.meaning.proofs.Gives.{bind-go}
 use Rattle.meaning.proofs.Rows.{every-cycle-wide}
 use Rattle.meaning.proofs.Accepted.{accepted}
+use Rattle.meaning.proofs.Depth.{patterns-within}
 use Rattle.meaning.proofs.Everywhere.{Every, Runs, no-more, one-more, runs}
+use Rattle.meaning.proofs.Listed.{cycles-listed, length-firsts}
 use Rattle.held.proofs.Rest.{moving, moves-leaves, moves-bind, moves-due, leaves-option}
 use Rattle.held.proofs.Grammar.{moves-signals, moves-groups}
 use Rattle.held.proofs.Parts.{Parts, parts}
@@ -36,21 +39,12 @@ use Rattle.folded.proofs.Stretches.{All}
 use Rattle.folded.proofs.PlayBack.{cyclesFor}
 use Rattle.folded.proofs.GoodRows.{GoodRow, cycles-good}
 
-pub length-firsts : {A : Type 0} (l : List (Tok × A)) → length (firsts l) ≡ length l
-unfolding firsts
-length-firsts [] = refl
-length-firsts (x ∷ l) = ap suc (length-firsts l)
-
 -- ---- the run: its listed patterns' rows, one after the other
 
 pub rows-++ : (cs ds : List Cycle) → rowsOf (cs ++ ds) ≡ rowsOf cs ++ rowsOf ds
 unfolding rowsOf
 rows-++ [] ds = refl
 rows-++ (c ∷ cs) ds = ap (λ (l : List Row). rowOf c ∷ l) (rows-++ cs ds)
-
-cycles-listed : (n : ℕ) (b r : Body) → cyclesOf n (inner (entered listed 0 []) b r) ≡ cyclesOf n (alone b) ++ cyclesOf n r
-unfolding cyclesOf alone play playing entering follow shiftOf
-cycles-listed n b r = ap (λ (l : List Cycle). l ++ play 0 r (start n) .1) (sym (append-nil (entering listed [] (play 0 b) (start n) .1)))
 
 rows-listed : {P : Body → Type 0} (n : ℕ) {r : Body} → Runs P r → concat (listedRows n r) ≡ rowsOf (cyclesOf n r)
 unfolding listedRows concat cyclesOf play rowsOf
@@ -71,6 +65,9 @@ pub record Source (text : List ℕ) (m : Meaning) : Type 0 where
   pub rows : All (GoodRow (length (m .signals)) (m .tables)) (rowsOf (cyclesOf (length (m .signals)) (m .run)))
   pub shows : placeless (cyclesOf (length (m .signals)) (m .run)) ≡ cyclesFor (rowsOf (cyclesOf (length (m .signals)) (m .run)))
   pub listed : concat (listedRows (length (m .signals)) (m .run)) ≡ rowsOf (cyclesOf (length (m .signals)) (m .run))
+  pub runs-listed : Runs (λ b. depth b ≤ depthMost) (m .run)
+  pub plays : firstFailing (m .tables) (cyclesOf (length (m .signals)) (m .run)) ≡ none
+  pub pairs : firstInRun (m .tables) (length (m .signals)) (m .run) ≡ none
 
 module _ (text : List ℕ) (d : Read) (us : Toks) (p : Parts (toks text 0) d us) where
   -- where Signals and Timing begin in the text
@@ -121,4 +118,7 @@ source text m e =
       rows = good .0;
       shows = good .1;
       listed = rows-listed (length (m .signals)) r;
+      runs-listed = runs _ (d .patterns) (patterns-within .all _ _ _ (a .read)) (d .listed) (m .run) (a .run);
+      plays = plays;
+      pairs = a .pairs;
     }

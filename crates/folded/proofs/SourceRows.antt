@@ -1,7 +1,7 @@
 -- The cycles of an accepted text: each has a table, one of the text's, and as many pins as there are signals, whose characters have waveforms there.
 use Prim.Native.Nat.{ℕ, zero, suc, _+_, _<_}
 use native.Mathlib.Omega.{arith}
-use mathlib.Core.Path.{_≡_, refl, sym, _∙_, subst}
+use mathlib.Core.Path.{_≡_, refl, sym, subst}
 use mathlib.Core.Bool.{Bool, true, false}
 use mathlib.Core.Option.{Option, none, some}
 use mathlib.Core.List.{List, [], _∷_, _++_}
@@ -21,6 +21,7 @@ use Rattle.meaning.proofs.Gives.{known-ok, Gives, gives-bind, gives-after, give
 use Rattle.meaning.proofs.Choices.{_also_}
 use Rattle.meaning.proofs.Statements.{Kept, Deeper, gives-statements}
 use Rattle.meaning.proofs.Everywhere.{Every, every-name}
+use Rattle.meaning.proofs.Rows.{puts-table}
 use Rattle.held.proofs.Leads.{Leads, leads-bind, leads-give, leads-while}
 use Rattle.held.proofs.Declared.{More, one-body, one-pattern}
 use Rattle.held.proofs.Bodies.{leads-bodies}
@@ -206,11 +207,6 @@ module _ (n : ℕ) where
   put-table : (x : ℕ × ℕ) (s : State) → put x s .table ≡ s .table
   unfolding put
   put-table x s = either-table (eqb (x .1) mark) _ _ (s .table) refl refl
-
-  puts-table : (xs : Assigns) (s : State) → puts xs s .table ≡ s .table
-  unfolding puts
-  puts-table [] s = refl
-  puts-table (x ∷ xs) s = puts-table xs (put x s) ∙ put-table x s
 
   low-puts : (xs : Assigns) (s : State) → Low n (s .table) → Low n (puts xs s .table)
   low-puts xs s h = subst (Low n) (sym (puts-table xs s)) h

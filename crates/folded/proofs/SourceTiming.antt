@@ -7,16 +7,17 @@ use mathlib.Core.Option.{Option, none, some}
 use mathlib.Core.List.{List, [], _∷_, _++_}
 use lib.Dec.{leb}
 use lib.ListN.{length, length-append}
-use borrow.Author.Tests.{leb-true, leb-false}
+use borrow.Author.Tests.{leb-true, leb-false, not-false}
 use Rattle.tokens.specs.Written.{bytes, same}
 use Rattle.tokens.specs.Tokens.{Tok, Toks}
 use Rattle.meaning.specs.Bounds.{entryMost, tablesMost, timeMost}
 use Rattle.meaning.specs.Reader.{Res, ok, refuse, _>>=_, aheadOf, ahead, due, word}
 use Rattle.meaning.specs.Names.{isName, find, oldName, within}
 use Rattle.meaning.specs.Signals.{Names}
-use Rattle.meaning.specs.Timing.{Event, Wave, Table, Tables, quoted, drives, compares, eventLetter, letterDue, alternative, letters, spread, rises, addEvents, Events, oneEvent, event, waveChar, allChars, blanks, wavesOf, wavesFor, entry, waveforms, table, timing}
+use Rattle.meaning.specs.Timing.{Event, Wave, Table, Tables, quoted, countedMost, signedQuoted, drives, compares, eventLetter, letterDue, alternative, letters, spread, rises, addEvents, Events, oneEvent, event, waveChar, allChars, blanks, wavesOf, wavesFor, entry, waveforms, table, timing}
 use Rattle.meaning.specs.Refusals.{tooMany}
-use Rattle.meaning.proofs.Gives.{bind-ok, known-ok, no-not}
+use Rattle.meaning.proofs.Gives.{bind-ok, known-ok}
+use Rattle.meaning.proofs.Signs.{gives-signed}
 use Rattle.held.proofs.Rest.{moves-leaves, moves-due}
 use Rattle.held.proofs.Grammar.{moves-table}
 use Rattle.held.proofs.Leads.{Leads, leads-bind, leads-give, leads-if, leads-while, leads-until}
@@ -92,7 +93,7 @@ abbrev Each : ℕ → List (List Event) → Type 0
 Each k [] = Unit {0}
 Each k (c ∷ cs) = (AllFit NewEvent [] c × (length c ≡ k)) × Each k cs
 
-each-added : (k t : ℕ) (es : List ℕ) (cs r : List (List Event)) → AllReal es → t ≤ timeMost → k < entryMost → Each k cs → addEvents t es cs ≡ some r → Each (suc k) r
+each-added : (k t : ℕ) (es : List ℕ) (cs r : List (List Event)) → AllReal es → t ≤ countedMost → k < entryMost → Each k cs → addEvents t es cs ≡ some r → Each (suc k) r
 unfolding addEvents
 each-added k t [] [] r h m s g e = let q : [] ≡ r = cc in subst (Each (suc k)) q tt
 each-added k t [] (c ∷ cs) r h m s g e = absurd (let z : _≡_ {A = ℕ} 0 1 = cc in omega arith)
@@ -121,10 +122,9 @@ oneEvent-reads : (n : ℕ) (s : Events) (ts : Toks) → EventsGood s → s .1 < 
 unfolding oneEvent
 oneEvent-reads n s ts g h =
     leads-bind _ _ λ t vs v. leads-bind _ _ λ es ws w. leads-bind _ _ λ q xs x. leads-if _ _ _ _ λ c. leads-bind _ _ λ cs ys y.
-    let r = quoted-reads 0 ts .all t vs v in
     leads-give _ (
       record {
-        each = each-added (s .1) t (spread n es) (s .0) cs (real-spread n es (letters-read vs .all es ws w)) (r .1) h (g .each) (known-ok _ _ _ xs y);
+        each = each-added (s .1) t (spread n es) (s .0) cs (real-spread n es (letters-read vs .all es ws w)) (gives-signed .all ts t vs v) h (g .each) (known-ok _ _ _ xs y);
         few = omega arith;
       },
       omega arith,
@@ -132,10 +132,10 @@ oneEvent-reads n s ts g h =
 
 -- an event begins with a quote
 oneEvent-ahead : (n : ℕ) (s : Events) (ts : Toks) → Leads (oneEvent n s) ts (λ r us. ahead "'" ts ≡ true)
-unfolding oneEvent quoted aheadOf
+unfolding oneEvent signedQuoted aheadOf
 oneEvent-ahead n s ts = record {
   all = λ r us q. (
-      let i = bind-ok (quoted 0) _ ts r us q in
+      let i = bind-ok signedQuoted _ ts r us q in
       let j = bind-ok (due "'") _ ts (i .0) (i .1) (i .2) in
       rw (due-is (bytes "'") ts .all (j .0) (j .1) (j .2)) (same-self (bytes "'")));
 }
@@ -213,7 +213,7 @@ module _ (n : ℕ) where
       leads-bind _ _ λ e ys y. leads-bind _ _ λ es zs z.
       let first = event-reads (length (t .word)) (blanks (t .word), 0) xs (record { each = each-blank (t .word); few = omega arith }) .all e ys y in
       let all = leads-until SomeEvents (event (length (t .word))) (λ s ts i. event-reads (length (t .word)) s ts (i .0)) (λ s us ts r i. i) "}" e ys first .all es zs z in
-      leads-give _ (sound-++ n ws _ g (sound-for n (es .1) ss (t .word) (es .0) b (no-not _ f) (all .1) (all .0 .each)))
+      leads-give _ (sound-++ n ws _ g (sound-for n (es .1) ss (t .word) (es .0) b (not-false _ f) (all .1) (all .0 .each)))
 
   below-tidy : {ss : List ℕ} → TidyBelow n ss → Below n ss
   below-tidy bare = tt

@@ -6,7 +6,7 @@ use mathlib.Core.Bool.{Bool, true, false}
 use mathlib.Core.Option.{Option, none, some}
 use mathlib.Core.List.{List, [], _∷_, _++_, append-assoc, append-nil}
 use lib.ListN.{length, drop, length-append}
-use borrow.Author.Tests.{leb-false}
+use borrow.Author.Tests.{leb-false, not-false}
 use Rattle.tokens.specs.Written.{same}
 use Rattle.tokens.specs.Bytes.{wordy}
 use Rattle.tokens.specs.Tokens.{Tok, Toks, tok, run, toks}
@@ -16,7 +16,6 @@ use Rattle.meaning.specs.Reader.{isWord, word}
 use Rattle.meaning.specs.Names.{among, isName, name, dueAmong, find, isSome, newName}
 use Rattle.meaning.specs.Signals.{Names, directions, signal, signals, signalUpTo, signalsUpTo}
 use Rattle.meaning.specs.Meaning.{firsts}
-use Rattle.meaning.proofs.Gives.{no-not}
 use Rattle.meaning.proofs.SameTokens.{stands-there, word-run}
 use Rattle.held.proofs.Rest.{moves-leaves, moves-due}
 use Rattle.held.proofs.Grammar.{moves-signal}
@@ -59,11 +58,11 @@ pub record NameRead (text : List ℕ) (t : Tok) (us : Toks) : Type 0 where
 
 word-reads : (ts : Toks) → Leads word ts (λ t us. (ts ≡ tok t us) × (isWord (t .word) ≡ true))
 unfolding word
-word-reads ts = leads-bind _ _ λ t us q. leads-if _ _ _ _ λ c. leads-give t (any-is ts .all t us q, no-not _ c)
+word-reads ts = leads-bind _ _ λ t us q. leads-if _ _ _ _ λ c. leads-give t (any-is ts .all t us q, not-false _ c)
 
 name-reads : (ts : Toks) → Leads name ts (λ t us. (ts ≡ tok t us) × (isWord (t .word) ≡ true) × (isName (t .word) ≡ true))
 unfolding name
-name-reads ts = leads-bind _ _ λ t us q. leads-if _ _ _ _ λ c. leads-give t (let r = word-reads ts .all t us q in (r .0, r .1, no-not _ c))
+name-reads ts = leads-bind _ _ λ t us q. leads-if _ _ _ _ λ c. leads-give t (let r = word-reads ts .all t us q in (r .0, r .1, not-false _ c))
 
 no-some : {A : Type 0} (o : Option A) → isSome o ≡ false → o ≡ none
 unfolding isSome
@@ -96,7 +95,7 @@ pub record SignalFits (text : List ℕ) (before : Names) (x : Tok × List ℕ) :
 
 among-reads : (text : List ℕ) (vs : Toks) → Leads (dueAmong directions) vs (λ p us. among directions (firstWord vs) ≡ true)
 unfolding dueAmong firstWord
-among-reads text vs = leads-bind _ _ λ t us q. leads-if _ _ _ _ λ c. leads-give _ (rw (any-is vs .all t us q) (no-not _ c))
+among-reads text vs = leads-bind _ _ λ t us q. leads-if _ _ _ _ λ c. leads-give _ (rw (any-is vs .all t us q) (not-false _ c))
 
 module _ (text : List ℕ) where
   record SignalsRead (ns : Names) (ts : Toks) : Type 0 where

@@ -3,7 +3,7 @@ use Prim.Native.Nat.{ℕ, suc, _≤_}
 use Prim.Native.String.{String}
 use native.Mathlib.Omega.{arith}
 use mathlib.Core.Path.{_≡_, refl, ap, ap₂, _∙_}
-use mathlib.Core.Bool.{Bool, true, false, not, _||_}
+use mathlib.Core.Bool.{Bool, true, false, not, _||_, or-false}
 use mathlib.Core.Option.{some}
 use mathlib.Core.List.{List, [], _∷_, _++_}
 use lib.Dec.{leb}
@@ -31,7 +31,7 @@ use Rattle.folded.proofs.Words.{Proper, sign, words}
 use Rattle.folded.proofs.Reading.{Reads, AllFit, Unlike, reads-bind, reads-by, reads-if, reads-give, reads-any, reads-due, reads-old, reads-number, reads-closed, reads-until, worded, findIn, find-worded}
 use Rattle.folded.proofs.Leaves.{decimal-word, decimal-number}
 use Rattle.folded.proofs.SignalsBack.{proper-word, no-sign}
-use Rattle.folded.proofs.TimingBack.{char-wordy, or-false}
+use Rattle.folded.proofs.TimingBack.{char-wordy}
 
 -- ---- choices
 

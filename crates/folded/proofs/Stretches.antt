@@ -9,7 +9,7 @@ use lib.ListN.{length, replicate, length-append, length-replicate}
 use borrow.Author.Tests.{eqb-true}
 use Rattle.tokens.specs.Written.{same}
 use Rattle.meaning.specs.Run.{unassigned}
-use Rattle.meaning.proofs.Others.{same-is}
+use Rattle.meaning.proofs.Others.{same-eq}
 use Rattle.folded.specs.Flat.{Row, sameRow, loses, breaks, onto, parted, partedAll, Stretch, longer, stretches}
 use Rattle.folded.specs.Shapes.{concat, Steady, Begins, expand}
 
@@ -112,7 +112,7 @@ unfolding sameRow
 row-is x y e = by (eqb (x .table) (y .table)) refl e
   where
     by : (b : Bool) → eqb (x .table) (y .table) ≡ b → (b && same (x .pins) (y .pins)) ≡ true → x ≡ y
-    by true p q = ap₂ (λ (t : ℕ) (l : List ℕ). record { table = t; pins = l }) (eqb-true (x .table) (y .table) p) (same-is (x .pins) (y .pins) q)
+    by true p q = ap₂ (λ (t : ℕ) (l : List ℕ). record { table = t; pins = l }) (eqb-true (x .table) (y .table) p) (same-eq (x .pins) (y .pins) q)
     by false p q = absurd (let z : _≡_ {A = ℕ} 0 1 = cc in omega arith)
 
 longer-rows : (x : Row) (ys : List Stretch) → expand (longer x ys) ≡ x ∷ expand ys

@@ -15,15 +15,16 @@ use Rattle.meaning.specs.Bounds.{patternsMost}
 use Rattle.meaning.specs.Refusals.{badData, noSuch, noRoom}
 use Rattle.meaning.specs.Timing.{Event}
 use Rattle.meaning.specs.Run.{Cycle, cycles, cyclesOf, visits}
-use Rattle.meaning.specs.Meaning.{Answer, given, refused, answering, tableAt, Meaning, meaning}
+use Rattle.meaning.specs.Meaning.{Answer, given, refused, answering, tableAt, Meaning, meaningOf, meaning}
 use Rattle.meaning.specs.Services.{Window, window, windowOf, rowsOut, rowsDue, widthOf, rowWidth, windowRows, badMark, row, rows, Waveform, waveform, waveOf, eventsOut}
 use Rattle.meaning.proofs.Rows.{rows-are-cycles}
+use Rattle.meaning.proofs.Listed.{length-firsts}
 use Rattle.folded.specs.Flat.{Flat, patternsOf, flat}
 use Rattle.folded.specs.Layout.{written}
 use Rattle.folded.specs.Fold.{foldedMost, manyPatterns, manyCycles, Folded, foldedIn, folded, fold}
 use Rattle.folded.specs.Same.{placeless, shown, Same}
-use Rattle.folded.proofs.Source.{Source, source, length-firsts}
-use Rattle.folded.proofs.Folding.{meaningOf, back, run-is, cycles-same, cycles-count, rows-length, as-many, same-tables, names-same, signals-same, directions-back, patterns-back, flat-again, folded-accepted}
+use Rattle.folded.proofs.Source.{Source, source}
+use Rattle.folded.proofs.Folding.{back, run-is, cycles-same, cycles-count, rows-length, as-many, same-tables, names-same, signals-same, directions-back, patterns-back, flat-again, folded-accepted}
 
 -- ---- windows show no places
 

@@ -2,7 +2,7 @@
 use Prim.Native.Nat.{ℕ, suc, _≤_, _<_}
 use native.Mathlib.Omega.{arith}
 use mathlib.Core.Path.{_≡_, refl, sym, ap, _∙_}
-use mathlib.Core.Bool.{Bool, true, false, _&&_, _||_}
+use mathlib.Core.Bool.{Bool, true, false, _&&_, _||_, or-false}
 use mathlib.Core.Option.{none, some}
 use mathlib.Core.List.{List, [], _∷_, _++_, append-assoc, append-nil}
 use lib.Dec.{leb, eqb}
@@ -14,19 +14,20 @@ use Rattle.tokens.specs.Tokens.{Tok, Toks}
 use Rattle.meaning.specs.Bounds.{entryMost, tablesMost, timeMost}
 use Rattle.meaning.specs.Refusals.{tooMany}
 use Rattle.meaning.specs.Lists.{has, repeats}
-use Rattle.meaning.specs.Reader.{Res, refuse, _>>=_, due, ahead, isWord}
+use Rattle.meaning.specs.Reader.{Res, refuse, _>>=_, due, ahead, ifAhead, isWord}
 use Rattle.meaning.specs.Names.{isName}
 use Rattle.meaning.specs.Signals.{Names}
-use Rattle.meaning.specs.Timing.{Event, Wave, Table, Tables, quoted, eventLetter, letterDue, alternative, letters, spread, rises, addEvents, Events, oneEvent, event, waveChar, allChars, taken, blanks, wavesOf, wavesFor, entry, waveforms, table, timing}
+use Rattle.meaning.specs.Timing.{Event, Wave, Table, Tables, quoted, Signed, plus, minus, counted, countedMost, uncounted, timeOf, signedQuoted, eventLetter, letterDue, alternative, letters, spread, rises, addEvents, Events, oneEvent, event, waveChar, allChars, taken, blanks, wavesOf, wavesFor, entry, waveforms, table, timing}
 use Rattle.meaning.specs.Meaning.{hasWave}
 use Rattle.meaning.proofs.Takes.{while-done}
+use Rattle.meaning.proofs.Signs.{amount, amount-most, counted-back}
 use Rattle.held.proofs.Rest.{moves-takes}
 use Rattle.held.proofs.Grammar.{moves-alternative, moves-event, moves-entry, moves-waveforms, moves-table}
 use Rattle.folded.specs.Pieces.{Piece, each, only, word, closing, lf}
 use Rattle.folded.specs.Flat.{Entries, Chart, Sheet}
-use Rattle.folded.specs.Layout.{timed, eventPut, entryPut, chartPut, sheetPut, timingPut}
+use Rattle.folded.specs.Layout.{timed, timePut, eventPut, entryPut, chartPut, sheetPut, timingPut}
 use Rattle.folded.proofs.Words.{Proper, sign, words}
-use Rattle.folded.proofs.Reading.{Reads, AllFit, Unlike, not-ahead, reads-bind, reads-as, reads-if, reads-known, reads-found, reads-by, reads-give, reads-any, reads-due, reads-word, reads-new, reads-old, reads-within, reads-until, worded, findIn, find-worded, worded-++, worded-length}
+use Rattle.folded.proofs.Reading.{Reads, AllFit, Unlike, not-ahead, reads-bind, reads-as, reads-if, reads-known, reads-found, reads-by, reads-give, reads-any, reads-due, reads-word, reads-new, reads-old, reads-within, reads-there, reads-elsewhere, reads-until, worded, findIn, find-worded, worded-++, worded-length}
 use Rattle.folded.proofs.Leaves.{time-read, time-word}
 use Rattle.folded.proofs.SignalsBack.{proper-word, no-sign}
 
@@ -37,10 +38,6 @@ eqb-sym a b = by (eqb b a) refl
     by true e = eq-eqb a b (sym (eqb-true b a e))
     by false e = ne-eqb a b (λ q. eqb-false b a e (sym q))
 
-pub or-false : (b : Bool) → (b || false) ≡ b
-or-false true = refl
-or-false false = refl
-
 -- ---- 'T'
 
 reads-quoted : (a n : ℕ) (ws : List (List ℕ)) → a ≤ n → n ≤ timeMost → Reads (quoted a) (bytes "'" ∷ timed n ∷ bytes "'" ∷ ws) ws (λ m. m ≡ n)
@@ -49,6 +46,26 @@ reads-quoted a n ws h k =
     let t = time-read n k in
     reads-bind (reads-due (bytes "'") _) λ p u. reads-bind (reads-word (timed n) _ (time-word t)) λ w e.
     reads-bind (reads-within a timeMost n _ _ _ (rw e (t .read)) (rw (le-leb a n h, le-leb n timeMost k))) λ m q. reads-bind (reads-due (bytes "'") ws) λ r v. reads-give ws m q
+
+reads-time : (sign : ℕ → Signed) (n : ℕ) (ws : List (List ℕ)) → n ≤ timeMost → Reads (timeOf sign) (timed n ∷ ws) ws (λ s. s ≡ sign n)
+unfolding timeOf
+reads-time sign n ws k =
+    let t = time-read n k in
+    reads-bind (reads-word (timed n) _ (time-word t)) λ w e.
+    reads-bind (reads-within 0 timeMost n _ _ _ (rw e (t .read)) (rw (le-leb 0 n (omega arith), le-leb n timeMost k))) λ m q. reads-give ws (sign m) (ap sign q)
+
+-- with its sign
+reads-sign : (s : Signed) (k : List Piece) → amount s ≤ timeMost
+    → Reads (ifAhead "-" (due "-" >>= λ p. timeOf minus) (timeOf plus)) (words (timePut s k)) (bytes "'" ∷ words k) (λ x. x ≡ s)
+unfolding timePut amount words sign blank bytes wordy letter digit between
+reads-sign (plus n) k h = reads-elsewhere "-" _ _ (no-sign (timed n) 45 (time-read n h .proper) refl) (reads-time plus n _ h)
+reads-sign (minus n) k h = reads-there "-" _ _ (reads-bind (reads-due (bytes "-") _) λ p u. reads-time minus n _ h)
+
+reads-signed : (t : ℕ) (k : List Piece) → t ≤ countedMost → Reads signedQuoted (bytes "'" ∷ words (timePut (uncounted t) k)) (words k) (λ m. m ≡ t)
+unfolding signedQuoted
+reads-signed t k h =
+    reads-bind (reads-due (bytes "'") _) λ p u. reads-bind (reads-sign (uncounted t) k (amount-most t h)) λ s e.
+    reads-bind (reads-due (bytes "'") _) λ q v. reads-give _ (counted s) (ap counted e ∙ counted-back t)
 
 -- ---- events
 
@@ -62,7 +79,7 @@ reads-letters e ws h n =
 -- an event that may stand behind those before it, of one character
 pub record NewEvent (before : List Event) (e : Event) : Type 0 where
   pub rising : rises (e .time) (e .letter) before ≡ true
-  pub within : e .time ≤ timeMost
+  pub within : e .time ≤ countedMost
   pub lettered : eventLetter (e .letter ∷ []) ≡ some (e .letter)
   pub few : length before < entryMost
 
@@ -87,7 +104,7 @@ reads-one : (before : List Event) (e : Event) (s : Events) (k : List Piece) → 
     → Reads (oneEvent 1 s) (words (eventPut e k)) (words k) (EventsAre (before ++ e ∷ []))
 unfolding oneEvent eventPut words sign blank bytes same spread
 reads-one before e s k f i =
-    reads-bind (reads-quoted 0 (e .time) _ (omega arith) (f .within)) λ t q. reads-bind (reads-letters (e .letter) _ (f .lettered) refl) λ es l.
+    reads-bind (reads-signed (e .time) _ (f .within)) λ t q. reads-bind (reads-letters (e .letter) _ (f .lettered) refl) λ es l.
     reads-bind (reads-due (bytes ";") _) λ p u. rw (q, l)
     (reads-if _ _ _ _ refl (reads-known _ _ _ _ _ (rw (i .are) (added (e .time) (e .letter) before (f .rising)))
     (reads-give _ _ (record { are = refl; many = omega (arith, i .many, length-append before (e ∷ [])) }))))

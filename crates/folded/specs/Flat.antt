@@ -10,10 +10,9 @@ use Rattle.tokens.specs.Written.{same}
 use Rattle.tokens.specs.Tokens.{Tok, Toks, stop, tok, toks}
 use Rattle.meaning.specs.Timing.{Event, Wave, Tables}
 use Rattle.meaning.specs.Body.{Assigns, Body, done, vec, set′, inner}
-use Rattle.meaning.specs.Run.{Cycle, unassigned, cyclesOf}
+use Rattle.meaning.specs.Run.{Cycle, unassigned, cyclesOf, alone}
 use Rattle.meaning.specs.Meaning.{Meaning}
 use Rattle.meaning.specs.Services.{waveOf}
-use Rattle.meaning.specs.Edited.{alone}
 
 -- ---- signals
 

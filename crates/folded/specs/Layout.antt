@@ -6,10 +6,10 @@ use mathlib.Core.List.{List, [], _∷_, _++_}
 use lib.ListN.{length, getD}
 use lib.Dec.{leb, eqb}
 use Rattle.tokens.specs.Written.{bytes}
-use Rattle.meaning.specs.Timing.{Event}
+use Rattle.meaning.specs.Timing.{Event, Signed, plus, minus, uncounted}
 use Rattle.meaning.specs.Body.{Assigns}
 use Rattle.pages.specs.Pages.{decimal}
-use Rattle.folded.specs.Pieces.{Piece, word, only, laid, each, lf, space, quote, semicolon, equals, opening, closing}
+use Rattle.folded.specs.Pieces.{Piece, word, only, laid, each, lf, space, quote, dash, semicolon, equals, opening, closing}
 use Rattle.folded.specs.Flat.{Chart, Sheet, Line, chooses, repeats, Flat}
 
 abbrev pub say : String → ℕ → Piece
@@ -30,9 +30,14 @@ signalsPut xs behind = say "Signals" opening ∷ each signalPut xs (only closing
 
 -- ---- Timing
 
+-- T': before the cycle's start with a `-`
+unfoldable pub timePut : Signed → List Piece → List Piece
+timePut (plus n) behind = word (timed n) quote ∷ behind
+timePut (minus n) behind = only dash ∷ word (timed n) quote ∷ behind
+
 -- 'T'E;
 unfoldable pub eventPut : Event → List Piece → List Piece
-eventPut e behind = only quote ∷ word (timed (e .time)) quote ∷ word (e .letter ∷ []) semicolon ∷ behind
+eventPut e behind = only quote ∷ timePut (uncounted (e .time)) (word (e .letter ∷ []) semicolon ∷ behind)
 
 -- CHARACTER{'T'E;..}
 unfoldable pub entryPut : ℕ × List Event → List Piece → List Piece

@@ -30,6 +30,9 @@ space = 32
 abbrev pub quote : ℕ
 quote = 39
 
+abbrev pub dash : ℕ
+dash = 45
+
 abbrev pub semicolon : ℕ
 semicolon = 59
 

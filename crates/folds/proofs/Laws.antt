@@ -16,6 +16,7 @@ use Rattle.words.specs.Cursor.{span, ahead, stopNo, stream, Stands}
 use Rattle.words.specs.Table.{nameOf, namesFrom as tableFrom, names}
 use Rattle.words.specs.declared.Cursor.{Cursor}
 use Rattle.words.proofs.Names.{names-more, firsts-append}
+use Rattle.words.proofs.Words.{span-none}
 use Rattle.pages.specs.Pages.{decimal}
 use Rattle.folded.specs.Pieces.{Piece, only, laid, each, lf, closing}
 use Rattle.folded.specs.Flat.{firstWord, direction, directed}
@@ -26,9 +27,6 @@ use Rattle.pens.specs.declared.Pen.{Pen}
 
 -- ---- directions
 
-no-span : (text : List ℕ) (at end : ℕ) → end ≤ at → span text at end ≡ []
-no-span text at end h = let e : end - at ≡ 0 = omega arith in rw e
-
 -- the token that a cursor stands at
 first-of : (text : List ℕ) (c : Cursor) → firstWord (stream text c) ≡ span text (c .at) (c .end)
 unfolding stream firstWord
@@ -37,7 +35,7 @@ first-of text c = by (ltb (c .at) (c .end)) refl
     by : (b : Bool) → ltb (c .at) (c .end) ≡ b
         → firstWord (elim b as (λ x. Toks) [ true ↦ tok (ahead text c) (toks text (c .end)) | false ↦ stop (stopNo c) (c .at) ]) ≡ span text (c .at) (c .end)
     by true e = refl
-    by false e = sym (no-span text (c .at) (c .end) (ltb-false (c .at) (c .end) e))
+    by false e = sym (span-none text (c .at) (c .end) (ltb-false (c .at) (c .end) e))
 
 -- a name lies in the text, or is empty
 pub name-long : (text : List ℕ) (at end : ℕ) {w : List ℕ} → w ≡ span text at end → length w ≤ length text - at

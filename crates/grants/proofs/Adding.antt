@@ -6,11 +6,11 @@ use mathlib.Core.Bool.{Bool, true, false, _||_, _&&_}
 use mathlib.Core.List.{List, [], _∷_, append-nil}
 use lib.Dec.{eqb}
 use lib.ListN.{getD}
+use Rattle.tokens.proofs.Bools.{neither}
 use Rattle.meaning.specs.Lists.{count}
 use Rattle.meaning.specs.Body.{Assigns, mark, Kind, Setting, looped, shifted, entered, Body, done, vec, set′, inner, marked, outside, inShift, shifting}
 use Rattle.meaning.specs.Data.{assigned}
 use Rattle.meaning.specs.Statements.{Env}
-use Rattle.walks.proofs.Arguments.{or-false}
 use Rattle.measures.specs.Measures.{joined}
 use Rattle.measures.specs.Uses.{flag, Given}
 use Rattle.measures.proofs.Joined.{joined-done, joined-assoc}
@@ -81,8 +81,8 @@ shifting-joined s (inner w c r) b =
 pub once-then : {x y twice more : Bool} {one two : Body} → Once x twice one → Once y more two → Once (x || y) ((twice || more) || (x && y)) (joined one two)
 once-then {x} {y} {twice} {more} {one} {two} a b = record {
   once = λ e s. (
-      let f = or-false (twice || more) (x && y) e in
-      let g = or-false twice more (f .0) in
+      let f = neither (twice || more) (x && y) e in
+      let g = neither twice more (f .0) in
       by x y (f .1) _ _ _ (a .once (g .0) s) (b .once (g .1) s) (shifting-joined s one two));
 }
   where

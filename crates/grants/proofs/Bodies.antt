@@ -2,7 +2,7 @@
 use Prim.Native.Nat.{ℕ, _<_, _≤_}
 use native.Mathlib.Omega.{arith}
 use mathlib.Core.Path.{_≡_, refl, sym, ap, _∙_, subst}
-use mathlib.Core.Bool.{Bool, true, false}
+use mathlib.Core.Bool.{Bool, true, false, true≢false}
 use mathlib.Core.List.{List}
 use lib.Dec.{eqb}
 use lib.ListN.{length, getD, set, length-set}
@@ -16,7 +16,6 @@ use Rattle.held.specs.Held.{Holds}
 use Rattle.held.proofs.Only.{only}
 use Rattle.words.specs.Cursor.{alive, stream, Stands}
 use Rattle.words.specs.declared.Cursor.{Cursor}
-use Rattle.arguments.proofs.Lists.{differ}
 use Rattle.measures.specs.Measures.{joined}
 use Rattle.measures.specs.Uses.{flag}
 use Rattle.measures.specs.Book.{bodies, startAt}
@@ -131,7 +130,7 @@ module _ {g : Ground} {more i : ℕ} {marks sums sums₁ : List ℕ} (s : BodySt
       bodied-summed none = record {
         kept = λ r. kept-marked i marks number unknown kept-all r isSummed;
         summed = λ E b us d u.
-            summed-marked i marks₂ sums₂ isSummed long (λ z. is-sum d u single 0 (λ q. absurd (differ (sym q ∙ none)))) (λ z. absurd (omega arith)) (is-gone d u .added .summed (is-begun d u));
+            summed-marked i marks₂ sums₂ isSummed long (λ z. is-sum d u single 0 (λ q. absurd (true≢false (sym q ∙ none)))) (λ z. absurd (omega arith)) (is-gone d u .added .summed (is-begun d u));
       }
 
 -- ---- marks are as many as before

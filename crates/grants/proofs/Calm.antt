@@ -9,6 +9,7 @@ use lib.Dec.{ltb, eqb}
 use lib.ListN.{length, getD, set, replicate, length-set, length-replicate, getD-replicate, List·getD-eq-default}
 use lib.Seq.{set-out, getD-set-same, getD-set-other}
 use borrow.Author.Tests.{ltb-true, ltb-false, eqb-true, eqb-false, eq-eqb}
+use Rattle.tokens.proofs.Bools.{or-right}
 use Rattle.meaning.specs.Bounds.{signalsMost}
 use Rattle.meaning.specs.Lists.{has}
 use Rattle.meaning.specs.Timing.{Tables}
@@ -36,10 +37,6 @@ pub record Calm (tables : ℕ) (used : List ℕ) (s : State) : Type 0 where
   pub below : number < tables
 
 -- ---- characters
-
-or-right : (x y : Bool) → y ≡ true → (x || y) ≡ true
-or-right true y h = refl
-or-right false y h = h
 
 module _ (used : List ℕ) where
   fit-set : (pins : List ℕ) (j c : ℕ) → ((i : ℕ) → Fit used i (getD pins i 0)) → Fit used j c → (i : ℕ) → Fit used i (getD (set pins j c) i 0)

@@ -2,13 +2,14 @@
 use Prim.Native.Nat.{ℕ, zero, suc, _+_, _*_, _≤_, _<_}
 use native.Mathlib.Omega.{arith}
 use mathlib.Core.Path.{_≡_, refl, sym, _∙_, subst}
-use mathlib.Core.Bool.{true, _&&_}
+use mathlib.Core.Bool.{true, _&&_, true≢false}
 use mathlib.Core.Option.{none}
 use mathlib.Core.List.{List, []}
 use lib.Dec.{ltb}
 use lib.ListN.{length, drop, length-replicate}
 use Rattle.tokens.specs.Written.{bytes, same}
 use Rattle.tokens.specs.Tokens.{Tok, Toks, stop, tok, toks}
+use Rattle.tokens.proofs.Bools.{both}
 use Rattle.meaning.specs.Bounds.{signalsMost}
 use Rattle.meaning.specs.Reader.{after, _>>=_, any, aheadOf, oneOf, choose}
 use Rattle.meaning.specs.Names.{find}
@@ -19,6 +20,7 @@ use Rattle.meaning.specs.Meaning.{firstFailing}
 use Rattle.meaning.specs.Statements.{Env, Head, sets, chosen, head}
 use Rattle.meaning.specs.Document.{Read}
 use Rattle.meaning.proofs.Turns.{Good}
+use Rattle.meaning.proofs.Others.{same-eq}
 use Rattle.held.specs.Held.{All, freeHead, Holds}
 use Rattle.held.proofs.All.{all-found}
 use Rattle.held.proofs.Leads.{Leads, leads-bind, leads-give}
@@ -28,12 +30,10 @@ use Rattle.turns.specs.Few.{playFew, openMost}
 use Rattle.turns.proofs.Decides.{few-decides}
 use Rattle.words.specs.Table.{nameOf, names}
 use Rattle.words.specs.Values.{told}
-use Rattle.words.proofs.Words.{same-eq}
 use Rattle.words.specs.Cursor.{alive, stream, Stands}
 use Rattle.words.specs.declared.Cursor.{Cursor}
 use Rattle.timing.specs.Marks.{tableSize}
 use Rattle.measures.specs.Book.{firstPattern, startAt}
-use Rattle.arguments.proofs.Lists.{differ, both}
 use Rattle.heads.specs.declared.Known.{Known}
 use Rattle.texts.specs.declared.Parts.{Parts}
 use Rattle.texts.proofs.Runs.{listFrom}
@@ -64,7 +64,7 @@ module _ (e : Env) where
   -- THE LAW of one body
   pub table-first : (ts : Toks) (b : Body) (us : Toks) → Holds e ts b us → aheadOf (bytes "W") ts ≡ true → TableFirst b
   unfolding aheadOf IsChoice
-  table-first (stop n p) b us x a = absurd (differ (sym a))
+  table-first (stop n p) b us x a = absurd (true≢false (sym a))
   table-first (tok t ts) b us x a =
       let i = head-held e (tok t ts) b us x in
       let c = choice-head t ts (same-eq (t .word) (bytes "W") a) .all (i .0) (i .1) (i .2) in

@@ -2,7 +2,7 @@
 use Prim.Native.Nat.{ℕ, _*_, _-_, _<_, _≤_}
 use native.Mathlib.Omega.{arith}
 use mathlib.Core.Path.{_≡_, refl, sym, _∙_, subst}
-use mathlib.Core.Bool.{Bool, true, false}
+use mathlib.Core.Bool.{Bool, true, false, true≢false}
 use mathlib.Core.List.{List, []}
 use lib.ListN.{replicate, length-replicate}
 use borrow.Author.Tests.{lt-ltb, le-ltb}
@@ -14,7 +14,6 @@ use Rattle.meaning.specs.Body.{Args, looped, entered, Body, done, inner, suppli
 use Rattle.meaning.specs.Statements.{Env}
 use Rattle.meaning.proofs.Turns.{Plain}
 use Rattle.arguments.specs.Supplied.{marksOf, Supplied}
-use Rattle.arguments.proofs.Lists.{differ}
 use Rattle.assigns.proofs.Table.{gave-zeros}
 use Rattle.measures.specs.Measures.{joined}
 use Rattle.measures.specs.Book.{firstProcedure}
@@ -40,8 +39,8 @@ no-arguments text = record {
   gave = gave-zeros;
   long = length-replicate {A = ℕ} (signalsMost * 2) 0;
   once = refl;
-  below = λ s h. absurd (differ (sym h));
-  each = λ s h. absurd (differ (sym h));
+  below = λ s h. absurd (true≢false (sym h));
+  each = λ s h. absurd (true≢false (sym h));
 }
 
 module _ {tabs : Tables} {n m : ℕ} {S U R : Sum} where
@@ -97,7 +96,7 @@ pub other-body : {g : Ground} {more i t r : ℕ} {given args marks marks₁ sums
     → ((q : ℕ) → Kept (more - 1) q marks marks₁ sums sums₁) → usable marks₁ i t ≡ true → i ≡ r → ⊥
 other-body {r = r} s k e z =
     let o = open-kept (kept-deeper (k r)) (s .sized .row) in
-    differ (sym e ∙ rw (z, o .begun (omega (arith, s .use′ .declared .number))))
+    true≢false (sym e ∙ rw (z, o .begun (omega (arith, s .use′ .declared .number))))
 
 module _ {more r : ℕ} {marks marks₁ sums sums₁ : List ℕ} (o : Open more marks r) (k : (q : ℕ) → Kept (more - 1) q marks marks₁ sums sums₁) where
   use-open : Open more marks₁ r

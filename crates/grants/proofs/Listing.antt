@@ -2,7 +2,7 @@
 use Prim.Native.Nat.{ℕ, _+_}
 use native.Mathlib.Omega.{arith}
 use mathlib.Core.Path.{_≡_, refl, sym, _∙_}
-use mathlib.Core.Bool.{true, false}
+use mathlib.Core.Bool.{true, false, true≢false}
 use mathlib.Core.Option.{none}
 use mathlib.Core.List.{List, [], _∷_}
 use lib.ListN.{length-replicate}
@@ -19,7 +19,6 @@ use Rattle.turns.specs.Few.{playFew, openMost}
 use Rattle.turns.proofs.Decides.{few-decides}
 use Rattle.words.specs.Cursor.{stream, Stands}
 use Rattle.words.specs.declared.Cursor.{Cursor}
-use Rattle.arguments.proofs.Lists.{differ}
 use Rattle.measures.specs.Measures.{joined}
 use Rattle.measures.specs.Book.{firstPattern, startAt, Entry}
 use Rattle.plays.specs.Plays.{Ground, Summed}
@@ -36,7 +35,7 @@ use Rattle.grants.proofs.Adding.{summed-only}
 inside-none : (l : List ℕ) → inside l (supplied []) ≡ true → l ≡ []
 unfolding inside supplied has
 inside-none [] h = refl
-inside-none (x ∷ l) h = absurd (differ (sym h))
+inside-none (x ∷ l) h = absurd (true≢false (sym h))
 
 pub pattern-open : (marks : List ℕ) → Open depthMost marks patternRow
 pattern-open marks = record { within = omega arith; begun = λ b. absurd (omega arith) }
@@ -69,7 +68,7 @@ module _ {g : Ground} {list : List ℕ} {patterns k : ℕ} {E : Env} {ps : Decls
     pattern-cleared e a = record {
       sum = sumAt sums₂ patternRow;
       unmarked = inside-none (outside (d .body)) (n .fits .fed);
-      sums = y .added .sums-are pattern-begun done 0 (λ q. absurd (differ (sym q ∙ e))) (nothing-sums (nothing (g .signals)));
+      sums = y .added .sums-are pattern-begun done 0 (λ q. absurd (true≢false (sym q ∙ e))) (nothing-sums (nothing (g .signals)));
       alone = a;
     }
 

@@ -7,8 +7,8 @@ use mathlib.Core.Option.{Option}
 use mathlib.Core.List.{List}
 use lib.Dec.{ltb, eqb}
 use borrow.Author.Tests.{ltb-true}
+use Rattle.tokens.proofs.Bools.{both}
 use Rattle.meaning.specs.Bounds.{signalsMost, tablesMost}
-use Rattle.words.proofs.Loops.{both}
 use Rattle.pins.specs.Shown.{tableOf}
 use Rattle.tallies.specs.Rows.{slots, givenFrom, pinsFrom, fineFrom, badPlace, rowSize, byteAt, flagAt, slotOf, isSlot, sumAt, Only}
 use Rattle.tallies.proofs.Stored.{other-row}

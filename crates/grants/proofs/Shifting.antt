@@ -12,12 +12,13 @@ use Rattle.meaning.specs.Statements.{Env, Head}
 use Rattle.held.specs.Held.{freeHead, Holds}
 use Rattle.words.specs.Cursor.{alive, stream, Goes}
 use Rattle.words.specs.declared.Cursor.{Cursor}
+use Rattle.words.proofs.Flow.{went}
 use Rattle.timing.specs.Makes.{Makes}
 use Rattle.measures.specs.Uses.{Given}
 use Rattle.heads.specs.declared.What.{What}
 use Rattle.heads.specs.Heads.{Tells}
 use Rattle.plays.specs.Plays.{Ground, Holding}
-use Rattle.plays.proofs.Heading.{went, end-due}
+use Rattle.plays.proofs.Heading.{end-due}
 use Rattle.plays.proofs.Shifting.{tells-given}
 use Rattle.sums.specs.Sums.{Sum}
 use Rattle.sums.specs.Parts.{Assigned, Cycled}
@@ -36,13 +37,13 @@ module _ {g : Ground} {c v d : Cursor} {more r : ℕ} {marks sums sums′ : List
   shift-gone holding h on m f close o only =
       let w = went (m .goes) on (h .1) in
       let gave = tells-given (g .text) (g .book) (g .rows) given args (g .known .tables) what p a
-      (subst (λ (z : Head). Tells (g .text) (g .book) (g .rows) given args (g .known .tables) what z) (w .answer) (m .held (w .on))) in
-      let q = end-due E (stream (g .text) v) us (rw (w .there) (h .2)) in
+      (subst (λ (z : Head). Tells (g .text) (g .book) (g .rows) given args (g .known .tables) what z) (w .is) (m .held (w .on))) in
+      let q = end-due E (stream (g .text) v) us (rw (w .behind) (h .2)) in
       let e = went close (w .on) (q .1) in
       let z = f (E .tables) a (g .text, g .tplaces, g .known .tables, holding .held) gave in
       record {
         added = added-one o only true _ (λ front t l y. shift-sums y (z .1) (z .2) p (l refl));
         once = once-shift p gave;
         on = e .on;
-        behind = e .there;
+        behind = e .behind;
       }

@@ -7,11 +7,8 @@ use mathlib.Core.List.{List}
 use Rattle.tokens.specs.Tokens.{Toks, left}
 use Rattle.meaning.specs.Bounds.{tablesMost}
 use Rattle.meaning.specs.Timing.{Tables}
-use Rattle.meaning.specs.Signals.{Names}
-use Rattle.meaning.specs.Body.{Assigns, Args, assigning, choosing, Kind, macro, procedure, Way, looped, shifted, entered, Body, done, vec, set′, inner, depth, turns}
-use Rattle.meaning.specs.Statements.{Decls, Env, Head, ends, vecs, sets, loops, shifts, uses, used, chosen, looping, shiftHead, labelHead, head}
-use Rattle.meaning.proofs.Gives.{Gives, gives-after, gives-give, gives-choose}
-use Rattle.meaning.proofs.Choices.{_also_}
+use Rattle.meaning.specs.Body.{Assigns, Args, assigning, choosing, Way, looped, shifted, entered, Body, done, vec, set′, inner, depth, turns}
+use Rattle.meaning.specs.Statements.{Env, ends, vecs, sets, loops, shifts, uses}
 use Rattle.meaning.proofs.Turns.{Plain, Good}
 use Rattle.held.specs.Held.{freeHead, Holds}
 use Rattle.words.specs.Cursor.{alive, stream}
@@ -24,7 +21,7 @@ use Rattle.heads.specs.declared.What.{What}
 use Rattle.heads.specs.declared.What.the-variants.{Ends, Vector, Assigns as AssignsOnly, Chooses, Loops, Shifts, Uses as UsesBody}
 use Rattle.heads.specs.Heads.{kindOf, Tells}
 use Rattle.plays.specs.Plays.{Ground, Single}
-use Rattle.plays.proofs.Heading.{holds-less, Met, met, met-split, met-fine, met-less}
+use Rattle.plays.proofs.Heading.{holds-less, Met, met, met-split, met-fine, met-less, Turned, turned-head}
 use Rattle.sums.specs.Sums.{Sum}
 use Rattle.sums.specs.Parts.{Assigned, Chosen, Cycled, Exact}
 use Rattle.sums.proofs.Statements.{assigned-sums, chosen-sums, vector-sums}
@@ -33,34 +30,6 @@ use Rattle.tallies.specs.Rows.{sumAt, Only, Marked}
 use Rattle.grants.specs.declared.Tallied.{Tallied}
 use Rattle.grants.specs.Grants.{Open, Added, Once, Standing, Gone, Steps, Using}
 use Rattle.grants.proofs.Adding.{added-none, added-one, once-done, once-vec, once-set, once-use}
-
--- ---- a used body's Shift plays as often as its arguments say
-
-abbrev Turned : Head → Type 0
-Turned ends = Unit {0}
-Turned (vecs p a) = Unit {0}
-Turned (sets x) = Unit {0}
-Turned (loops n) = Unit {0}
-Turned shifts = Unit {0}
-Turned (uses k x t a) = t ≡ turns (x .body) a
-
-turned-used : (k : Kind) (d : ℕ) (ns : Names) (l : Decls) → Gives Turned (used k d ns l)
-unfolding used
-turned-used k d ns l = gives-after Turned _ _ λ x. gives-after Turned _ _ λ u. gives-after Turned _ _ λ a. gives-after Turned _ _ λ v. gives-give Turned _ refl
-
-turned-head : (e : Env) → Gives Turned (freeHead e)
-unfolding head chosen looping shiftHead labelHead
-turned-head e = gives-choose Turned _ (
-    (λ p. gives-after Turned _ _ λ a. gives-give Turned _ tt)
-    also (λ p. gives-after Turned _ _ λ a. gives-give Turned _ tt)
-    also (λ p. gives-after Turned _ _ λ x. gives-after Turned _ _ λ q. gives-give Turned _ tt)
-    also (λ p. gives-after Turned _ _ λ u. gives-after Turned _ _ λ n. gives-after Turned _ _ λ q. gives-give Turned _ tt)
-    also (λ p. turned-used macro _ (e .names) (e .macros))
-    also (λ p. turned-used procedure _ (e .names) (e .procs))
-    also (λ p. gives-after Turned _ _ λ u. gives-after Turned _ _ λ t. gives-after Turned _ _ λ q. gives-give Turned _ tt)
-    also (λ p. gives-after Turned _ _ λ u. gives-after Turned _ _ λ v. gives-after Turned _ _ λ q. gives-give Turned _ tt)
-    also (λ p. gives-give Turned _ tt)
-    also tt)
 
 -- ---- the rest of a body
 

@@ -3,9 +3,9 @@ use Prim.Native.Nat.{ℕ, _+_, _<_}
 use mathlib.Core.Path.{_≡_}
 use mathlib.Core.Bool.{Bool, true, _&&_}
 use mathlib.Core.List.{List}
+use Rattle.tokens.proofs.Bools.{both}
 use Rattle.meaning.specs.Body.{Body}
 use Rattle.meaning.specs.Document.{Read}
-use Rattle.arguments.proofs.Lists.{both}
 use Rattle.heads.specs.declared.Known.{Known}
 use Rattle.texts.specs.declared.Parts.{Parts}
 use Rattle.texts.proofs.Runs.{listFrom}

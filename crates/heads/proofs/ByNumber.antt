@@ -56,7 +56,7 @@ fromFirst book part = take (length book - part .first * 2) (drop (part .first * 
 pub from-first : (book : List ℕ) (part : Part) → fromFirst book part ≡ drop (part .first * 2) book
 from-first book part = take-all (length book - part .first * 2) (drop (part .first * 2) book) (omega (arith, length-drop (part .first * 2) book))
 
-nothing : Decl
+pub nothing : Decl
 nothing = record { body = done; from = stop 0 0 }
 
 module _ {text book rows : List ℕ} {part : Part} {k : Kind} {ds : Decls} (o : OfKind text book rows part k ds) {c a : Cursor} {t : Tok} (j : ℕ)

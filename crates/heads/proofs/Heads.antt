@@ -6,6 +6,7 @@ use mathlib.Core.Bool.{Bool, true, false, cond, not, _&&_, _||_}
 use mathlib.Core.List.{List, _∷_}
 use Rattle.tokens.specs.Tokens.{Tok}
 use Rattle.tokens.specs.Written.{bytes, same}
+use Rattle.tokens.proofs.Bools.{neither}
 use Rattle.meaning.specs.Reader.{_>>=_, give, any, oneOf}
 use Rattle.meaning.specs.Body.{Assigns, assigning, Kind, macro, procedure}
 use Rattle.meaning.specs.Data.{assigns}
@@ -17,7 +18,6 @@ use Rattle.signals.specs.Names.{namesOf}
 use Rattle.timing.specs.Makes.{Makes}
 use Rattle.timing.proofs.Making.{made, makes-then}
 use Rattle.assigns.specs.Given.{Gives}
-use Rattle.assigns.proofs.Table.{or-false}
 use Rattle.measures.specs.Uses.{Given}
 use Rattle.measures.proofs.Uses.{given-read}
 use Rattle.heads.specs.Known.{Describes}
@@ -48,7 +48,7 @@ module _ {text places lists tplaces book rows : List ℕ} {known : Known} {e : E
     pub no-body-read : {x y : Bool} → x ≡ same (t .word) (bytes "Macro") → y ≡ same (t .word) (bytes "Call") → (x || y) ≡ false
         → Makes text c (oneOf (("X", labelHead (e .pattern)) ∷ lastHeads may d) t) r P → Makes text c (oneOf (others e may d) t) r P
     no-body-read {x} {y} p q or m =
-        let n = or-false x y or in
+        let n = neither x y or in
         other-word "Macro" _ _ t (sym p ∙ n .0) (other-word "Call" _ _ t (sym q ∙ n .1) m)
 
     pub named-read : {x : Bool} → x ≡ same (t .word) (bytes "X") → x ≡ true → Makes text c (labelHead (known .pattern) (t .at)) r P

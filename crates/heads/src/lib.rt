@@ -18,9 +18,7 @@ ghost use Rattle.heads.specs.Known.{Describes, Described};
 ghost use Rattle.heads.specs.Heads.{Tells, Plainly, OfKind, SomeKind, partOf, lastHeads, others};
 use arguments::BAD_ARGUMENT;
 use words::Cursor;
-
-// Refusal: a token that is not allowed here.
-pub const NOT_HERE: u8 = 4;
+use words::NOT_HERE;
 
 // Refusal: bodies in bodies beyond the levels that are left.
 const TOO_DEEP: u8 = 14;

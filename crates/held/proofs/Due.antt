@@ -4,14 +4,14 @@ use Prim.Native.Nat.{ℕ}
 use native.Mathlib.Omega.{arith}
 use mathlib.Core.Bool.{true}
 use mathlib.Core.List.{List}
+use borrow.Author.Tests.{not-false}
 use Rattle.tokens.specs.Written.{bytes, same}
 use Rattle.tokens.specs.Tokens.{Tok, Toks, stop, tok}
 use Rattle.meaning.specs.Reader.{ok, after, _>>=_, give, any, due, dueOf, oneOf, choose, word}
 use Rattle.meaning.specs.Names.{name, newName}
 use Rattle.meaning.specs.Data.{assigns}
 use Rattle.meaning.specs.Statements.{Env, ends, vecs, head}
-use Rattle.meaning.proofs.Gives.{no-not}
-use Rattle.meaning.proofs.Others.{same-is}
+use Rattle.meaning.proofs.Others.{same-eq}
 use Rattle.held.specs.Held.{freeHead}
 use Rattle.held.proofs.Leads.{Leads, leads-bind, leads-give, leads-if}
 
@@ -36,7 +36,7 @@ new-is used ts = leads-bind _ _ λ t us q. leads-if _ _ _ _ λ c. leads-give t (
 
 pub due-is : (w : List ℕ) (ts : Toks) → Leads (dueOf w) ts (λ p us. ts ≡ tok (record { at = p; word = w }) us)
 unfolding dueOf
-due-is w ts = leads-bind _ _ λ t us q. leads-if _ _ _ _ λ c. leads-give _ (rw (← same-is (t .word) w (no-not _ c)) (any-is ts .all t us q))
+due-is w ts = leads-bind _ _ λ t us q. leads-if _ _ _ _ λ c. leads-give _ (rw (← same-eq (t .word) w (not-false _ c)) (any-is ts .all t us q))
 
 -- ---- heads
 

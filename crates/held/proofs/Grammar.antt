@@ -6,10 +6,10 @@ use mathlib.Core.List.{List, []}
 use lib.Dec.{leb}
 use Rattle.tokens.specs.Tokens.{Tok, left}
 use Rattle.meaning.specs.Bounds.{depthMost, entryMost, bracketsMost}
-use Rattle.meaning.specs.Reader.{Reader, ahead, isWord}
+use Rattle.meaning.specs.Reader.{Reader, _>>=_, _>>_, due, ahead, isWord}
 use Rattle.meaning.specs.Signals.{Names, signal, signals, signalsUpTo, signalUpTo}
 use Rattle.meaning.specs.Groups.{term, sign, joined, more, terms, bracket, expression, group, groups, groupsUpTo, groupUpTo}
-use Rattle.meaning.specs.Timing.{Wave, Tables, quoted, letterDue, alternative, letters, Events, oneEvent, event, entry, waveforms, table, timing}
+use Rattle.meaning.specs.Timing.{Wave, Tables, quoted, Signed, timeOf, signedQuoted, letterDue, alternative, letters, Events, oneEvent, event, entry, waveforms, table, timing}
 use Rattle.meaning.specs.Body.{Assigns, Args, Kind, Body}
 use Rattle.meaning.specs.Data.{charsOf, times, repeated, piece, part, dataRead, assign, assigns, argument, arguments}
 use Rattle.meaning.specs.Statements.{Decls, Env, Head, ends, vecs, sets, loops, shifts, uses, used, chosen, looping, shiftHead, labelHead, head, inShift, behind, statementsF, statements, declared}
@@ -22,6 +22,9 @@ use Rattle.held.proofs.Rest.{Leaves, Moves, moving, moves-leaves, moves
 pub moves-signal : (ns : Names) → Moves (signal ns)
 unfolding signalUpTo
 moves-signal ns = search moving depth 9
+
+pub opening-moves : Moves (do due "STIL"; due "1.0"; due ";")
+opening-moves = moves-bind _ _ (moves-due _) λ x. search moving
 
 pub moves-signals : Moves signals
 unfolding signalsUpTo
@@ -70,6 +73,14 @@ pub moves-quoted : (a : ℕ) → Moves (quoted a)
 unfolding quoted
 moves-quoted a = search moving depth 9
 
+moves-time : (sign : ℕ → Signed) → Moves (timeOf sign)
+unfolding timeOf
+moves-time sign = search moving
+
+pub moves-signed : Moves signedQuoted
+unfolding signedQuoted
+moves-signed = search (moving, moves-ahead, moves-time) depth 9
+
 pub moves-letter : Moves letterDue
 unfolding letterDue
 moves-letter = search moving
@@ -84,7 +95,7 @@ moves-letters = moves-bind _ _ moves-letter λ e. leaves-while alternative (λ e
 
 pub moves-oneEvent : (n : ℕ) (s : Events) → Moves (oneEvent n s)
 unfolding oneEvent
-moves-oneEvent n s = search (moving, moves-quoted, moves-letters) depth 10
+moves-oneEvent n s = search (moving, moves-signed, moves-letters) depth 10
 
 pub moves-event : (n : ℕ) (s : Events) → Moves (event n s)
 unfolding event

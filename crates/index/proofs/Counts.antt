@@ -10,13 +10,12 @@ use lib.Dec.{leb, ltb}
 use lib.ListN.{length}
 use borrow.Author.Tests.{leb-true, ltb-true, ltb-false, le-leb}
 use Rattle.tokens.specs.Tokens.{Tok, toks}
+use Rattle.tokens.proofs.Bools.{both}
 use Rattle.meaning.specs.Body.{Body, done}
-use Rattle.meaning.specs.Run.{cycles}
+use Rattle.meaning.specs.Run.{cycles, alone}
 use Rattle.meaning.specs.Meaning.{given, runOf, firsts, Meaning, meaning}
 use Rattle.meaning.specs.Statements.{Decls}
-use Rattle.meaning.specs.Edited.{alone}
 use Rattle.meaning.proofs.Accepted.{accepted}
-use Rattle.words.proofs.Loops.{both}
 use Rattle.index.specs.Index.{keywords, blocks, Line, lineOf, linesFrom, linesOf, indexOf, holder}
 use Rattle.index.proofs.Left.{first-listed, block-of}
 

@@ -10,15 +10,15 @@ use lib.ListN.{length, getD, drop}
 use lib.Seq.{getD-drop}
 use borrow.Author.Tests.{ltb-true, ltb-false, lt-ltb}
 use Rattle.tokens.specs.Written.{same}
-use Rattle.tokens.specs.Tokens.{Tok, stop}
+use Rattle.tokens.specs.Tokens.{Tok}
 use Rattle.meaning.specs.Bounds.{cyclesMost}
 use Rattle.meaning.specs.Refusals.{notDefined}
 use Rattle.meaning.specs.Names.{find}
 use Rattle.meaning.specs.Body.{listed, entered, Body, done, inner}
-use Rattle.meaning.specs.Run.{turnsOf, shiftOf, cycles}
+use Rattle.meaning.specs.Run.{turnsOf, shiftOf, cycles, alone}
 use Rattle.meaning.specs.Meaning.{Answer, given, refused, answering, runOf, firsts}
 use Rattle.meaning.specs.Statements.{Decl, Decls}
-use Rattle.meaning.specs.Edited.{alone}
+use Rattle.meaning.proofs.Accepted.{never}
 use Rattle.words.specs.Table.{nameOf, names, seconds}
 use Rattle.words.specs.Values.{told}
 use Rattle.words.proofs.Names.{found-by-number}
@@ -26,6 +26,7 @@ use Rattle.measures.specs.Measures.{Measures}
 use Rattle.measures.specs.Book.{firstPattern, measureAt}
 use Rattle.measures.proofs.Book.{part-listed}
 use Rattle.measures.proofs.Within.{cycles-within}
+use Rattle.heads.proofs.ByNumber.{nothing}
 use Rattle.texts.proofs.Runs.{listFrom, list-cut, found-none, found-pattern}
 use Rattle.index.specs.Index.{Block, blocks, lineOf, linesFrom}
 use Rattle.index.specs.Lines.{namesIn, Lists, Named, Shares}
@@ -45,9 +46,6 @@ pub record First (ps : Decls) (t : Tok) (l : List Tok) (run : Body) : Type 0 whe
   pub found : find ps (t .word) ≡ some decl
   pub rest-is : runOf ps l ≡ given rest
   pub cycles-are : cycles 0 run ≡ cycles 0 (alone (decl .body)) + cycles 0 rest
-
-never : {A B : Type 0} {n p : ℕ} {a : A} → _≡_ {A = Answer A} (refused n p) (given a) → B
-never e = let z : _≡_ {A = ℕ} 0 1 = cc in absurd (omega arith)
 
 pub first-listed : (ps : Decls) (t : Tok) (l : List Tok) (run : Body) → runOf ps (t ∷ l) ≡ given run → First ps t l run
 unfolding runOf answering alone cycles
@@ -69,9 +67,6 @@ first-listed ps t l run e = by (find ps (t .word)) refl e
     by (some d) f e = on d f (runOf ps l) refl e
 
 -- ---- blocks have the patterns' names
-
-nothing : Decl
-nothing = record { body = done; from = stop 0 0 }
 
 noBlock : Block
 noBlock = record { body = done; keyword = 0 }

@@ -1,4 +1,5 @@
 pub mod Names
+pub mod Lists
 mod Scanning
 pub mod Left
 mod Writing

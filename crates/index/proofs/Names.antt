@@ -6,9 +6,10 @@ use mathlib.Core.Bool.{true, false, not, _&&_}
 use mathlib.Core.List.{List, [], _∷_, _++_}
 use lib.Dec.{leb}
 use lib.ListN.{length}
-use borrow.Author.Tests.{leb-true}
+use borrow.Author.Tests.{leb-true, not-false}
 use Rattle.tokens.specs.Bytes.{digit}
 use Rattle.tokens.specs.Tokens.{Tok}
+use Rattle.tokens.proofs.Bools.{both}
 use Rattle.meaning.specs.Bounds.{nameMost}
 use Rattle.meaning.specs.Lists.{has}
 use Rattle.meaning.specs.Names.{reserved, among, isName, name, newName}
@@ -16,10 +17,9 @@ use Rattle.meaning.specs.Signals.{Names, signal, signals, signalsUpTo, signalUp
 use Rattle.meaning.specs.Timing.{Tables, table, timing}
 use Rattle.meaning.specs.Meaning.{firsts}
 use Rattle.meaning.specs.Document.{listEntry, burst}
-use Rattle.meaning.proofs.Gives.{no-not, Gives, gives-bind, gives-after, gives-give, gives-if, gives-until}
+use Rattle.meaning.proofs.Gives.{Gives, gives-bind, gives-after, gives-give, gives-if, gives-until}
 use Rattle.words.specs.Table.{names}
 use Rattle.timing.specs.declared.Watch.{Watch}
-use Rattle.arguments.proofs.Lists.{both}
 use Rattle.texts.specs.Tables.{Found}
 use Rattle.texts.specs.declared.Verdict.{Verdict}
 use Rattle.sections.specs.Listing.{Short}
@@ -41,7 +41,7 @@ name-few (b ∷ s) e =
 
 names-few : Gives Few name
 unfolding name
-names-few = gives-after Few _ _ λ t. gives-bind (λ u. not (isName (t .word)) ≡ false) Few _ _ (gives-if _ _ _) λ u h. gives-give Few t (name-few (t .word) (no-not (isName (t .word)) h))
+names-few = gives-after Few _ _ λ t. gives-bind (λ u. not (isName (t .word)) ≡ false) Few _ _ (gives-if _ _ _) λ u h. gives-give Few t (name-few (t .word) (not-false (isName (t .word)) h))
 
 -- ---- and so all of them
 

@@ -8,17 +8,17 @@ use mathlib.Core.List.{List, [], _∷_, _++_}
 use borrow.Author.Tests.{eq-eqb, ne-eqb}
 use Rattle.tokens.specs.Written.{bytes, same}
 use Rattle.tokens.specs.Tokens.{Tok, Toks, stop, tok, Mode, plain, inword, line, closing, opened, block, Act, go, token, bad, act, ended, done, lex, toks}
-use Rattle.meaning.specs.Reader.{_>>_, due}
+use Rattle.meaning.specs.Reader.{_>>_}
 use Rattle.meaning.specs.Names.{find}
 use Rattle.meaning.specs.Groups.{groups}
 use Rattle.meaning.specs.Meaning.{given, firsts, Meaning, meaning}
 use Rattle.meaning.specs.Statements.{Decl, Decls, Env}
 use Rattle.meaning.specs.Document.{pattern, patterns, Read}
 use Rattle.meaning.specs.Edited.{fromToken}
-use Rattle.meaning.proofs.Others.{same-is}
 use Rattle.meaning.proofs.Accepted.{accepted}
-use Rattle.held.proofs.Rest.{Rest, all, behind, rest-rest, Moves, moving, moves-leaves, moves-bind, moves-due, leaves-option}
-use Rattle.held.proofs.Grammar.{moves-signals, moves-groups, moves-timing, moves-statements, moves-macro, moves-procedure, moves-burst, moves-exec}
+use Rattle.meaning.proofs.Others.{same-eq}
+use Rattle.held.proofs.Rest.{Rest, all, behind, rest-rest, moves-leaves, leaves-option}
+use Rattle.held.proofs.Grammar.{moves-signals, moves-groups, moves-timing, moves-statements, moves-macro, moves-procedure, moves-burst, moves-exec, opening-moves}
 use Rattle.held.proofs.Bodies.{leads-bodies}
 use Rattle.held.proofs.Leads.{Leads, leads-bind, leads-while}
 use Rattle.held.proofs.Due.{new-is, due-is}
@@ -113,9 +113,6 @@ patterns-span : (e : Env) (b : Tok) (ts : Toks) → Leads (patterns e b) ts (Spa
 unfolding patterns Spans
 patterns-span e b ts = leads-bind _ _ λ l us q. leads-while (Spans ts) (pattern e b) (pattern-spans e b ts) _ l us (pattern-spans e b ts [] ts all .all l us q)
 
-opening-moves : Moves (do due "STIL"; due "1.0"; due ";")
-opening-moves = moves-bind _ _ (moves-due _) λ x. search moving
-
 -- whatever is read before them, they stand in the text
 patterns-at : (ts : Toks) (d : Read) (us : Toks) (p : Parts ts d us) → Rest (p .patterns-at) ts
 patterns-at ts d us p =
@@ -172,7 +169,7 @@ open-found text (x ∷ bs) h w b e = by (same (x .0 .word) w) refl e (open-found
   where
     by : (c : Bool) → same (x .0 .word) w ≡ c → _≡_ {A = Option Block} (elim c [ true ↦ some (x .1) | false ↦ find bs w ]) (some b)
         → (find bs w ≡ some b → Opens text (b .keyword) w) → Opens text (b .keyword) w
-    by true f e ih = let q : x .1 ≡ b = cc in subst (λ (v : List ℕ). Opens text (b .keyword) v) (same-is (x .0 .word) w f) (rw (← q) (h .0))
+    by true f e ih = let q : x .1 ≡ b = cc in subst (λ (v : List ℕ). Opens text (b .keyword) v) (same-eq (x .0 .word) w f) (rw (← q) (h .0))
     by false f e ih = ih e
 
 -- of each line

@@ -7,7 +7,7 @@ use mathlib.Core.List.{List, [], _∷_, _++_}
 use lib.ListN.{replicate}
 use Rattle.tokens.specs.Written
 use Rattle.meaning.specs.Open.{everything}
-use Rattle.meaning.specs.Edited.{alone}
+use Rattle.meaning.specs.Run.{alone}
 use Rattle.meaning.specs.Meaning.{given, refused}
 use Rattle.meaning.specs.Samples.{worked, playing, listing, whole, twoSignals, oneGroup, oneTable, itsWaveforms, oneMacro, oneListed}
 use Rattle.pages.specs.Pages.{digits, decimal}

@@ -13,6 +13,7 @@ use borrow.Author.Tests.{leb-true, leb-false, ltb-false}
 use Rattle.tokens.specs.Written.{bytes, same}
 use Rattle.tokens.specs.Refusals.{textMost, tooLong}
 use Rattle.tokens.specs.Tokens.{Tok, Toks, stop, tok, Mode, plain, inword, line, closing, opened, block, Act, go, token, bad, act, ended, done, lex, toks, faultIn, faultOf}
+use Rattle.tokens.proofs.Bools.{both}
 use Rattle.meaning.specs.Bounds.{nameMost, tablesMost, listMost, sizeMost, cyclesMost}
 use Rattle.meaning.specs.Signals.{Names}
 use Rattle.meaning.specs.Timing.{Tables, table, timing}
@@ -26,7 +27,6 @@ use Rattle.meaning.proofs.Gives.{Gives, gives-bind, gives-after, gives-give, gi
 use Rattle.meaning.proofs.Accepted.{accepted}
 use Rattle.held.proofs.Parts.{parts}
 use Rattle.pages.specs.Pages.{digits, decimal, digitsMost}
-use Rattle.words.proofs.Loops.{both}
 use Rattle.timing.proofs.TableReading.{firsts-length}
 use Rattle.sections.specs.Listing.{countedOf, lines, Short}
 use Rattle.index.specs.Index.{standsAt, keywordBefore, keywords, Block, blocks, Line, lineOf, linesFrom, linesOf, Index, indexOf, lineWritten, linesWritten, written}

@@ -13,9 +13,8 @@ use Rattle.meaning.specs.Names.{find}
 use Rattle.meaning.specs.Body.{Body}
 use Rattle.meaning.specs.Statements.{Decls}
 use Rattle.meaning.specs.Document.{Read, document}
-use Rattle.meaning.specs.Run.{cycles}
+use Rattle.meaning.specs.Run.{cycles, alone}
 use Rattle.meaning.specs.Meaning.{Answer, given, refused, answering, firsts, Meaning, meaning}
-use Rattle.meaning.specs.Edited.{alone}
 use Rattle.pages.specs.Pages.{decimal}
 use Rattle.sections.specs.Listing.{ended, counted, lines}
 

@@ -9,9 +9,9 @@ use mathlib.Core.Option.{Option, none, some}
 use mathlib.Core.List.{List, [], _++_}
 use lib.ListN.{length, take, drop, length-append}
 use lib.Seq.{take-at}
-use borrow.Author.Tests.{le-leb}
 use Rattle.tokens.specs.Refusals.{textMost, badByte, openComment}
 use Rattle.tokens.specs.Tokens.{plain, toks, faultIn, faultOf}
+use Rattle.tokens.proofs.Faults.{short-clean}
 use Rattle.intake.specs.declared.Intake.{Intake}
 use Rattle.intake.specs.declared.Progress.{Progress}
 use Rattle.intake.specs.declared.Progress.the-variants.{Open, Refused, Closed}
@@ -294,10 +294,6 @@ room-most store = omega arith
 pub same-tokens : (raw : List ℕ) → faultIn (toks raw 0) ≡ none
     → (wordsOf (toks (squeezed raw) 0) ≡ wordsOf (toks raw 0)) × (faultIn (toks (squeezed raw) 0) ≡ none)
 same-tokens raw clean = squeezed-same raw clean
-
-short-clean : (text : List ℕ) → length text ≤ textMost → faultIn (toks text 0) ≡ none → faultOf text ≡ none
-unfolding faultOf
-short-clean text h k = rw (le-leb (length text) textMost h, faultOf) k
 
 -- a closed store's first n bytes are a text of the document's length with no fault, and have the raw text's tokens
 pub store-reads : (cs : List (List ℕ)) (store : List ℕ) (n : ℕ) → intake cs store .0 ≡ Closed n

@@ -5,11 +5,11 @@ use mathlib.Core.Path.{_≡_, refl, sym, ap, _∙_}
 use mathlib.Core.Bool.{Bool, true, false, _||_}
 use mathlib.Core.List.{List, _∷_, _++_}
 use lib.ListN.{length, getD, drop, drop-of-length-le}
-use lib.Seq.{drop-cons}
 use lib.Dec.{eqb}
 use borrow.Author.Tests.{eq-eqb, ne-eqb, eqb-true}
 use Rattle.tokens.specs.Written.{cases}
 use Rattle.tokens.specs.Refusals.{textMost, openComment}
+use Rattle.tokens.proofs.Reading.{cut}
 use Rattle.intake.specs.declared.Intake.{Intake}
 use Rattle.intake.specs.declared.Change.{Change}
 use Rattle.intake.specs.declared.Progress.{Progress}
@@ -79,9 +79,6 @@ module _ (x : Intake) (b : ℕ) (c : Change) (e : stepBy x b c ≡ step x b) whe
 
 abbrev pub Looking : ℕ → List ℕ → Intake → Intake → ℕ → Type 0
 Looking room chunk first here i = answered (takes room first chunk) ≡ answered (takes room here (drop i chunk))
-
-cut : (l : List ℕ) (i : ℕ) → i < length l → drop i l ≡ getD l i 0 ∷ drop (i + 1) l
-cut l i h = rw (add-one, drop-cons l i 0)
 
 module _ (room : ℕ) (chunk : List ℕ) (first here : Intake) (i n : ℕ) (c : Change) (known : Looking room chunk first here i) (h : i < length chunk)
     (e : stepBy here (getD chunk i 0) c ≡ step here (getD chunk i 0)) (k : n ≡ length (addsOf (here .run) (getD chunk i 0) c)) where

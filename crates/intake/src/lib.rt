@@ -1,4 +1,7 @@
 // A raw text in chunks of any length, squeezed into a lent store: each longest run of blanks and comments becomes one LF if it holds an LF, else one space.
+use tokens::BAD_BYTE;
+use tokens::OPEN_COMMENT;
+use tokens::TOO_LONG;
 use tokens::is_allowed;
 use tokens::is_blank;
 ghost use mathlib.Core.Path.{_≡_};
@@ -12,15 +15,9 @@ ghost use Rattle.intake.specs.Answers.{onlyIf, addsOf, stepBy, holdsOf, 
 // The most bytes of a raw text, and of a store.
 pub const RAW: usize = 1_048_576;
 
-const STORE: usize = 65_536;
+const STORE: usize = tokens::TEXT_MOST;
 
-// Refusals.
-const TOO_LONG: u8 = 1;
-
-const BAD_BYTE: u8 = 2;
-
-const OPEN_COMMENT: u8 = 3;
-
+// The refusal of a store that is too short or too long.
 const NO_STORE: u8 = 20;
 
 // Where the intake stands: outside comments, behind a `/` that might open one, in `//`, in `/*`, and there behind a `*` that might close it.

@@ -13,8 +13,9 @@ use borrow.Author.Tests.{eqb-true, eqb-false}
 use Rattle.tokens.specs.Written.{same}
 use Rattle.meaning.specs.Names.{isSome}
 use Rattle.words.specs.Cursor.{span}
-use Rattle.words.proofs.Words.{cut, same-eq}
+use Rattle.words.proofs.Words.{cut}
 use Rattle.meaning.specs.Labels.{taken}
+use Rattle.meaning.proofs.Others.{same-eq}
 use Rattle.labels.specs.Table.{labelsMost, hashes, wordOf, wordsOf, numberOf, hashFrom, hashed, latest, Held, Added}
 
 -- ---- hashes

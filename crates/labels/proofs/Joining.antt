@@ -9,6 +9,7 @@ use lib.ListN.{length}
 use borrow.Author.Tests.{lt-ltb, le-ltb, eq-eqb, ne-eqb}
 use Rattle.tokens.specs.Refusals.{textMost}
 use Rattle.tokens.specs.Tokens.{Toks, toks}
+use Rattle.tokens.proofs.Bools.{never}
 use Rattle.meaning.specs.Refusals.{usedName}
 use Rattle.meaning.specs.Reader.{Res, Reader, refuse, give}
 use Rattle.meaning.proofs.SameTokens.{stands-there}
@@ -20,7 +21,6 @@ use Rattle.meaning.specs.Labels.{labelsFrom, labels, repeated, usedTwice, earli
 use Rattle.labels.specs.Table.{foundOf}
 use Rattle.labels.specs.Joined.{usedAt, sooner, Joins}
 use Rattle.labels.specs.declared.Found.{Found}
-use Rattle.labels.proofs.Laws.{never}
 
 -- ---- any reader
 

@@ -4,14 +4,13 @@ use Prim.Native.Nat.{ℕ}
 use native.Mathlib.Omega.{arith}
 use mathlib.Core.Path.{_≡_, refl, sym, ap, _∙_}
 use mathlib.Core.Bool.{Bool, true, false, _||_}
-use mathlib.Core.Option.{Option, none, some}
+use mathlib.Core.Option.{Option, none, some, orElse}
 use mathlib.Core.List.{List, [], _∷_, _++_}
 use Rattle.tokens.specs.Written.{same}
 use Rattle.tokens.specs.Tokens.{Tok}
+use Rattle.tokens.proofs.Bools.{never}
 use Rattle.meaning.specs.Labels.{taken, usedBy, repeated}
-
-pub never : {A : Type 0} → false ≡ true → A
-never e = let z : _≡_ {A = ℕ} 0 1 = cc in absurd (omega arith)
+use Rattle.meaning.proofs.Options.{or-both}
 
 -- ---- one token
 
@@ -37,10 +36,6 @@ taken-append (v ∷ vs) us w = by (same v w) (taken-append vs us w)
     by false e = e
 
 -- ---- one list behind the other
-
-unfoldable pub orElse : Option ℕ → Option ℕ → Option ℕ
-orElse none o = o
-orElse (some q) o = some q
 
 pub repeated-append : (vs : List (List ℕ)) (k l : List Tok) → repeated vs (k ++ l) ≡ orElse (repeated vs k) (repeated (usedBy vs k) l)
 unfolding repeated orElse usedBy
@@ -97,15 +92,10 @@ used-stays vs (t ∷ l) w e = used-stays (t .word ∷ vs) l w (by (same (t .word
     by true = refl
     by false = e
 
-orElse-none : (o p : Option ℕ) → orElse o p ≡ none → (o ≡ none) × (p ≡ none)
-unfolding orElse
-orElse-none none p e = (refl, e)
-orElse-none (some q) p e = let z : _≡_ {A = ℕ} 0 1 = cc in absurd (omega arith)
-
 -- the words of any two labels differ, and are none of those that were used before
 module _ (vs : List (List ℕ)) (k l : List Tok) (t : Tok) where
   pub repeated-none : repeated vs (k ++ t ∷ l) ≡ none → taken (usedBy vs k) (t .word) ≡ false
-  repeated-none e = by (taken (usedBy vs k) (t .word)) refl (orElse-none _ _ (sym (repeated-append vs k (t ∷ l)) ∙ e) .1)
+  repeated-none e = by (taken (usedBy vs k) (t .word)) refl (or-both _ _ (sym (repeated-append vs k (t ∷ l)) ∙ e) .1)
     where
       by : (b : Bool) → taken (usedBy vs k) (t .word) ≡ b → repeated (usedBy vs k) (t ∷ l) ≡ none → b ≡ false
       by false h r = refl
@@ -116,7 +106,7 @@ unfolding usedBy taken
 labels-differ vs i k l s t e = by (same (s .word) (t .word)) refl
   where
     rest : repeated (usedBy vs i) (s ∷ (k ++ t ∷ l)) ≡ none
-    rest = orElse-none _ _ (sym (repeated-append vs i (s ∷ (k ++ t ∷ l))) ∙ e) .1
+    rest = or-both _ _ (sym (repeated-append vs i (s ∷ (k ++ t ∷ l))) ∙ e) .1
 
     new : taken (usedBy (s .word ∷ usedBy vs i) k) (t .word) ≡ false
     new = repeated-none (usedBy vs i) (s ∷ k) l t rest

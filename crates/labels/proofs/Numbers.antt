@@ -10,12 +10,14 @@ use lib.ListN.{length}
 use borrow.Author.Tests.{eqb-true, eqb-false}
 use Rattle.tokens.specs.Written.{same}
 use Rattle.tokens.specs.Tokens.{Tok, toks}
+use Rattle.tokens.proofs.Bools.{neither, never}
 use Rattle.words.specs.Values.{told}
-use Rattle.words.proofs.Words.{neither, same-eq, same-self}
+use Rattle.words.proofs.Words.{same-self}
 use Rattle.meaning.specs.Labels.{taken, usedBy, repeated, labels, usedTwice}
+use Rattle.meaning.proofs.Others.{same-eq}
 use Rattle.labels.specs.Table.{wordOf, wordsOf, numberOf, Gathers}
 use Rattle.labels.specs.declared.Gathered.{Gathered}
-use Rattle.labels.proofs.Laws.{never, taken-append, repeated-later}
+use Rattle.labels.proofs.Laws.{taken-append, repeated-later}
 use Rattle.labels.proofs.Chains.{words-length}
 
 -- ---- different words

@@ -7,21 +7,22 @@ use mathlib.Core.Option.{some}
 use mathlib.Core.List.{List, [], _∷_, _++_}
 use lib.Dec.{ltb, eqb}
 use lib.ListN.{length, getD, drop, length-take, length-drop, drop-of-length-le}
-use borrow.Author.Tests.{ne-eqb, lt-ltb, le-ltb, ltb-true, ltb-false}
+use borrow.Author.Tests.{ne-eqb, le-ltb, ltb-true, ltb-false}
 use Rattle.tokens.specs.Written.{bytes, same, cases}
 use Rattle.tokens.specs.Refusals.{textMost, notHere}
 use Rattle.tokens.specs.Tokens.{Tok, Toks, stop, tok, ended, lex, toks, left}
 use Rattle.tokens.proofs.Laws.{unfolds, left-most}
+use Rattle.tokens.proofs.Bools.{never}
 use Rattle.meaning.specs.Names.{isSome}
 use Rattle.words.specs.Cursor.{span, ahead, stream, Stands}
 use Rattle.words.specs.declared.Cursor.{Cursor}
 use Rattle.words.specs.Values.{told}
-use Rattle.words.proofs.Flow.{stream-on, stream-stop}
-use Rattle.words.proofs.Words.{same-long}
+use Rattle.words.proofs.Flow.{stream-stop, token-here, fewer}
+use Rattle.words.proofs.Words.{same-long, told-some}
 use Rattle.meaning.specs.Labels.{Here, begins, due, within, beginning, parting, labelling, behind, labelled, labelsFrom, labels, taken, usedBy, repeated, usedTwice}
 use Rattle.labels.specs.Table.{labelsMost, hashes, wordsOf, numberOf, latest, Held, Added, hereBy, hereOf, dues, used, Notes, Gathers}
 use Rattle.labels.specs.declared.Noted.{Noted}
-use Rattle.labels.proofs.Laws.{never, repeated-here, repeated-later, taken-append}
+use Rattle.labels.proofs.Laws.{repeated-here, repeated-later, taken-append}
 use Rattle.labels.proofs.Chains.{taken-number}
 
 -- ---- what begins behind a token
@@ -112,11 +113,6 @@ labels-few h (tok t ts) = by h (labels-few (behind h (t .word)) ts) (dues-behind
 
 -- ---- words that are used
 
-told-some : (b : Bool) (n : ℕ) → isSome (told b n) ≡ b
-unfolding isSome
-told-some true n = refl
-told-some false n = refl
-
 -- those of the labels, by what a look-up found, and the burst's name
 pub used-by : (text burst places w : List ℕ) (count i : ℕ) {b : Bool} → told (ltb i count) i ≡ numberOf (wordsOf text places count) w → b ≡ same burst w
     → (ltb i count || b) ≡ taken (used text burst places count) w
@@ -174,16 +170,9 @@ unfolding toks lex ended
 past-end text at h = rw (drop-of-length-le text h)
 
 module _ (text : List ℕ) (c : Cursor) (h : c .at < c .end) where
-  token-here : stream text c ≡ tok (ahead text c) (toks text (c .end))
-  token-here = stream-on text c (lt-ltb (c .at) (c .end) h)
-
-  pub fewer : {d : Cursor} → Stands text (c .end) d → suc (left (stream text d)) ≡ left (stream text c)
-  unfolding left
-  fewer {d} s = ap (λ (ts : Toks). suc (left ts)) (s .there) ∙ sym (ap left token-here)
-
   some-left : 0 < left (stream text c)
   unfolding left
-  some-left = let e : left (stream text c) ≡ suc (left (toks text (c .end))) = ap left token-here in omega arith
+  some-left = let e : left (stream text c) ≡ suc (left (toks text (c .end))) = ap left (token-here text c h) in omega arith
 
   -- it ends within the text: behind the text's end reading would stop elsewhere
   pub ends-within : (place : ℕ) → stream text c ≡ toks text place → c .end ≤ length text
@@ -193,7 +182,7 @@ module _ (text : List ℕ) (c : Cursor) (h : c .at < c .end) where
       by false q = ltb-false (length text) (c .end) q
       by true q =
           let far = ltb-true (length text) (c .end) q in
-          let u = unfolds text place (ahead text c) (toks text (c .end)) (sym e ∙ token-here) in
+          let u = unfolds text place (ahead text c) (toks text (c .end)) (sym e ∙ (token-here text c h)) in
           let long : length (span text (c .at) (c .end)) ≡ min (c .end - c .at) (length text - c .at) =
           length-take (c .end - c .at) (drop (c .at) text) ∙ ap (min (c .end - c .at)) (length-drop (c .at) text) in
           let all : c .at + length (span text (c .at) (c .end)) ≡ length text = omega (arith, u .some, u .within) in

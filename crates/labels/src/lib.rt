@@ -12,6 +12,7 @@ ghost use Rattle.meaning.specs.Labels.{parting, labelling, behind as behindOf, 
 ghost use Rattle.labels.specs.Joined.{Joins};
 ghost use Rattle.labels.specs.Table.{labelsMost, wordOf, wordsOf, numberOf, hashed, Held, Added, hereOf, used, Notes, Gathers, foundOf};
 use words::Cursor;
+use words::USED;
 
 // A text of 65,536 bytes has at most so many labels: each has a word before it.
 pub const LABELS: usize = 32_768;
@@ -23,9 +24,6 @@ pub const PLACES: usize = 2 * LABELS;
 pub const HASHES: usize = 4096;
 
 const SHORT: usize = 65_536;
-
-// Name already used.
-const USED: u8 = 7;
 
 // At a token: neither of these; something begins; a label is due.
 const WITHIN: u8 = 0;

@@ -1,12 +1,19 @@
 -- Pieces put one behind the other are a line.
-use Prim.Native.Nat.{ℕ}
-use mathlib.Core.Path.{_≡_, refl}
+use Prim.Native.Nat.{ℕ, _-_, _<_, _≤_}
+use native.Mathlib.Omega.{arith}
+use mathlib.Core.Path.{_≡_, refl, sym, ap, _∙_}
+use mathlib.Core.Bool.{Bool, true, false}
 use mathlib.Core.List.{List, [], _∷_, _++_, append-assoc}
+use lib.Dec.{ltb}
 use lib.ListN.{length}
+use borrow.Author.Tests.{ltb-true, lt-ltb, le-ltb}
 use Rattle.tokens.specs.Written.{bytes, lines}
+use Rattle.meaning.specs.Bounds.{timeMost}
+use Rattle.meaning.specs.Timing.{Signed, plus, minus, countedMost, uncounted}
+use Rattle.meaning.specs.Services.{wordRange, bitsOf}
 use Rattle.pages.specs.Pages.{decimal}
 use Rattle.sections.specs.Listing.{refusal}
-use Rattle.lines.specs.Lines.{counted, nameLine, eventLine, tokenLine, spanLine, failLine, statedLine, goodLine, hurtLine, unreadLine, sumLine, progress, helpLines, faultLine}
+use Rattle.lines.specs.Lines.{counted, nameLine, negative, signedOf, signedDecimal, eventLine, tokenLine, spanLine, failLine, statedLine, goodLine, hurtLine, unreadLine, sumLine, progress, helpLines, faultLine}
 
 -- ---- the pieces of each line
 
@@ -18,7 +25,34 @@ pub name-is : (name : List ℕ) (p : ℕ) → name ++ ((bytes " AT " ++ decimal 
 unfolding bytes counted nameLine
 name-is name p = simp append-assoc
 
-pub event-is : (time letter : ℕ) → decimal time ++ (32 ∷ letter ∷ 10 ∷ []) ≡ eventLine time letter
+as-signed : ℕ → Bool → List ℕ
+as-signed bits b = signedDecimal (elim b [ true ↦ plus bits | false ↦ minus (wordRange - bits) ])
+
+pub plus-is : (bits : ℕ) → bits < negative → decimal bits ≡ signedDecimal (signedOf bits)
+unfolding signedDecimal signedOf as-signed
+plus-is bits h = ap (as-signed bits) (sym (lt-ltb bits negative h))
+
+pub minus-is : (bits n : ℕ) → negative ≤ bits → n ≡ wordRange - bits → 45 ∷ decimal n ≡ signedDecimal (signedOf bits)
+unfolding signedDecimal signedOf as-signed
+minus-is bits n h e = ap (λ (m : ℕ). 45 ∷ decimal m) e ∙ ap (as-signed bits) (sym (le-ltb bits negative h))
+
+-- the bits of a time are its signed number's
+pub told-back : (t : ℕ) → t ≤ countedMost → signedOf (bitsOf (uncounted t)) ≡ uncounted t
+unfolding signedOf bitsOf uncounted
+told-back t h = by (ltb t timeMost) refl
+  where
+    of : ℕ → Bool → Signed
+    of bits b = elim b [ true ↦ plus bits | false ↦ minus (wordRange - bits) ]
+
+    by : (w : Bool) → ltb t timeMost ≡ w
+        → signedOf (bitsOf (elim w [ true ↦ minus (timeMost - t) | false ↦ plus (t - timeMost) ])) ≡ elim w [ true ↦ minus (timeMost - t) | false ↦ plus (t - timeMost) ]
+    by true e =
+        let k = ltb-true t timeMost e in
+        let n : wordRange - (wordRange - (timeMost - t)) ≡ timeMost - t = omega arith in
+        ap (of (wordRange - (timeMost - t))) (le-ltb (wordRange - (timeMost - t)) negative (omega arith)) ∙ ap minus n
+    by false e = ap (of (t - timeMost)) (lt-ltb (t - timeMost) negative (omega arith))
+
+pub event-is : (time : Signed) (letter : ℕ) → signedDecimal time ++ (32 ∷ letter ∷ 10 ∷ []) ≡ eventLine time letter
 unfolding eventLine
 event-is time letter = simp append-assoc
 

@@ -1,9 +1,13 @@
 -- Every line that is written (docs/COMMANDS.md); a refusal's line is the listing's.
-use Prim.Native.Nat.{ℕ}
+use Prim.Native.Nat.{ℕ, suc, _-_}
 use mathlib.Core.List.{List, [], _∷_, _++_}
+use mathlib.Core.Bool.{true, false}
+use lib.Dec.{ltb}
 use lib.ListN.{length}
 use Rattle.tokens.specs.Written.{bytes, lines}
-use Rattle.pages.specs.Pages.{decimal}
+use Rattle.meaning.specs.Timing.{Signed, plus, minus}
+use Rattle.meaning.specs.Services.{wordRange}
+use Rattle.pages.specs.Pages.{digitsMost, decimal}
 use Rattle.sections.specs.Listing.{ended, refusal}
 
 -- ---- answers
@@ -19,9 +23,20 @@ noPattern = ended (bytes "NO PATTERN")
 unfoldable pub nameLine : List ℕ → ℕ → List ℕ
 nameLine name p = ended (name ++ bytes " AT " ++ decimal p ++ bytes " LENGTH " ++ decimal (length name))
 
+-- 64 bits as a signed number: negative from half of their range on
+abbrev pub negative : ℕ
+negative = 9_223_372_036_854_775_808
+
+unfoldable pub signedOf : ℕ → Signed
+signedOf bits = elim (ltb bits negative) [ true ↦ plus bits | false ↦ minus (wordRange - bits) ]
+
+unfoldable pub signedDecimal : Signed → List ℕ
+signedDecimal (plus n) = decimal n
+signedDecimal (minus n) = 45 ∷ decimal n
+
 -- time letter
-unfoldable pub eventLine : ℕ → ℕ → List ℕ
-eventLine time letter = ended (decimal time ++ 32 ∷ letter ∷ [])
+unfoldable pub eventLine : Signed → ℕ → List ℕ
+eventLine time letter = ended (signedDecimal time ++ 32 ∷ letter ∷ [])
 
 -- place length bytes
 unfoldable pub tokenLine : ℕ → List ℕ → List ℕ
@@ -90,6 +105,10 @@ faultLine what word = ended (what ++ bytes ": " ++ word)
 -- for digits and LF
 abbrev pub countMost : ℕ
 countMost = 21
+
+-- for a sign and digits
+abbrev pub signedMost : ℕ
+signedMost = suc digitsMost
 
 -- for a line, besides the words that are handed in
 abbrev pub lineMost : ℕ

@@ -6,10 +6,15 @@ ghost use Prim.Native.Nat.{_+_, _*_, _≤_};
 ghost use lib.Dec.{leb, ltb};
 ghost use lib.ListN.{length};
 ghost use Rattle.tokens.specs.Written.{bytes};
-ghost use Rattle.lines.specs.Lines.{counted as countedOf, noPattern, nameLine, eventLine, tokenLine, spanLine, failLine, statedLine, goodLine, hurtLine, unreadLine, sumLine, progress as progressOf, helpLines, faultLine, countMost, lineMost, helpMost};
+ghost use Rattle.lines.specs.Lines.{counted as countedOf, noPattern, nameLine, signedOf, signedDecimal, eventLine, tokenLine, spanLine, failLine, statedLine, goodLine, hurtLine, unreadLine, sumLine, progress as progressOf, helpLines, faultLine, countMost, signedMost, lineMost, helpMost};
 ghost use Rattle.sections.specs.Listing.{Adds};
 ghost use Rattle.lines.specs.Numbers.{numberMost, numberOf, told};
 use sections::with_number;
+
+// The least number of 64 bits that stands for a negative one, and the largest.
+const NEGATIVE: u64 = 9_223_372_036_854_775_808;
+
+const LAST: u64 = 18_446_744_073_709_551_615;
 
 // Room for a line, besides the words that are handed in.
 pub const LINE: usize = 128;
@@ -23,6 +28,17 @@ fn counted(page: &mut [u8], at: usize, word: &[u8], n: u64) -> usize
 {
     let end = with_number(page, at, word, n);
     pages::put(page, end, b"\n")
+}
+
+// A signed number, of which these are the 64 bits.
+fn signed(page: &mut [u8], at: usize, bits: u64) -> usize
+    requires { ⌜ at + signedMost ≤ length (now page) ⌝ }
+    ensures { λ r. ⌜ Adds (now (page .entry)) at (signedDecimal (signedOf bits)) signedMost r (now (page .exit)) ⌝ }
+{
+    if bits < NEGATIVE {
+        return with_number(page, at, b"", bits);
+    }
+    with_number(page, at, b"-", LAST - bits + 1)
 }
 
 // ---- answers
@@ -77,12 +93,12 @@ pub fn name(page: &mut [u8], at: usize, name: &[u8], place: usize) -> usize
     counted(page, end, b" LENGTH ", name.len() as u64)
 }
 
-// time letter
+// time letter, of the time's 64 bits
 pub fn event(page: &mut [u8], at: usize, time: u64, letter: u8) -> usize
     requires { ⌜ at + lineMost ≤ length (now page) ⌝ }
-    ensures { λ r. ⌜ Adds (now (page .entry)) at (eventLine time letter) lineMost r (now (page .exit)) ⌝ }
+    ensures { λ r. ⌜ Adds (now (page .entry)) at (eventLine (signedOf time) letter) lineMost r (now (page .exit)) ⌝ }
 {
-    let end = with_number(page, at, b"", time);
+    let end = signed(page, at, time);
     pages::put(page, end, &[b' ', letter, b'\n'])
 }
 

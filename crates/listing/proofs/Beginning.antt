@@ -13,7 +13,8 @@ use Rattle.timing.specs.declared.Watch.{Watch}
 use Rattle.texts.specs.Tables.{Found}
 use Rattle.texts.specs.declared.Verdict.{Verdict}
 use Rattle.index.proofs.Names.{signals-few}
-use Rattle.verdicts.proofs.Found.{meantBy, names-are, counts-met}
+use Rattle.verdicts.specs.Found.{meantBy}
+use Rattle.verdicts.proofs.Found.{names-are, counts-met}
 use Rattle.sections.specs.Listing.{frontMost, front, refusal, sectionsOf, Short, firstOf, lastOf, Fronts}
 use Rattle.sections.specs.declared.Page.{Page}
 use Rattle.listing.specs.Pages.{tooSmall, Begins}

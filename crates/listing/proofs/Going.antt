@@ -8,12 +8,12 @@ use mathlib.Core.List.{List}
 use lib.Dec.{leb}
 use lib.ListN.{length}
 use borrow.Author.Tests.{leb-true}
+use Rattle.tokens.proofs.Bools.{both}
 use Rattle.meaning.specs.Bounds.{sizeMost, cyclesMost}
 use Rattle.meaning.specs.Run.{size, cycles}
 use Rattle.meaning.specs.Meaning.{Answer, given, refused, answering, fitting as fits, Meaning, meaning}
 use Rattle.meaning.specs.Services.{dot, rowsDue, windowOf, window}
 use Rattle.meaning.proofs.Accepted.{accepted}
-use Rattle.arguments.proofs.Lists.{both}
 use Rattle.verdicts.specs.Buffers.{afterwards}
 use Rattle.views.specs.Views.{shownOf, Views}
 use Rattle.views.specs.declared.Shown.{Shown}

@@ -7,7 +7,6 @@ ghost use Rattle.sections.specs.Listing.{frontMost};
 ghost use Rattle.listing.specs.Pages.{fitting as fittingOf, Begins, GoesOn};
 use sections::Page;
 use texts::Verdict;
-use verdicts::NOT_PLAYABLE;
 use views::Shown;
 
 // Filed listings have the dot for an unassigned pin.
@@ -44,8 +43,8 @@ fn shown<'a>(
         used,
         v,
     );
-    if f.failed {
-        return sections::refused(page, text, NOT_PLAYABLE, f.place);
+    if f.no != 0 {
+        return sections::refused(page, text, f.no, f.place);
     }
     let parts = v.parts;
     let total = v.total;

@@ -2,13 +2,13 @@
 use Prim.Native.Nat.{ℕ, _+_, _*_, _≤_}
 use native.Mathlib.Omega.{arith}
 use mathlib.Core.Path.{_≡_, refl, sym, ap, ap₂, _∙_}
-use Rattle.meaning.specs.Bounds.{sizeMost, cyclesMost}
+use Rattle.meaning.specs.Bounds.{cyclesMost}
 use Rattle.meaning.specs.Body.{Way, looped, shifted, entered, Body, done, vec, set′, inner}
-use Rattle.meaning.specs.Run.{size, turnsOf, shiftOf, cycles}
+use Rattle.meaning.specs.Run.{turnsOf, shiftOf, cycles}
 use Rattle.meaning.proofs.Turns.{PlainWay, Plain}
 use Rattle.measures.specs.Measures.{Measures}
 use Rattle.measures.specs.declared.Measure.{Measure}
-use Rattle.measures.proofs.Within.{size-within, cycles-within}
+use Rattle.measures.proofs.Within.{cycles-within}
 
 -- a body in a plain one plays alike whatever the turns of the Shift around it
 plain-inside : (w : Way) (b : Body) → PlainWay w (Plain b) → (t : ℕ) → (Plain b → cycles t b ≡ cycles 0 b)
@@ -26,9 +26,6 @@ plain-cycles (set′ x r) h t = plain-cycles r (h .1) t
 plain-cycles (inner w b r) h t = ap₂ _+_ (plain-inside w b (h .0) t (λ k. plain-cycles b k t)) (plain-cycles r (h .1) t)
 
 module _ {b : Body} {x : Measure} (m : Measures b x) where
-  pub exact-size : size b ≤ sizeMost → x .size ≡ size b
-  exact-size = size-within m
-
   pub exact-cycles : (t : ℕ) → cycles t b ≤ cyclesMost → x .cycles + t * x .shifts ≡ cycles t b
   exact-cycles t h = omega (arith, m .cycles-is t)
 

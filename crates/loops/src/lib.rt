@@ -7,10 +7,9 @@ ghost use Rattle.words.specs.Cursor.{alive, stream};
 ghost use Rattle.meaning.specs.Bounds.{signalsMost};
 ghost use Rattle.loops.specs.Held.{tables, Stood, Promised, Stepped};
 use heads::Known;
+use measures::DEPTH;
 use measures::Measure;
 use words::Cursor;
-
-const DEPTH: usize = 8;
 
 // The measure of what was read, and the cursor behind it; was it the `}`?
 pub struct Measured {

@@ -8,14 +8,15 @@ use mathlib.Core.Option.{Option, none, some}
 use mathlib.Core.List.{List}
 use lib.ListN.{length}
 use Rattle.tokens.specs.Tokens.{Toks, toks, faultOf}
-use Rattle.meaning.specs.Refusals.{tooLarge, notPlayable}
+use Rattle.meaning.specs.Refusals.{tooLarge, notPlayable, acrossEdge}
 use Rattle.meaning.specs.Bounds.{depthMost}
 use Rattle.meaning.specs.Reader.{Res, ok, refuse}
 use Rattle.meaning.specs.Body.{Body, depth}
 use Rattle.meaning.specs.Document.{Read, document}
 use Rattle.meaning.specs.Run.{size, visits, cyclesOf}
-use Rattle.meaning.specs.Meaning.{Answer, given, refused, answering, runOf, firstFailing, Meaning, firsts, fitting, judged, accept, meaning}
-use Rattle.meaning.proofs.Everywhere.{Every, Runs, runs}
+use Rattle.meaning.specs.Edges.{firstInRun}
+use Rattle.meaning.specs.Meaning.{Answer, given, refused, answering, runOf, firstFailing, Meaning, firsts, fitting, ordered, meaningOf, judged, accept, meaning}
+use Rattle.meaning.proofs.Everywhere.{Every, runs}
 use Rattle.meaning.proofs.Depth.{patterns-within, run-within}
 use Rattle.meaning.proofs.Visits.{visits-by-depth}
 
@@ -29,21 +30,22 @@ pub record Accepted (text : List ℕ) (m : Meaning) : Type 0 where
   pub run : runOf (doc .patterns) (doc .listed) ≡ given (m .run)
   pub fits : fitting (m .run) ≡ true
   pub plays : firstFailing (doc .tables) (cyclesOf (length (doc .signals)) (m .run)) ≡ none
+  pub pairs : firstInRun (m .tables) (length (m .signals)) (m .run) ≡ none
   pub signals : firsts (doc .signals) ≡ m .signals
   pub tables : doc .tables ≡ m .tables
   pub listed : length (doc .listed) ≡ m .listed
 
 -- a refusal is no meaning
-never : {A : Type 0} {B : Type 0} {n p : ℕ} {a : A} → _≡_ {A = Answer A} (refused n p) (given a) → B
+pub never : {A : Type 0} {B : Type 0} {n p : ℕ} {a : A} → _≡_ {A = Answer A} (refused n p) (given a) → B
 never e = let z : _≡_ {A = ℕ} 0 1 = cc in absurd (omega arith)
 
 module _ (text : List ℕ) (m : Meaning) (clean : faultOf text ≡ none) (d : Read) (ts : Toks) (read : document (toks text 0) ≡ ok d ts) where
-  played : (r : Body) → runOf (d .patterns) (d .listed) ≡ given r → fitting r ≡ true → (x : Option ℕ) → firstFailing (d .tables) (cyclesOf (length (d .signals)) r) ≡ x
-      → _≡_ {A = Answer Meaning} (elim x [ some p ↦ refused notPlayable p | none ↦ given (record { signals = firsts (d .signals); tables = d .tables; listed = length (d .listed); run = r }) ]) (given m)
-      → Accepted text m
-  played r k f (some p) x e = never e
-  played r k f none x e =
-      let q : record { signals = firsts (d .signals); tables = d .tables; listed = length (d .listed); run = r } ≡ m = cc in
+  paired : (r : Body) → runOf (d .patterns) (d .listed) ≡ given r → fitting r ≡ true → firstFailing (d .tables) (cyclesOf (length (d .signals)) r) ≡ none
+      → (x : Option ℕ) → firstInRun (d .tables) (length (firsts (d .signals))) r ≡ x
+      → _≡_ {A = Answer Meaning} (elim x [ some p ↦ refused acrossEdge p | none ↦ given (meaningOf d r) ]) (given m) → Accepted text m
+  paired r k f h (some p) x e = never e
+  paired r k f h none x e =
+      let q : meaningOf d r ≡ m = cc in
       let s : r ≡ m .run = ap (λ (m : Meaning). m .run) q in
       record {
         clean = clean;
@@ -52,11 +54,18 @@ module _ (text : List ℕ) (m : Meaning) (clean : faultOf text ≡ none) (d : Re
         read = read;
         run = k ∙ ap given s;
         fits = subst (λ (r : Body). fitting r ≡ true) s f;
-        plays = subst (λ (r : Body). firstFailing (d .tables) (cyclesOf (length (d .signals)) r) ≡ none) s x;
+        plays = subst (λ (r : Body). firstFailing (d .tables) (cyclesOf (length (d .signals)) r) ≡ none) s h;
+        pairs = subst (λ (m : Meaning). firstInRun (m .tables) (length (m .signals)) (m .run) ≡ none) q x;
         signals = ap (λ (m : Meaning). m .signals) q;
         tables = ap (λ (m : Meaning). m .tables) q;
         listed = ap (λ (m : Meaning). m .listed) q;
       }
+
+  played : (r : Body) → runOf (d .patterns) (d .listed) ≡ given r → fitting r ≡ true → (x : Option ℕ) → firstFailing (d .tables) (cyclesOf (length (d .signals)) r) ≡ x
+      → _≡_ {A = Answer Meaning} (elim x [ some p ↦ refused notPlayable p | none ↦ ordered (meaningOf d r) ]) (given m) → Accepted text m
+  unfolding ordered
+  played r k f (some p) x e = never e
+  played r k f none x e = paired r k f x (firstInRun (d .tables) (length (firsts (d .signals))) r) refl e
 
   sized : (r : Body) → runOf (d .patterns) (d .listed) ≡ given r → judged d r ≡ given m → Accepted text m
   unfolding judged
@@ -67,7 +76,7 @@ module _ (text : List ℕ) (m : Meaning) (clean : faultOf text ≡ none) (d : Re
             | false ↦ refused tooLarge 0
             | true ↦ elim (firstFailing (d .tables) (cyclesOf (length (d .signals)) r)) [
               | some p ↦ refused notPlayable p
-              | none ↦ given (record { signals = firsts (d .signals); tables = d .tables; listed = length (d .listed); run = r })
+              | none ↦ ordered (meaningOf d r)
             ]
           ]) (given m) → Accepted text m
       by false f e = never e

@@ -17,7 +17,7 @@ use Rattle.meaning.specs.Reader.{Reader, _>>=_, give, until}
 use Rattle.meaning.specs.Names.{reserved, among, isName, name, dueAmong, find, newName, oldName, value, number, numberIn}
 use Rattle.meaning.specs.Signals.{Names, directions, signal, signals, signalsUpTo, signalUpTo}
 use Rattle.meaning.specs.Groups.{term, sign, signAhead, joined, more, terms, bracket, expression, group, groups, groupsUpTo, groupUpTo}
-use Rattle.meaning.specs.Timing.{Wave, Tables, picoseconds, quoted, eventLetter, letterDue, alternative, letters, Events, oneEvent, event, taken, blanks, wavesFor, entry, waveforms, table, timing}
+use Rattle.meaning.specs.Timing.{Wave, Tables, picoseconds, quoted, Signed, plus, minus, timeOf, signedQuoted, eventLetter, letterDue, alternative, letters, Events, oneEvent, event, taken, blanks, wavesFor, entry, waveforms, table, timing}
 use Rattle.meaning.proofs.Choices.{_also_}
 use Rattle.meaning.proofs.Alike.{Border, Like, like-ahead, Alike, Anyhow, Equal, SameWord, alike-bind, alike-equal, alike-at, alike-give, alike-if, alike-known, alike-within, never-bind, never-then, never-if, never-known, never-within, never-refuse, alike-never, alike-any, alike-word, alike-due, alike-choose, alike-test, alike-ahead, alike-while, alike-until}
 
@@ -172,6 +172,19 @@ module _ {B : Border} where
       alike-bind (alike-due _ refl) λ x y q. alike-word (λ t e. never-bind _ _ (never-within _ _ _ _ (ap picoseconds e))) λ t u e.
       alike-equal (alike-within _ _ _ _ _ _ (ap picoseconds e)) λ n. alike-bind (alike-due _ refl) λ x y q. alike-give _ _ refl
 
+  alike-time : (sign : ℕ → Signed) → Alike B false Equal (timeOf sign) (timeOf sign)
+  unfolding timeOf bytes same picoseconds digit between
+  alike-time sign =
+      alike-word (λ t e. never-bind _ _ (never-within _ _ _ _ (ap picoseconds e))) λ t u e.
+      alike-equal (alike-within _ _ _ _ _ _ (ap picoseconds e)) λ n. alike-give _ _ refl
+
+  alike-signed : Alike B false Equal signedQuoted signedQuoted
+  unfolding signedQuoted bytes same
+  alike-signed =
+      alike-bind (alike-due _ refl) λ x y q.
+      alike-equal (alike-ahead "-" (alike-bind (alike-due _ refl) λ x y q. alike-time minus) (alike-time plus)) λ t.
+      alike-bind (alike-due _ refl) λ x y q. alike-give _ _ refl
+
   alike-letter : Alike B false Equal letterDue letterDue
   unfolding letterDue bytes eventLetter
   alike-letter =
@@ -191,7 +204,7 @@ module _ {B : Border} where
   alike-one : (n : ℕ) (s : Events) → Alike B false Equal (oneEvent n s) (oneEvent n s)
   unfolding oneEvent bytes same
   alike-one n s =
-      alike-equal (alike-quoted 0) λ t. alike-equal alike-letters λ es. alike-bind (alike-due _ refl) λ x y q. alike-bind (alike-if _ _ _ _ _ _) λ x y q.
+      alike-equal alike-signed λ t. alike-equal alike-letters λ es. alike-bind (alike-due _ refl) λ x y q. alike-bind (alike-if _ _ _ _ _ _) λ x y q.
       alike-equal (alike-known _ _ _ _ _ _ λ a b p q. (let z : some a ≡ some b = sym p ∙ q in let k : a ≡ b = cc in k)) λ cs. alike-give _ _ refl
 
   alike-event : (n : ℕ) (s : Events) → Alike B false Equal (event n s) (event n s)

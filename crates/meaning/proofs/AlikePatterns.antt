@@ -15,7 +15,7 @@ use Rattle.meaning.specs.Bounds.{patternsMost}
 use Rattle.meaning.specs.Names.{name as nameDue, newName}
 use Rattle.meaning.specs.Statements.{Decl, Decls, Env, declared}
 use Rattle.meaning.specs.Document.{besides, pattern, over, patterns, Read, document}
-use Rattle.meaning.proofs.Gives.{bind-ok, give-ok, if-ok}
+use Rattle.meaning.proofs.Gives.{bind-ok, give-ok, if-ok, any-ok}
 use Rattle.meaning.proofs.Once.{once-ok}
 use Rattle.meaning.proofs.Others.{OthersTwins, SameWords}
 use Rattle.meaning.proofs.Alike.{Border, Like, Leaves, Alike, Equal, SameWord, alike-bind, alike-give, alike-if, word-any, alike-due}
@@ -46,17 +46,12 @@ record Patterned (e : Env) (ps : Decls) (ts : Toks) (l : Decls) (us : Toks) : Ty
   pub read : declared e false inside ≡ ok body us
   pub more : l ≡ ps ++ (named, body) ∷ []
 
-any-is : (ts : Toks) (t : Tok) (us : Toks) → any ts ≡ ok t us → ts ≡ tok t us
-unfolding any
-any-is (stop n p) t us e = let z : _≡_ {A = ℕ} 0 1 = cc in absurd (omega arith)
-any-is (tok x ts) t us e = cc
-
 due-is : (w : List ℕ) (ts : Toks) (p : ℕ) (us : Toks) → dueOf w ts ≡ ok p us → (t : Tok) × (ts ≡ tok t us)
 unfolding dueOf
 due-is w ts p us e =
     let x = bind-ok any _ ts p us e in
     let y = bind-ok _ _ (x .1) p us (x .3) in
-    (x .0, any-is ts (x .0) (x .1) (x .2) ∙ ap (tok (x .0)) (if-ok _ _ _ (y .2) ∙ give-ok (y .3) .1))
+    (x .0, any-ok ts (x .2) ∙ ap (tok (x .0)) (if-ok _ _ _ (y .2) ∙ give-ok (y .3) .1))
 
 name-is : (ts : Toks) (t : Tok) (us : Toks) → nameDue ts ≡ ok t us → ts ≡ tok t us
 unfolding nameDue
@@ -64,7 +59,7 @@ name-is ts t us e =
     let x = bind-ok any _ ts t us (word-any _ ts t us e) in
     let y = bind-ok _ _ (x .1) t us (x .3) in
     let z = give-ok (y .3) in
-    any-is ts (x .0) (x .1) (x .2) ∙ ap₂ tok (z .0) (if-ok _ _ _ (y .2) ∙ z .1)
+    any-ok ts (x .2) ∙ ap₂ tok (z .0) (if-ok _ _ _ (y .2) ∙ z .1)
 
 new-is : {A : Type 0} (xs : List (Tok × A)) (ts : Toks) (t : Tok) (us : Toks) → newName xs ts ≡ ok t us → ts ≡ tok t us
 unfolding newName

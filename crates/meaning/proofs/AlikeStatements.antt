@@ -21,9 +21,9 @@ use Rattle.meaning.specs.Statements.{Decl, Decls, Env, numbered, Head, e
 use Rattle.meaning.proofs.Gives.{bind-ok, give-ok, if-ok}
 use Rattle.meaning.proofs.Choices.{_also_}
 use Rattle.meaning.proofs.Unplaced.{unplaced, Twins, outside-unplaced, shifting-unplaced}
-use Rattle.meaning.proofs.Others.{same-is}
 use Rattle.meaning.proofs.Alike.{Braced, Named, AtBlock, Border, Like, Leaves, Alike, Near, Equal, SameWord, Never, alike-bind, alike-equal, alike-at, alike-give, alike-if, alike-within, never-bind, never-refuse, alike-never, never-either, alike-choose, word-any, alike-due, goes-on, open′, Lost, near-closed, alike-closed, alike-until}
 use Rattle.meaning.proofs.AlikeBlocks.{Paired, alike-name, alike-old, alike-number}
+use Rattle.meaning.proofs.Others.{same-eq}
 
 -- ---- what two bodies that differ in places alone have in common where they are used
 
@@ -112,7 +112,7 @@ never-piece m t e =
     never-either _ (ap isWord e) _
     (never-either _ (ap (λ (w : List ℕ). same w (bytes "#")) e) _ (never-either _ (ap (λ (w : List ℕ). same w (bytes "\\")) e) _ never-refuse))
 
-word-pattern : (t : Tok) → t .word ≡ bytes "Pattern" → isWord (t .word) ≡ true
+pub word-pattern : (t : Tok) → t .word ≡ bytes "Pattern" → isWord (t .word) ≡ true
 unfolding bytes isWord wordy letter digit between
 word-pattern t e = ap isWord e
 
@@ -125,7 +125,7 @@ name-open (tok t ts) h = by (same (t .word) (bytes ";")) refl
   where
     by : (c : Bool) → same (t .word) (bytes ";") ≡ c → c ≡ false
     by false e = refl
-    by true e = let z : true ≡ false = sym (h .0) ∙ ap isWord (same-is (t .word) (bytes ";") e) in z
+    by true e = let z : true ≡ false = sym (h .0) ∙ ap isWord (same-eq (t .word) (bytes ";") e) in z
 
 brace-open : (ts : Toks) → Braced ts → aheadOf (bytes ";") ts ≡ false
 unfolding aheadOf bytes same

@@ -7,7 +7,7 @@ use mathlib.Core.Bool.{Bool, true, false, not}
 use mathlib.Core.Option.{Option, none, some}
 use mathlib.Core.List.{List, [], _∷_}
 use lib.Dec.{eqb}
-use borrow.Author.Tests.{eqb-true}
+use borrow.Author.Tests.{eqb-true, not-false}
 use Rattle.tokens.specs.Written.{bytes, same}
 use Rattle.tokens.specs.Bytes.{between, digit, letter, wordy}
 use Rattle.tokens.specs.Tokens.{Tok, Toks, stop, tok, left}
@@ -19,10 +19,10 @@ use Rattle.meaning.specs.Body.{Assigns, Args, mark, Kind, Body}
 use Rattle.meaning.specs.Data.{charsOf, repeatOf, times, repeated, piece, part, dataRead, assign, assigns, argument, arguments}
 use Rattle.meaning.specs.Statements.{Decl, Decls, Env, Head, ends, vecs, sets, loops, shifts, uses, used, chosen, looping, shiftHead, labelHead, head, inShift, behind, statementsF, statements, declared}
 use Rattle.meaning.specs.Edited.{fromBrace}
-use Rattle.meaning.proofs.Gives.{bind-ok, give-ok, if-ok, no-not, gives-if}
+use Rattle.meaning.proofs.Gives.{bind-ok, give-ok, if-ok, gives-if}
 use Rattle.meaning.proofs.Choices.{_also_}
-use Rattle.meaning.proofs.Others.{same-is}
 use Rattle.meaning.proofs.Alike.{within-ok}
+use Rattle.meaning.proofs.Others.{same-eq}
 
 -- how many braces are open behind a word, where d and one more were
 unfoldable pub levelBehind : List ℕ → ℕ → ℕ
@@ -60,7 +60,7 @@ behind-brace d (tok t ts) x us e = by (same (t .word) (bytes "{")) (same (t .wor
     by false true f zero e ih =
         let i : t ≡ x = cc in
         let j : ts ≡ us = cc in
-        (shut-zero ts ∙ j, ap (λ (y : Tok). y .word) (sym i) ∙ same-is (t .word) (bytes "}") f)
+        (shut-zero ts ∙ j, ap (λ (y : Tok). y .word) (sym i) ∙ same-eq (t .word) (bytes "}") f)
 
 -- ---- readers by the braces that they open and close
 
@@ -132,7 +132,7 @@ module _ {A : Type 0} {k : A → ℕ → ℕ} {g : Tok → Reader A} where
 
 levels-due : (w : List ℕ) → Levels suc (λ p. levelBehind w) (dueOf w)
 unfolding dueOf
-levels-due w = levels-any λ t. levels-if _ _ _ _ λ e. levels-give _ λ d. ap (λ (w : List ℕ). levelBehind w d) (same-is (t .word) w (no-not _ e))
+levels-due w = levels-any λ t. levels-if _ _ _ _ λ e. levels-give _ λ d. ap (λ (w : List ℕ). levelBehind w d) (same-eq (t .word) w (not-false _ e))
 
 -- a word is no brace
 level-plain : (w : List ℕ) → same w (bytes "{") ≡ false → same w (bytes "}") ≡ false → (d : ℕ) → levelBehind w d ≡ suc d
@@ -146,11 +146,11 @@ level-word w e =
   where
     other : (v : List ℕ) (c : Bool) → same w v ≡ c → isWord v ≡ false → c ≡ false
     other v false q h = refl
-    other v true q h = sym e ∙ ap isWord (same-is w v q) ∙ h
+    other v true q h = sym e ∙ ap isWord (same-eq w v q) ∙ h
 
 even-word : Even word
 unfolding word
-even-word = levels-any λ t. levels-if _ _ _ _ λ e. levels-give _ (level-word (t .word) (no-not _ e))
+even-word = levels-any λ t. levels-if _ _ _ _ λ e. levels-give _ (level-word (t .word) (not-false _ e))
 
 even-name : Even name
 unfolding name
@@ -177,7 +177,7 @@ levels-oneOf {A} {l} (x ∷ xs) h t = by (same (t .word) (bytes (x .0))) refl (l
   where
     by : (c : Bool) → same (t .word) (bytes (x .0)) ≡ c → Levels (levelBehind (t .word)) l (oneOf xs t)
         → Levels (levelBehind (t .word)) l (λ ts. elim c [ true ↦ x .1 (t .at) ts | false ↦ oneOf xs t ts ])
-    by true e ih = subst (λ (w : List ℕ). Levels (levelBehind w) l (x .1 (t .at))) (sym (same-is (t .word) (bytes (x .0)) e)) (h .0 (t .at))
+    by true e ih = subst (λ (w : List ℕ). Levels (levelBehind w) l (x .1 (t .at))) (sym (same-eq (t .word) (bytes (x .0)) e)) (h .0 (t .at))
     by false e ih = ih
 
 levels-choose : {A : Type 0} {l : A → ℕ → ℕ} (xs : List (String × (ℕ → Reader A))) → EachLevels l xs → Levels suc l (choose xs)

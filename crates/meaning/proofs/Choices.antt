@@ -1,13 +1,11 @@
 -- What the answers of a choice have in common: either of two readers, one of several, none.
 use mathlib.Core.Path.{_≡_}
 use Prim.Native.Nat.{ℕ}
-use Prim.Native.String.{String}
 use native.Mathlib.Omega.{arith}
 use mathlib.Core.Bool.{Bool, true, false}
-use mathlib.Core.List.{List}
-use Rattle.tokens.specs.Tokens.{Tok, tok}
-use Rattle.meaning.specs.Reader.{Reader, refuse, after, _>>=_, any, oneOf, choose}
-use Rattle.meaning.proofs.Gives.{Gives, EachGives, gives-choose}
+use Rattle.meaning.specs.Reader.{Reader, refuse, _>>=_}
+use Rattle.meaning.proofs.Gives.{Gives}
+pub use Rattle.meaning.proofs.Gives.{gives-taken}
 
 pub gives-refuse : {A : Type 0} (P : A → Type 0) (n p : ℕ) → Gives P (λ ts. refuse n p)
 gives-refuse P n p = record { all = λ ts a us e. (let z : _≡_ {A = ℕ} 0 1 = cc in absurd (omega arith)) }
@@ -15,11 +13,6 @@ gives-refuse P n p = record { all = λ ts a us e. (let z : _≡_ {A = ℕ} 0 1 =
 pub gives-either : {A : Type 0} (P : A → Type 0) (c : Bool) (m k : Reader A) → Gives P m → Gives P k → Gives P (λ ts. elim c [ true ↦ m ts | false ↦ k ts ])
 gives-either P true m k f g = f
 gives-either P false m k f g = g
-
--- a choice by a token that has been taken
-pub gives-taken : {A : Type 0} (P : A → Type 0) (xs : List (String × (ℕ → Reader A))) → EachGives P xs → (t : Tok) → Gives P (oneOf xs t)
-unfolding choose any after _>>=_
-gives-taken P xs h t = record { all = λ ts. gives-choose P xs h .all (tok t ts) }
 
 infixr 5 _also_
 -- the entries of a choice, one after the other

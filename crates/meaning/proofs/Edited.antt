@@ -9,8 +9,8 @@ use mathlib.Core.List.{List, [], _∷_, _++_}
 use lib.ListN.{length, drop}
 use lib.Seq.{drop-drop}
 use Rattle.tokens.specs.Written.{bytes, starts}
-use Rattle.tokens.specs.Bytes.{between, digit, letter, wordy}
-use Rattle.tokens.specs.Tokens.{Tok, Toks, tok, plain, run, lex, toks}
+use Rattle.tokens.specs.Bytes.{wordy}
+use Rattle.tokens.specs.Tokens.{Toks, tok, plain, run, lex, toks}
 use Rattle.meaning.specs.Reader.{isWord}
 use Rattle.meaning.specs.Document.{over, patterns}
 use Rattle.meaning.specs.Meaning.{given, Meaning, meaning}
@@ -21,6 +21,7 @@ use Rattle.meaning.proofs.Alike.{AtBlock, Border}
 use Rattle.meaning.proofs.Braces.{shut, behind-brace}
 use Rattle.meaning.proofs.SameTokens.{Stands, stands-on, stands-there, stands-token, behind-matching, word-run, same-front, SameToEnd, same-back}
 use Rattle.meaning.proofs.AlikePatterns.{Opens, agree}
+use Rattle.meaning.proofs.AlikeStatements.{word-pattern}
 
 -- ---- the block's bytes
 
@@ -38,10 +39,6 @@ starts-run (b ∷ s) e c = by (wordy b) e
     by true e = let q : b ∷ run s ≡ bytes "Pattern" = e in ap (starts c) q
     by false e = let z : _≡_ {A = ℕ} 0 1 = cc in absurd (omega arith)
 
-pattern-word : (t : Tok) → t .word ≡ bytes "Pattern" → isWord (t .word) ≡ true
-unfolding bytes isWord wordy letter digit between
-pattern-word t e = ap isWord e
-
 module _ (front block back name : List ℕ) (P : PatternBlock (front ++ (block ++ back)) (length front) (length front + length block) name) where
   abbrev text : List ℕ
   text = front ++ (block ++ back)
@@ -55,7 +52,7 @@ module _ (front block back name : List ℕ) (P : PatternBlock (front ++ (block +
   block-run =
       let e : lex plain (P .word .at) (drop (P .word .at) text) ≡ tok (P .word) (tok (P .named) (tok (P .brace) (P .inside))) = stands-there text _ _ stands in
       let d : drop (P .word .at) text ≡ block ++ back = ap (λ (n : ℕ). drop n text) (P .first) ∙ drop-front front (block ++ back) in
-      sym (ap run d) ∙ word-run (P .word .at) _ _ _ e refl (pattern-word (P .word) (P .is-pattern)) ∙ P .is-pattern
+      sym (ap run d) ∙ word-run (P .word .at) _ _ _ e refl (word-pattern (P .word) (P .is-pattern)) ∙ P .is-pattern
 
   -- behind the block its text's back is read
   block-end : shut 1 (P .inside) ≡ lex plain (length front + length block) back

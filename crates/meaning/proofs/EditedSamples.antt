@@ -10,7 +10,8 @@ use Rattle.meaning.specs.Meaning.{Answer, given, refused, Meaning, meani
 use Rattle.meaning.specs.Services.{dot}
 use Rattle.meaning.specs.Open.{everything}
 use Rattle.meaning.specs.Samples.{whole, twoSignals, oneGroup, oneTable, itsWaveforms, oneMacro, listing}
-use Rattle.meaning.specs.Edited.{fromToken, fromBrace, PatternBlock, alone, rowsOf, listedIn, listedOf, listedPatterns, OthersSame}
+use Rattle.meaning.specs.Run.{alone}
+use Rattle.meaning.specs.Edited.{fromToken, fromBrace, PatternBlock, rowsOf, listedIn, listedOf, listedPatterns, OthersSame}
 use Rattle.meaning.proofs.Edited.{one-pattern-edited}
 
 unfoldable pub front : List ℕ

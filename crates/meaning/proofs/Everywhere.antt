@@ -52,7 +52,7 @@ module _ (P : Body → Type 0) where
       Q : Tok × Decl → Type 0
       Q x = P (x .1 .body)
 
-  every-more : (l : Decls) (t : Tok) (d : Decl) → Every P l → P (d .body) → Every P (l ++ (t, d) ∷ [])
+  pub every-more : (l : Decls) (t : Tok) (d : Decl) → Every P l → P (d .body) → Every P (l ++ (t, d) ∷ [])
   unfolding Every
   every-more [] t d h p = (p, tt)
   every-more (x ∷ l) t d h p = (h .0, every-more l t d (h .1) p)

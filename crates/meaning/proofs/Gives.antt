@@ -1,15 +1,18 @@
 -- What a reader's answers have in common: whatever a reader answers, it has P.
-use mathlib.Core.Path.{_≡_, refl, sym, ap, _∙_, subst}
-use Prim.Native.Nat.{ℕ, zero, suc, _+_}
+use mathlib.Core.Path.{_≡_, refl, ap, subst}
+use Prim.Native.Nat.{ℕ, zero, suc, _≤_}
 use native.Mathlib.Omega.{arith}
 use Prim.Native.String.{String}
-use mathlib.Core.Bool.{Bool, true, false, not}
+use mathlib.Core.Bool.{Bool, true, false, _&&_}
 use mathlib.Core.Option.{Option, none, some}
 use mathlib.Core.List.{List, [], _∷_}
+use lib.Dec.{leb}
+use borrow.Author.Tests.{leb-true}
 use Rattle.tokens.specs.Written.{bytes, same}
-use Rattle.tokens.specs.Tokens.{Tok, Toks, left}
+use Rattle.tokens.specs.Tokens.{Tok, Toks, left, tok, stop}
+use Rattle.meaning.specs.Refusals.{badNumber}
 use Rattle.meaning.specs.Reader.{Res, Reader, ok, refuse, after, _>>=_, give, refuseIf, any, ahead, ifAhead, option, oneOf, choose, whileF, while, closed, until}
-use Rattle.meaning.specs.Names.{known}
+use Rattle.meaning.specs.Names.{known, within}
 
 -- an answer of two readers is one of the first, and then one of the second
 pub bind-ok : {A B : Type 0} (m : Reader A) (f : A → Reader B) (ts : Toks) (b : B) (us : Toks) → (m >>= f) ts ≡ ok b us
@@ -35,14 +38,14 @@ unfolding known
 known-ok none n p ts e = let z : _≡_ {A = ℕ} 0 1 = cc in absurd (omega arith)
 known-ok (some x) n p ts {a} e = let q : x ≡ a = cc in ap some q
 
+pub any-ok : (ts : Toks) {t : Tok} {us : Toks} → any ts ≡ ok t us → ts ≡ tok t us
+unfolding any
+any-ok (stop n p) e = let z : _≡_ {A = ℕ} 0 1 = cc in absurd (omega arith)
+any-ok (tok u vs) {t} {us} e = let p : u ≡ t = cc in let q : vs ≡ us = cc in cc
+
 pub bind-go : {A B : Type 0} (m : Reader A) (f : A → Reader B) (ts : Toks) (a : A) (vs : Toks) → m ts ≡ ok a vs → (m >>= f) ts ≡ f a vs
 unfolding _>>=_ after
 bind-go {A} m f ts a vs e = ap (λ (r : Res A). after r f) e
-
--- a test that refuses what is not so has passed
-pub no-not : (b : Bool) → not b ≡ false → b ≡ true
-no-not true e = refl
-no-not false e = let z : _≡_ {A = ℕ} 0 1 = cc in absurd (omega arith)
 
 -- whatever it answers has P
 pub record Gives {A : Type 0} (P : A → Type 0) (m : Reader A) : Type 0 where
@@ -106,10 +109,10 @@ abbrev pub EachGives : {A : Type 0} → (A → Type 0) → List (String × (ℕ 
 EachGives P [] = Unit {0}
 EachGives P (x ∷ xs) = ((p : ℕ) → Gives P (x .1 p)) × EachGives P xs
 
-gives-oneOf : {A : Type 0} (P : A → Type 0) (xs : List (String × (ℕ → Reader A))) → EachGives P xs → (t : Tok) → Gives P (oneOf xs t)
+pub gives-taken : {A : Type 0} (P : A → Type 0) (xs : List (String × (ℕ → Reader A))) → EachGives P xs → (t : Tok) → Gives P (oneOf xs t)
 unfolding oneOf
-gives-oneOf P [] h t = record { all = λ ts a us e. (let z : _≡_ {A = ℕ} 0 1 = cc in absurd (omega arith)) }
-gives-oneOf {A} P (x ∷ xs) h t = record { all = λ ts a us e. by ts a us (gives-oneOf P xs (h .1) t) (same (t .word) (bytes (x .0))) e }
+gives-taken P [] h t = record { all = λ ts a us e. (let z : _≡_ {A = ℕ} 0 1 = cc in absurd (omega arith)) }
+gives-taken {A} P (x ∷ xs) h t = record { all = λ ts a us e. by ts a us (gives-taken P xs (h .1) t) (same (t .word) (bytes (x .0))) e }
   where
     by : (ts : Toks) (a : A) (us : Toks) → Gives P (oneOf xs t) → (c : Bool) → _≡_ {A = Res A} (elim c [ true ↦ x .1 (t .at) ts | false ↦ oneOf xs t ts ]) (ok a us) → P a
     by ts a us k true e = h .0 (t .at) .all ts a us e
@@ -117,4 +120,16 @@ gives-oneOf {A} P (x ∷ xs) h t = record { all = λ ts a us e. by ts a us (give
 
 pub gives-choose : {A : Type 0} (P : A → Type 0) (xs : List (String × (ℕ → Reader A))) → EachGives P xs → Gives P (choose xs)
 unfolding choose
-gives-choose P xs h = gives-after P any (oneOf xs) (gives-oneOf P xs h)
+gives-choose P xs h = gives-after P any (oneOf xs) (gives-taken P xs h)
+
+-- a number lies within its bound
+pub gives-within : (a b : ℕ) (o : Option ℕ) (p : ℕ) → Gives (λ n. n ≤ b) (within a b o p)
+unfolding within
+gives-within a b none p = record { all = λ ts n us e. (let z : _≡_ {A = ℕ} 0 1 = cc in absurd (omega arith)) }
+gives-within a b (some m) p = record { all = λ ts n us e. by ts n us (leb a m) (leb m b) refl e }
+  where
+    by : (ts : Toks) (n : ℕ) (us : Toks) (x y : Bool) → leb m b ≡ y
+        → _≡_ {A = Res ℕ} (elim (x && y) [ true ↦ ok m ts | false ↦ refuse badNumber p ]) (ok n us) → n ≤ b
+    by ts n us true true h e = let q : m ≡ n = cc in omega (arith, leb-true m b h)
+    by ts n us true false h e = let z : _≡_ {A = ℕ} 0 1 = cc in absurd (omega arith)
+    by ts n us false y h e = let z : _≡_ {A = ℕ} 0 1 = cc in absurd (omega arith)

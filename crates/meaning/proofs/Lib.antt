@@ -1,3 +1,6 @@
+pub mod Options
+pub mod Lists
+pub mod Ending
 pub mod Samples
 mod LabelSamples
 pub mod Determined
@@ -17,6 +20,8 @@ pub mod Visits
 pub mod Windows
 pub mod Charts
 pub mod ChartSamples
+pub mod EdgesSamples
+pub mod Signs
 pub mod Marks
 pub mod Accepted
 pub mod Wider

@@ -1,7 +1,6 @@
 -- What each listed pattern gives: together they are the run, and each is what a window shows at its first cycle.
 use mathlib.Core.Path.{_≡_, refl, sym, ap, ap₂, _∙_, subst}
 use Prim.Native.Nat.{ℕ, suc, _+_}
-use native.Mathlib.Omega.{arith}
 use mathlib.Core.Option.{Option, none, some}
 use mathlib.Core.List.{List, [], _∷_, _++_, append-nil}
 use lib.ListN.{length, take, drop, length-append}
@@ -11,17 +10,13 @@ use Rattle.meaning.specs.Refusals.{notDefined}
 use Rattle.meaning.specs.Names.{find}
 use Rattle.meaning.specs.Body.{listed, entered, Body, done, inner}
 use Rattle.meaning.specs.Statements.{Decl, Decls}
-use Rattle.meaning.specs.Run.{Cycle, cycles, follow, entering, playing, play, shiftOf, start, cyclesOf}
+use Rattle.meaning.specs.Run.{Cycle, cycles, follow, entering, playing, play, shiftOf, start, cyclesOf, alone}
 use Rattle.meaning.specs.Meaning.{Answer, given, refused, answering, runOf, Meaning, meaning, firsts}
 use Rattle.meaning.specs.Services.{rows, windowRows}
-use Rattle.meaning.specs.Edited.{ListedRows, alone, rowsOf, listedIn, listedOf, listedPatterns, joinedRows, joinedCycles}
+use Rattle.meaning.specs.Edited.{ListedRows, rowsOf, listedIn, listedOf, listedPatterns, joinedRows, joinedCycles}
 use Rattle.meaning.proofs.Rows.{rows-are-cycles}
 use Rattle.meaning.proofs.Windows.{rows-++, window-rows}
-use Rattle.meaning.proofs.Accepted.{accepted}
-
--- a refusal is no run
-never : {A B : Type 0} {n p : ℕ} {a : A} → _≡_ {A = Answer A} (refused n p) (given a) → B
-never e = let z : _≡_ {A = ℕ} 0 1 = cc in absurd (omega arith)
+use Rattle.meaning.proofs.Accepted.{accepted, never}
 
 -- ---- cycles that are those of listed patterns, one after the other
 
@@ -57,7 +52,7 @@ plays-one mark (y ∷ before) x after cs h =
 -- ---- those of the run are
 
 -- a listed pattern starts anew and leaves no trace, so that its cycles are those it has alone
-cycles-listed : (n : ℕ) (b r : Body) → cyclesOf n (inner (entered listed 0 []) b r) ≡ cyclesOf n (alone b) ++ cyclesOf n r
+pub cycles-listed : (n : ℕ) (b r : Body) → cyclesOf n (inner (entered listed 0 []) b r) ≡ cyclesOf n (alone b) ++ cyclesOf n r
 unfolding cyclesOf alone play playing entering follow shiftOf
 cycles-listed n b r = ap (λ (l : List Cycle). l ++ play 0 r (start n) .1) (sym (append-nil (entering listed [] (play 0 b) (start n) .1)))
 
@@ -95,7 +90,7 @@ shares mark n ps (t ∷ l) r e = by (find ps (t .word)) e (shares mark n ps l)
 
 -- ---- and so of every accepted text
 
-length-firsts : {A : Type 0} (l : List (Tok × A)) → length (firsts l) ≡ length l
+pub length-firsts : {A : Type 0} (l : List (Tok × A)) → length (firsts l) ≡ length l
 unfolding firsts
 length-firsts [] = refl
 length-firsts (x ∷ l) = ap suc (length-firsts l)

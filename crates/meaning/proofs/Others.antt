@@ -12,7 +12,8 @@ use Rattle.tokens.specs.Tokens.{Tok}
 use Rattle.meaning.specs.Names.{find}
 use Rattle.meaning.specs.Body.{listed, entered, Body, done, inner}
 use Rattle.meaning.specs.Statements.{Decl, Decls}
-use Rattle.meaning.specs.Edited.{alone, rowsOf, listedIn, OthersSame}
+use Rattle.meaning.specs.Run.{alone}
+use Rattle.meaning.specs.Edited.{rowsOf, listedIn, OthersSame}
 use Rattle.meaning.proofs.Unplaced.{Twins, unplaced, twins-cycles, twins-rows}
 
 -- the same names in the same order, and the same bodies but for places, save under one name
@@ -30,12 +31,12 @@ SameWords [] (u ∷ us) = ⊥
 SameWords (t ∷ ts) [] = ⊥
 SameWords (t ∷ ts) (u ∷ us) = (t .word ≡ u .word) × SameWords ts us
 
-pub same-is : (s t : List ℕ) → same s t ≡ true → s ≡ t
+pub same-eq : (s t : List ℕ) → same s t ≡ true → s ≡ t
 unfolding same
-same-is [] [] e = refl
-same-is [] (b ∷ t) e = let z : _≡_ {A = ℕ} 0 1 = cc in absurd (omega arith)
-same-is (a ∷ s) [] e = let z : _≡_ {A = ℕ} 0 1 = cc in absurd (omega arith)
-same-is (a ∷ s) (b ∷ t) e = by (eqb a b) refl e (same-is s t)
+same-eq [] [] e = refl
+same-eq [] (b ∷ t) e = let z : _≡_ {A = ℕ} 0 1 = cc in absurd (omega arith)
+same-eq (a ∷ s) [] e = let z : _≡_ {A = ℕ} 0 1 = cc in absurd (omega arith)
+same-eq (a ∷ s) (b ∷ t) e = by (eqb a b) refl e (same-eq s t)
   where
     by : (x : Bool) → eqb a b ≡ x → (x && same s t) ≡ true → (same s t ≡ true → s ≡ t) → _≡_ {A = List ℕ} (a ∷ s) (b ∷ t)
     by true q e ih = let x = ih e in let y = eqb-true a b q in cc
@@ -57,7 +58,7 @@ found name (x ∷ ps) (y ∷ qs) h w = rw (← h .0) (by (same (x .0 .word) w) r
   where
     by : (c : Bool) → same (x .0 .word) w ≡ c → Found name w (find ps w) (find qs w)
         → Found name w (elim c [ true ↦ some (x .1) | false ↦ find ps w ]) (elim c [ true ↦ some (y .1) | false ↦ find qs w ])
-    by true e ih = λ z. h .1 (λ q. z (sym (same-is (x .0 .word) w e) ∙ q))
+    by true e ih = λ z. h .1 (λ q. z (sym (same-eq (x .0 .word) w e) ∙ q))
     by false e ih = ih
 
 twins-alone : (b c : Body) → Twins b c → Twins (alone b) (alone c)

@@ -15,8 +15,8 @@ use Rattle.meaning.specs.Timing.{waveChar, allChars}
 use Rattle.meaning.specs.Body.{Assigns, mark, Kind, macro, procedure, Body, marked}
 use Rattle.meaning.specs.Data.{charsOf, stretched, repeated, piece, part, dataRead, paired, assign, assigns}
 use Rattle.meaning.specs.Statements.{Decls, Env, Head, ends, vecs, sets, loops, shifts, uses, used, chosen, looping, shiftHead, labelHead, head, statements}
-use Rattle.meaning.proofs.Gives.{Gives, gives-bind, gives-after, gives-give, gives-if, gives-choose, gives-closed, gives-until}
-use Rattle.meaning.proofs.Choices.{gives-either, gives-taken, _also_}
+use Rattle.meaning.proofs.Gives.{Gives, gives-bind, gives-after, gives-give, gives-if, gives-choose, gives-closed, gives-until, gives-taken}
+use Rattle.meaning.proofs.Choices.{gives-either, _also_}
 use Rattle.meaning.proofs.Turns.{Unmarked, Plain, Good}
 use Rattle.meaning.proofs.Statements.{Kept, Deeper, gives-statements}
 use Rattle.meaning.proofs.Everywhere.{Every, Known, every-name}
@@ -37,7 +37,7 @@ free-stretched zero cs h = tt
 free-stretched (suc n) cs h = free-++ cs (stretched n cs) h (free-stretched n cs h)
 
 -- a letter or a digit is no `#`
-free-char : (c : ℕ) → waveChar c ≡ true → eqb c mark ≡ false
+pub free-char : (c : ℕ) → waveChar c ≡ true → eqb c mark ≡ false
 unfolding waveChar letter digit between
 free-char c h = by (eqb c mark) refl
   where

@@ -100,6 +100,18 @@ unfolding puts
 wide-puts n [] s w = w
 wide-puts n (x ∷ xs) s w = wide-puts n xs (put x s) (wide-put n x s w)
 
+pub puts-long : (a : Assigns) (s : State) → length (puts a s .pins) ≡ length (s .pins)
+puts-long a s = wide-puts (length (s .pins)) a s refl
+
+pub puts-table : (a : Assigns) (s : State) → puts a s .table ≡ s .table
+unfolding puts put
+puts-table [] s = refl
+puts-table (x ∷ a) s = puts-table a (put x s) ∙ by (eqb (x .1) hash) refl
+  where
+    by : (w : Bool) → eqb (x .1) hash ≡ w → put x s .table ≡ s .table
+    by true e = rw (e, put)
+    by false e = rw (e, put)
+
 wide-changed : (n : ℕ) (x : Setting) (s : State) → Wide n s → Wide n (changed x s)
 unfolding changed
 wide-changed n (assigning a) s w = wide-puts n a s w

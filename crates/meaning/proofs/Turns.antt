@@ -5,6 +5,7 @@ use mathlib.Core.Path.{_≡_, refl, sym, ap, ap₂, _∙_, subst}
 use Prim.Native.Nat.{ℕ, zero, suc, _<_, min}
 use mathlib.Core.Bool.{Bool, true, false}
 use mathlib.Core.Option.{Option, none, some}
+unfoldable pub use mathlib.Core.Option.{orElse}
 use mathlib.Core.List.{List, [], _∷_, _++_}
 use native.Mathlib.Omega.{arith}
 use native.Mathlib.Decide.{ℕ-discrete}
@@ -12,9 +13,11 @@ use lib.ListN.{length, set, getD, length-set}
 use lib.Seq.{getD-set-same, getD-set-other, ext-getD}
 use lib.Dec.{eqb}
 use Rattle.meaning.specs.Timing.{Tables}
-use Rattle.meaning.specs.Body.{Assigns, Args, mark, Setting, assigning, choosing, macro, procedure, listed, Way, looped, shifted, entered, Body, done, vec, set′, inner, marked, argOf}
+use Rattle.meaning.specs.Body.{inShift, Assigns, Args, mark, Setting, assigning, choosing, macro, procedure, listed, Way, looped, shifted, entered, Body, done, vec, set′, inner, marked, argOf}
 use Rattle.meaning.specs.Run.{shiftOf, State, Cycle, Played, next, taken, put, puts, changed, follow, again, entering, playing, play}
 use Rattle.meaning.specs.Meaning.{playable, firstFailing}
+use Rattle.meaning.proofs.Options.{or-same, or-none, or-both}
+use Rattle.meaning.proofs.Ending as ending
 
 -- ---- characters set, whatever stood there
 
@@ -164,6 +167,13 @@ PlainWay (looped n) P = P
 PlainWay shifted P = ⊥
 PlainWay (entered k t a) P = Unit {0}
 
+-- it has no Shift, so that no `#` stands in one
+pub plain-way : (w : Way) (P : Type 0) (l : List ℕ) → PlainWay w P → inShift w l ≡ []
+unfolding inShift
+plain-way (looped n) P l h = refl
+plain-way shifted P l h = absurd h
+plain-way (entered k t a) P l h = refl
+
 -- a Loop's body has P
 abbrev pub IfLoop : Way → Type 0 → Type 0
 IfLoop (looped n) P = P
@@ -283,21 +293,6 @@ playTwo t b = play t (shortened b)
 
 -- ---- the first failing cycle
 
--- the first of two places
-unfoldable pub orElse : Option ℕ → Option ℕ → Option ℕ
-orElse none b = b
-orElse (some a) b = some a
-
-or-same : (x : Option ℕ) → orElse x x ≡ x
-unfolding orElse
-or-same none = refl
-or-same (some a) = refl
-
-or-none : (x : Option ℕ) → orElse x none ≡ x
-unfolding orElse
-or-none none = refl
-or-none (some a) = refl
-
 module _ (tabs : Tables) where
   pub fails-++ : (a b : List Cycle) → firstFailing tabs (a ++ b) ≡ orElse (firstFailing tabs a) (firstFailing tabs b)
   unfolding firstFailing orElse
@@ -310,39 +305,23 @@ module _ (tabs : Tables) where
       by true h = h
       by false h = refl
 
+  pub sound-parts : (a b : List Cycle) → firstFailing tabs (a ++ b) ≡ none → (firstFailing tabs a ≡ none) × (firstFailing tabs b ≡ none)
+  sound-parts a b h = or-both (firstFailing tabs a) (firstFailing tabs b) (sym (fails-++ a b) ∙ h)
+
   pub fails-copies : (n : ℕ) (l : List Cycle) → firstFailing tabs (copies (suc n) l) ≡ firstFailing tabs l
   unfolding copies firstFailing
   fails-copies zero l = fails-++ l [] ∙ or-none _
   fails-copies (suc n) l = fails-++ l (copies (suc n) l) ∙ ap (orElse (firstFailing tabs l)) (fails-copies n l) ∙ or-same _
 
+  fails-joined : (a b c d : List Cycle) → firstFailing tabs a ≡ firstFailing tabs b → firstFailing tabs c ≡ firstFailing tabs d → firstFailing tabs (a ++ c) ≡ firstFailing tabs (b ++ d)
+  fails-joined a b c d h k = fails-++ a c ∙ ap₂ orElse h k ∙ sym (fails-++ b d)
+
   -- the same state, and the same first failing cycle
   abbrev Alike : Played → Played → Type 0
-  Alike x y = (x .0 ≡ y .0) × (firstFailing tabs (x .1) ≡ firstFailing tabs (y .1))
+  Alike = ending.Alike (firstFailing tabs) fails-joined
 
   alike-trans : (x y z : Played) → Alike x y → Alike y z → Alike x z
   alike-trans x y z h k = (h .0 ∙ k .0, h .1 ∙ k .1)
-
-  alike-follow : (x y : Played) (f g : State → Played) → Alike x y → ((s : State) → Alike (f s) (g s)) → Alike (follow x f) (follow y g)
-  unfolding follow
-  alike-follow x y f g h k = (
-    k (x .0) .0 ∙ ap (λ (s : State). g s .0) (h .0),
-    fails-++ (x .1) (f (x .0) .1)
-        ∙ ap₂ orElse (h .1) (k (x .0) .1 ∙ ap (λ (s : State). firstFailing tabs (g s .1)) (h .0))
-        ∙ sym (fails-++ (y .1) (g (y .0) .1)),
-  )
-
-  alike-again : (n : ℕ) (f g : State → Played) → ((s : State) → Alike (f s) (g s)) → (s : State) → Alike (again n f s) (again n g s)
-  unfolding again
-  alike-again zero f g h s = (refl, refl)
-  alike-again (suc n) f g h s = alike-follow (f s) (g s) (again n f) (again n g) (h s) (alike-again n f g h)
-
-  alike-playing : (t : ℕ) (w : Way) (f g : State → Played) → ((s : State) → Alike (f s) (g s)) → (s : State) → Alike (playing t w f s) (playing t w g s)
-  unfolding playing entering
-  alike-playing t (looped n) f g h s = alike-again n f g h s
-  alike-playing t shifted f g h s = alike-again t f g h s
-  alike-playing t (entered macro u a) f g h s = (ap (λ (x : State). record { pins = x .pins; table = x .table; args = s .args }) (h _ .0), h _ .1)
-  alike-playing t (entered procedure u a) f g h s = (refl, h _ .1)
-  alike-playing t (entered listed u a) f g h s = (refl, h _ .1)
 
   alike-twice : (f : State → Played) → ((s : State) → f (f s .0) .0 ≡ f s .0) → (n : ℕ) (s : State) → Alike (again n f s) (again (twice n) f s)
   unfolding twice
@@ -374,12 +353,12 @@ module _ (tabs : Tables) where
   alike-two : (b : Body) → Good b → (t : ℕ) (s : State) → Alike (play t b s) (play t (shortened b) s)
   unfolding Good play shortened
   alike-two done h t s = (refl, refl)
-  alike-two (vec p a r) h t s = alike-follow _ _ (play t r) _ (refl, refl) (alike-two r h t)
+  alike-two (vec p a r) h t s = ending.alike-follow (firstFailing tabs) fails-joined _ _ (play t r) _ (refl, refl) (alike-two r h t)
   alike-two (set′ x r) h t s = alike-two r h t (changed x s)
   alike-two (inner w b r) h t s =
       let u = shiftOf t (fewer w) in
-      alike-follow _ _ (play t r) (play t (shortened r))
-      (alike-trans _ (playing t (fewer w) (play u b) s) _ (alike-fewer t w b (h .0) s) (alike-playing t (fewer w) _ _ (alike-two b (h .1) u) s))
+      ending.alike-follow (firstFailing tabs) fails-joined _ _ (play t r) (play t (shortened r))
+      (alike-trans _ (playing t (fewer w) (play u b) s) _ (alike-fewer t w b (h .0) s) (ending.alike-playing (firstFailing tabs) fails-joined t (fewer w) _ _ (alike-two b (h .1) u) s))
       (alike-two r (h .2) t)
 
   -- THE LAW: at most two turns of each Loop find the first failing cycle

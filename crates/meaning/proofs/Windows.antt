@@ -1,8 +1,9 @@
 -- Windows laid end to end from cycle 0, whatever their sizes, join to the run's rows as far as they reach, and never to one past the end.
 use mathlib.Core.Path.{_≡_, refl, sym, ap, ap₂, _∙_, subst}
-use Prim.Native.Nat.{ℕ, zero, suc, _+_, _-_, _*_, _≤_, min}
+use Prim.Native.Nat.{ℕ, zero, suc, _+_, _-_, _*_, _≤_, min, _<_}
 use native.Mathlib.Numerals.{unary-clauses}
 use native.Mathlib.Omega.{arith}
+use native.Mathlib.Nat.{suc-mul, mul-le-mul-right}
 use mathlib.Core.Bool.{Bool, true, false}
 use mathlib.Core.List.{List, [], _∷_, _++_, append-assoc}
 use lib.ListN.{length, take, drop, length-take, length-drop}
@@ -21,12 +22,16 @@ rows-++ mark [] ds = refl
 rows-++ mark (c ∷ cs) ds =
     ap (λ (l : List ℕ). row mark c ++ l) (rows-++ mark cs ds) ∙ sym (append-assoc (row mark c) (rows mark cs) (rows mark ds))
 
-wide-take : (n k : ℕ) (cs : List Cycle) → AllWide n cs → AllWide n (take k cs)
+-- row k of those due lies within
+pub row-room : (k due w long : ℕ) → k < due → due * w ≤ long → k * w + w ≤ long
+row-room k due w long h g = omega (arith, mul-le-mul-right {m = suc k} {n = due} w h, suc-mul k w)
+
+pub wide-take : (n k : ℕ) (cs : List Cycle) → AllWide n cs → AllWide n (take k cs)
 wide-take n zero cs h = tt
 wide-take n (suc k) [] h = tt
 wide-take n (suc k) (c ∷ cs) h = (h .0, wide-take n k cs (h .1))
 
-wide-drop : (n k : ℕ) (cs : List Cycle) → AllWide n cs → AllWide n (drop k cs)
+pub wide-drop : (n k : ℕ) (cs : List Cycle) → AllWide n cs → AllWide n (drop k cs)
 wide-drop n zero cs h = h
 wide-drop n (suc k) [] h = tt
 wide-drop n (suc k) (c ∷ cs) h = wide-drop n k cs (h .1)

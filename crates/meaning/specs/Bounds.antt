@@ -39,7 +39,7 @@ repeatMost = 4_096
 abbrev pub loopMost : ℕ
 loopMost = 16_777_215
 
--- a Period from 1, an event's time from 0, in ps
+-- a Period from 1, an event's time on both sides of the cycle's start, in ps
 abbrev pub timeMost : ℕ
 timeMost = 1_000_000_000
 

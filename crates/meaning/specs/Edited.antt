@@ -9,10 +9,10 @@ use Rattle.tokens.specs.Written.{bytes, same}
 use Rattle.tokens.specs.Tokens.{Tok, Toks, stop, tok, toks}
 use Rattle.meaning.specs.Reader.{Res, ok, refuse, isWord}
 use Rattle.meaning.specs.Names.{find}
-use Rattle.meaning.specs.Body.{listed, entered, Body, done, inner}
+use Rattle.meaning.specs.Body.{Body}
 use Rattle.meaning.specs.Statements.{Decls}
 use Rattle.meaning.specs.Document.{Read, document}
-use Rattle.meaning.specs.Run.{cycles, cyclesOf}
+use Rattle.meaning.specs.Run.{cycles, cyclesOf, alone}
 use Rattle.meaning.specs.Services.{rows}
 
 -- ---- a Pattern block in a text
@@ -62,10 +62,6 @@ pub record ListedRows : Type 0 where
   pub name : List ℕ
   pub cycles : ℕ
   pub rows : List ℕ
-
--- a run of one pattern
-unfoldable pub alone : Body → Body
-alone b = inner (entered listed 0 []) b done
 
 unfoldable pub rowsOf : ℕ → ℕ → List ℕ → Body → ListedRows
 rowsOf mark n w b = record { name = w; cycles = cycles 0 (alone b); rows = rows mark (cyclesOf n (alone b)) }

@@ -12,6 +12,7 @@ pub mod Data
 pub mod Statements
 pub mod Document
 pub mod Run
+pub mod Edges
 pub mod Meaning
 pub mod Services
 pub mod Charts

@@ -1,4 +1,4 @@
--- What a text means: refused with number and place, or its signals, tables and run. Refusals 1, 2, 3; 4 to 14; 15; 16; 17.
+-- What a text means: refused with number and place, or its signals, tables and run. Refusals 1, 2, 3; 4 to 14; 15; 16; 17; 25.
 use Prim.Native.Nat.{ℕ, zero, suc}
 use mathlib.Core.Bool.{Bool, true, false, _&&_, _||_}
 use mathlib.Core.Option.{Option, none, some}
@@ -6,15 +6,17 @@ use mathlib.Core.List.{List, [], _∷_}
 use lib.ListN.{length}
 use lib.Dec.{leb, eqb}
 use Rattle.tokens.specs.Tokens.{Tok, toks, faultOf}
-use Rattle.meaning.specs.Refusals.{notDefined, tooLarge, notPlayable}
+use Rattle.meaning.specs.Refusals.{notDefined, tooLarge, notPlayable, acrossEdge}
 use Rattle.meaning.specs.Bounds.{signalsMost, groupsMost, sizeMost, cyclesMost}
 use Rattle.meaning.specs.Reader.{Res, ok, refuse}
 use Rattle.meaning.specs.Names.{find}
 use Rattle.meaning.specs.Timing.{Wave, Tables}
+unfoldable pub use Rattle.meaning.specs.Timing.{tableAt}
 use Rattle.meaning.specs.Body.{listed, entered, Body, done, inner}
 use Rattle.meaning.specs.Statements.{Decls}
 use Rattle.meaning.specs.Document.{Read, documentUpTo}
 use Rattle.meaning.specs.Run.{Cycle, unassigned, size, cycles, cyclesOf}
+use Rattle.meaning.specs.Edges.{firstInRun}
 
 pub data Answer (A : Type 0) : Type 0 where
   given : A → Answer A
@@ -46,12 +48,6 @@ unfoldable pub allWaves : ℕ → List ℕ → List Wave → Bool
 allWaves s [] ws = true
 allWaves s (c ∷ cs) ws = (eqb c unassigned || hasWave s c ws) && allWaves (suc s) cs ws
 
--- the waveforms of the table of a number
-unfoldable pub tableAt : Tables → ℕ → List Wave
-tableAt [] k = []
-tableAt (x ∷ xs) zero = x .1 .waves
-tableAt (x ∷ xs) (suc k) = tableAt xs k
-
 unfoldable pub playable : Tables → Cycle → Bool
 playable tabs c = elim (c .table) [ none ↦ false | some k ↦ allWaves 0 (c .pins) (tableAt tabs k) ]
 
@@ -76,13 +72,20 @@ firsts (x ∷ xs) = x .0 ∷ firsts xs
 unfoldable pub fitting : Body → Bool
 fitting r = leb (size r) sizeMost && leb (cycles 0 r) cyclesMost
 
+-- 25: behind all others
+unfoldable pub ordered : Meaning → Answer Meaning
+ordered m = elim (firstInRun (m .tables) (length (m .signals)) (m .run)) [ some p ↦ refused acrossEdge p | none ↦ given m ]
+
+abbrev pub meaningOf : Read → Body → Meaning
+meaningOf d r = record { signals = firsts (d .signals); tables = d .tables; listed = length (d .listed); run = r }
+
 unfoldable pub judged : Read → Body → Answer Meaning
 judged d r =
     elim (fitting r) [
       | false ↦ refused tooLarge 0
       | true ↦ elim (firstFailing (d .tables) (cyclesOf (length (d .signals)) r)) [
         | some p ↦ refused notPlayable p
-        | none ↦ given (record { signals = firsts (d .signals); tables = d .tables; listed = length (d .listed); run = r })
+        | none ↦ ordered (meaningOf d r)
       ]
     ]
 

@@ -60,3 +60,7 @@ noSuch = 18
 -- buffer too short for the rows or events due
 abbrev pub noRoom : ℕ
 noRoom = 19
+
+-- a cycle's last event does not come before the next cycle's first (request 8)
+abbrev pub acrossEdge : ℕ
+acrossEdge = 25

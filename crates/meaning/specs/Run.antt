@@ -131,6 +131,10 @@ start n = record { pins = replicate n unassigned; table = none; args = [] }
 unfoldable pub cyclesOf : ℕ → Body → List Cycle
 cyclesOf n b = play 0 b (start n) .1
 
+-- a run of one pattern
+unfoldable pub alone : Body → Body
+alone b = inner (entered listed 0 []) b done
+
 -- ---- visits at cycle n: a statement whose cycles all lie before n costs its size; the one that holds n its size and the visits in its
 -- body at the remaining place, within a turn
 unfoldable pub visits : ℕ → Body → ℕ → ℕ

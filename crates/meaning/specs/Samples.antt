@@ -63,7 +63,7 @@ unfolding whole twoSignals oneGroup oneListed
 both m =
     whole twoSignals oneGroup
     "Timing { WaveformTable t0 { Period '100ns'; Waveforms { ab { 01 { '0ns' D/U; } } } }"
-    " WaveformTable t1 { Period '1ps'; Waveforms { ab { 01 { '0ns' D; '1ps' U/D; } } } } }"
+    " WaveformTable t1 { Period '2ps'; Waveforms { ab { 01 { '0ns' D; '1ps' U/D; } } } } }"
     m oneListed
 
 -- document 01's text
@@ -305,6 +305,34 @@ refusals =
     ∷ (windows worked 6 5 10 3, refused 12 0)
     -- but the text's refusals come first
     ∷ (windows (playing ("Pattern p { V { D = 1; } }" ∷ [])) 0 0 57 0, refused 6 328)
+    ∷ []
+
+-- times with a sign (request 8): what Waveform tells, in 64 bits, and where they are refused
+unfoldable pub signs : List Sample
+unfolding bytes lines timed
+signs =
+    -- from before the cycle's start to behind it, -0 being 0; -1 is the largest of 64 bits
+    (waves (timed "Timing { WaveformTable t0 { Period '100ns'; Waveforms {" " A { 0 { '-5ns' D; '-1ps' U; '-0ns' Z; '2ns' P; } } } } }" ("Pattern p { }" ∷ [])) 0 0 48 4, given (4 ∷ 18446744073709546616 ∷ 18446744073709551615 ∷ 0 ∷ 2000 ∷ bytes "DUZP"))
+    -- the earliest and the latest
+    ∷ (waves (timed "Timing { WaveformTable t0 { Period '100ns'; Waveforms {" " A { 0 { '-1000000ns' D; '-999999999ps' U; '1000000000ps' Z; } } } } }" ("Pattern p { }" ∷ [])) 0 0 48 3, given (3 ∷ 18446744072709551616 ∷ 18446744072709551617 ∷ 1000000000 ∷ bytes "DUZ"))
+    -- the sign is a token of its own
+    ∷ (waves (timed "Timing { WaveformTable t0 { Period '100ns'; Waveforms {" " A { 0 { '- 5ns' D; ' -/* */4ns ' U; } } } } }" ("Pattern p { }" ∷ [])) 0 0 48 2, given (2 ∷ 18446744073709546616 ∷ 18446744073709547616 ∷ bytes "DU"))
+    -- each category rises by itself
+    ∷ (waves (timed "Timing { WaveformTable t0 { Period '100ns'; Waveforms {" " A { 0 { '-1ns' D; '-2ns' L; '-1ps' H; } } } } }" ("Pattern p { }" ∷ [])) 0 0 48 3, given (3 ∷ 18446744073709550616 ∷ 18446744073709549616 ∷ 18446744073709551615 ∷ bytes "DLH"))
+    -- below the earliest
+    ∷ (checks (timed "Timing { WaveformTable t0 { Period '100ns'; Waveforms {" " A { 0 { '-1000000001ps' D; } } } } }" []), refused 9 131)
+    -- no time behind the sign
+    ∷ (checks (timed "Timing { WaveformTable t0 { Period '100ns'; Waveforms {" " A { 0 { '-5' D; } } } } }" []), refused 9 131)
+    -- another sign, a second one, one behind the word, and one alone
+    ∷ (checks (timed "Timing { WaveformTable t0 { Period '100ns'; Waveforms {" " A { 0 { '+5ns' D; } } } } }" []), refused 4 130)
+    ∷ (checks (timed "Timing { WaveformTable t0 { Period '100ns'; Waveforms {" " A { 0 { '--5ns' D; } } } } }" []), refused 4 131)
+    ∷ (checks (timed "Timing { WaveformTable t0 { Period '100ns'; Waveforms {" " A { 0 { '5ns-' D; } } } } }" []), refused 4 133)
+    ∷ (checks (timed "Timing { WaveformTable t0 { Period '100ns'; Waveforms {" " A { 0 { '-' D; } } } } }" []), refused 4 131)
+    -- -0 does not rise behind 0, nor -2 behind -1
+    ∷ (checks (timed "Timing { WaveformTable t0 { Period '100ns'; Waveforms {" " A { 0 { '0ns' D; '-0ns' U; } } } } }" []), refused 11 146)
+    ∷ (checks (timed "Timing { WaveformTable t0 { Period '100ns'; Waveforms {" " A { 0 { '-1ns' D; '-2ns' U; } } } } }" []), refused 11 147)
+    -- a Period has no sign
+    ∷ (checks (timed "Timing { WaveformTable t0 { Period '-100ns'; Waveforms {" " } } }" []), refused 4 100)
     ∷ []
 
 unfoldable pub samples : List Sample

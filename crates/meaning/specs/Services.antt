@@ -8,7 +8,8 @@ use lib.Dec.{leb, eqb}
 use Rattle.tokens.specs.Bytes.{letter, digit}
 use Rattle.tokens.specs.Tokens.{Tok}
 use Rattle.meaning.specs.Refusals.{badData, noSuch, noRoom}
-use Rattle.meaning.specs.Timing.{Event, Wave, Tables}
+use Rattle.meaning.specs.Timing.{Event, Signed, plus, minus, uncounted}
+unfoldable pub use Rattle.meaning.specs.Timing.{waveOf}
 use Rattle.meaning.specs.Run.{Cycle, unassigned, size, cycles, cyclesOf, visits}
 use Rattle.meaning.specs.Meaning.{Answer, given, refused, answering, tableAt, Meaning, meaning, firsts}
 
@@ -123,13 +124,17 @@ window text first wanted mark buffer = answering (meaning text) λ m. windowOf m
 
 -- ---- Waveform: the events of a table, signal and character
 
-unfoldable pub waveOf : ℕ → ℕ → List Wave → Option (List Event)
-waveOf s c [] = none
-waveOf s c (w ∷ ws) = elim (eqb (w .signal) s && eqb (w .char) c) [ true ↦ some (w .events) | false ↦ waveOf s c ws ]
+abbrev pub wordRange : ℕ
+wordRange = 18_446_744_073_709_551_616
+
+-- the 64 bits of a signed number of ps, negative ones in two's complement
+unfoldable pub bitsOf : Signed → ℕ
+bitsOf (plus n) = n
+bitsOf (minus n) = wordRange - n
 
 unfoldable pub timesOf : List Event → List ℕ
 timesOf [] = []
-timesOf (e ∷ es) = e .time ∷ timesOf es
+timesOf (e ∷ es) = bitsOf (uncounted (e .time)) ∷ timesOf es
 
 unfoldable pub lettersOf : List Event → List ℕ
 lettersOf [] = []

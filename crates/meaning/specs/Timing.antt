@@ -12,10 +12,11 @@ use Rattle.tokens.specs.Tokens.{Tok}
 use Rattle.meaning.specs.Refusals.{tooMany, badWaveform, badData}
 use Rattle.meaning.specs.Bounds.{tablesMost, entryMost, timeMost}
 use Rattle.meaning.specs.Lists.{has, repeats}
-use Rattle.meaning.specs.Reader.{Reader, ok, refuse, _>>=_, _>>_, give, refuseIf, any, ahead, due, word, while, until}
+use Rattle.meaning.specs.Reader.{Reader, ok, refuse, _>>=_, _>>_, give, refuseIf, any, ahead, due, word, ifAhead, while, until}
 use Rattle.meaning.specs.Names.{newName, oldName, known, within}
 use Rattle.meaning.specs.Signals.{Names}
 
+-- its time is counted from the earliest that there may be (`counted`)
 pub record Event : Type 0 where
   pub time : ℕ
   pub letter : ℕ
@@ -59,6 +60,39 @@ quoted a = do
   n ← within a timeMost (picoseconds (t .word)) (t .at)
   due "'"
   give n
+
+-- ---- times with a sign (request 8)
+
+-- an amount of ps behind the cycle's start, or before it
+pub data Signed : Type 0 where
+  plus minus : ℕ → Signed
+
+-- counted from the earliest time that there may be; -0 is 0
+unfoldable pub counted : Signed → ℕ
+counted (plus n) = timeMost + n
+counted (minus n) = timeMost - n
+
+-- the latest one
+abbrev pub countedMost : ℕ
+countedMost = timeMost + timeMost
+
+-- and what was counted so; never `minus 0`
+unfoldable pub uncounted : ℕ → Signed
+uncounted t = elim (ltb t timeMost) [ true ↦ minus (timeMost - t) | false ↦ plus (t - timeMost) ]
+
+unfoldable pub timeOf : (ℕ → Signed) → Reader Signed
+timeOf sign = do
+  t ← word
+  n ← within 0 timeMost (picoseconds (t .word)) (t .at)
+  give (sign n)
+
+-- an event's 'T', also with a `-` before the word
+unfoldable pub signedQuoted : Reader ℕ
+signedQuoted = do
+  due "'"
+  t ← ifAhead "-" (do due "-"; timeOf minus) (timeOf plus)
+  due "'"
+  give (counted t)
 
 -- ---- events
 
@@ -127,7 +161,7 @@ Events = List (List Event) × ℕ
 -- `'T' E;` behind those, for n characters
 unfoldable pub oneEvent : ℕ → Events → Reader Events
 oneEvent n s = do
-  t ← quoted 0
+  t ← signedQuoted
   es ← letters
   q ← due ";"
   refuseIf (not (eqb (length es) 1) && not (eqb (length es) n)) badWaveform q
@@ -212,3 +246,15 @@ timing ns = do
   due "{"
   tabs ← table ns []
   until "}" (table ns) tabs
+
+-- ---- a table by its number, a waveform by its signal and character
+
+-- the waveforms of the table of a number
+unfoldable pub tableAt : Tables → ℕ → List Wave
+tableAt [] k = []
+tableAt (x ∷ xs) zero = x .1 .waves
+tableAt (x ∷ xs) (suc k) = tableAt xs k
+
+unfoldable pub waveOf : ℕ → ℕ → List Wave → Option (List Event)
+waveOf s c [] = none
+waveOf s c (w ∷ ws) = elim (eqb (w .signal) s && eqb (w .char) c) [ true ↦ some (w .events) | false ↦ waveOf s c ws ]

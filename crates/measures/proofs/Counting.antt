@@ -9,9 +9,6 @@ use lib.ListN.{length, getD}
 use Rattle.meaning.specs.Lists.{has, count}
 use Rattle.measures.specs.Uses.{flag}
 
-pub differ : true ≡ false → ⊥
-differ e = let z : _≡_ {A = ℕ} 0 1 = cc in omega arith
-
 pub count-append : (s : ℕ) (l m : List ℕ) → count s (l ++ m) ≡ count s l + count s m
 unfolding count
 count-append s [] m = omega arith

@@ -2,42 +2,33 @@
 use Prim.Native.Nat.{ℕ, suc, _<_}
 use native.Mathlib.Omega.{arith}
 use mathlib.Core.Path.{_≡_, refl, sym, ap, _∙_}
-use mathlib.Core.Bool.{Bool, true, false, not}
+use mathlib.Core.Bool.{Bool, true, false, not, true≢false}
 use mathlib.Core.List.{List, [], _∷_}
 use lib.Dec.{eqb}
 use lib.ListN.{getD}
 use borrow.Author.Tests.{eqb-true, eq-eqb}
+use Rattle.tokens.proofs.Bools.{neither}
 use Rattle.meaning.specs.Bounds.{signalsMost}
 use Rattle.meaning.specs.Lists.{has, count, repeats, empty}
 use Rattle.meaning.specs.Body.{Assigns, mark, marked}
 use Rattle.meaning.specs.Data.{assigned}
+use Rattle.meaning.proofs.Lists.{marked-not}
 use Rattle.assigns.specs.Given.{charOf}
-use Rattle.assigns.proofs.Table.{or-false}
 use Rattle.measures.specs.Uses.{flag, Given}
-use Rattle.measures.proofs.Counting.{differ, flag-true, flag-false, not-counted, there-counted, has-at, has-nowhere}
-
--- a signal that is not assigned has no `#`
-marked-not : (s : ℕ) (a : Assigns) → has s (assigned a) ≡ false → has s (marked a) ≡ false
-unfolding has assigned marked
-marked-not s [] h = refl
-marked-not s (x ∷ xs) h = let p = or-false (eqb (x .0) s) (has s (assigned xs)) h in by (eqb (x .1) mark) (p .0) (marked-not s xs (p .1))
-  where
-    by : (m : Bool) → eqb (x .0) s ≡ false → has s (marked xs) ≡ false → has s (elim m [ true ↦ x .0 ∷ marked xs | false ↦ marked xs ]) ≡ false
-    by true e ih = rw (e, ih)
-    by false e ih = ih
+use Rattle.measures.proofs.Counting.{flag-true, flag-false, not-counted, there-counted, has-at, has-nowhere}
 
 pub marked-assigned : (s : ℕ) (a : Assigns) → has s (marked a) ≡ true → has s (assigned a) ≡ true
 marked-assigned s a h = by (has s (assigned a)) refl
   where
     by : (b : Bool) → has s (assigned a) ≡ b → b ≡ true
     by true e = refl
-    by false e = absurd (differ (sym h ∙ marked-not s a e))
+    by false e = absurd (true≢false (sym h ∙ marked-not s a e))
 
 count-marked : (s : ℕ) (a : Assigns) → repeats (assigned a) ≡ false → count s (marked a) ≡ flag (eqb (charOf s a) mark)
 unfolding count marked charOf repeats assigned
 count-marked s [] h = refl
 count-marked s (x ∷ xs) h =
-    let p = or-false (has (x .0) (assigned xs)) (repeats (assigned xs)) h in
+    let p = neither (has (x .0) (assigned xs)) (repeats (assigned xs)) h in
     by (eqb (x .0) s) (eqb (x .1) mark) refl refl (p .0) (count-marked s xs (p .1))
   where
     none : eqb (x .0) s ≡ true → has (x .0) (assigned xs) ≡ false → count s (marked xs) ≡ 0
@@ -82,4 +73,4 @@ module _ {a : Assigns} {given : List ℕ} (g : Given a given) where
     where
       by : (l : List ℕ) → false ≡ not (empty l) → l ≡ []
       by [] e = refl
-      by (x ∷ l) e = absurd (differ (sym e))
+      by (x ∷ l) e = absurd (true≢false (sym e))

@@ -2,12 +2,11 @@
 use Prim.Native.Nat.{ℕ, _+_, _-_, _*_, _<_, min}
 use native.Mathlib.Omega.{arith}
 use mathlib.Core.Path.{_≡_, refl, sym, ap, _∙_}
-use mathlib.Core.Bool.{Bool, true, false, _||_}
+use mathlib.Core.Bool.{Bool, true, false, true≢false}
 use mathlib.Core.List.{List, [], _++_, append-nil, append-assoc}
 use lib.Dec.{eqb}
 use lib.ListN.{length, getD, drop, replicate, length-take, length-drop, length-replicate, getD-replicate}
 use lib.Seq.{getD-take, getD-drop}
-use borrow.Author.Tests.{eqb-true}
 use Rattle.meaning.specs.Bounds.{signalsMost}
 use Rattle.meaning.specs.Lists.{has, count}
 use Rattle.meaning.specs.Signals.{Names}
@@ -15,13 +14,12 @@ use Rattle.meaning.specs.Body.{Assigns, Args, Kind, Setting, looped, entered, B
 use Rattle.meaning.specs.Data.{assigns}
 use Rattle.words.specs.declared.Cursor.{Cursor}
 use Rattle.words.specs.Cursor.{alive}
-use Rattle.sets.proofs.Tidy.{TidyBelow, bare, next}
+use Rattle.sets.proofs.Tidy.{has-below}
 use Rattle.signals.specs.Names.{AllTidy}
 use Rattle.assigns.specs.Given.{Gives}
 use Rattle.assigns.proofs.Callers.{assigned-once, all-written}
 use Rattle.measures.specs.Measures.{joined}
 use Rattle.measures.specs.Uses.{usesCap, rowLength, flag, rowAt, Uses, Given}
-use Rattle.measures.proofs.Counting.{differ}
 use Rattle.measures.proofs.Marked.{none-marked}
 
 -- ---- `#` in statements behind statements
@@ -69,7 +67,7 @@ uses-none =
       long = length-replicate {A = ℕ} rowLength 0;
       outside-is = λ s h. getD-replicate {A = ℕ} rowLength s 0 0 (omega arith);
       shifting-is = λ s h. getD-replicate {A = ℕ} rowLength (signalsMost + s) 0 0 (omega arith);
-      below = λ s h. absurd (differ (sym h));
+      below = λ s h. absurd (true≢false (sym h));
     }
 
 -- ---- a statement without `#`
@@ -100,17 +98,8 @@ module _ {b : Body} {row : List ℕ} (u : Uses b row) where
 
 -- ---- for callers: what was read has no signal twice, none above the bound, and no other characters than those of DATA
 
-tidy-below : {most : ℕ} {l : List ℕ} → TidyBelow most l → (s : ℕ) → has s l ≡ true → s < most
-unfolding has
-tidy-below bare s h = absurd (differ (sym h))
-tidy-below {most} (next {x} {l} b e t) s h = by (eqb x s) refl h (tidy-below t s)
-  where
-    by : (z : Bool) → eqb x s ≡ z → (z || has s l) ≡ true → (has s l ≡ true → s < most) → s < most
-    by true q k ih = omega (arith, eqb-true x s q)
-    by false q k ih = ih k
-
 pub given-read : {text : List ℕ} {c r : Cursor} {ns : Names} (may : Bool) {given : List ℕ} → AllTidy signalsMost ns
     → (g : Gives text c (assigns ns may) r given) → alive r ≡ true → Given (g .it) given
 given-read {ns = ns} may all g live =
     let t = assigned-once may all g live in
-    record { gave = g .gave live; once = t .1; below = tidy-below (t .0); written = all-written ns may g live }
+    record { gave = g .gave live; once = t .1; below = has-below (t .0); written = all-written ns may g live }

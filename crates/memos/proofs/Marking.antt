@@ -1,6 +1,6 @@
 -- Marks as the digits of a number: there are few enough to look at all.
 use Prim.Native.Nat.{ℕ, zero, suc, _+_, _*_, _/_, _%_, _^_, _<_, _≤_}
-use native.Mathlib.Nat.{mul-comm, one-mul, mod-lt, pow-suc}
+use native.Mathlib.Nat.{mul-comm, one-mul, mod-lt, pow-suc, pos-of-ne-zero}
 use native.Mathlib.Omega.{arith}
 use mathlib.Core.Path.{_≡_, refl, sym, ap, ap₂, _∙_}
 use mathlib.Core.Bool.{Bool, true, false, not, _&&_, _||_}
@@ -12,8 +12,7 @@ use lib.Pow.{shl-exact}
 use lib.ListN.{length, getD, set, length-set}
 use lib.Seq.{getD-set-same, getD-set-other}
 use borrow.Author.Tests.{eq-eqb, eqb-true, eqb-false, ltb-true, ltb-false, le-leb, leb-true, ne-eqb, not-true, lt-ltb}
-use Rattle.words.proofs.Loops.{both}
-use Rattle.words.proofs.Words.{neither}
+use Rattle.tokens.proofs.Bools.{both, neither, or-right, true-false}
 use Rattle.meaning.specs.Bounds.{signalsMost, tablesMost}
 use Rattle.memos.specs.Tracks.{bitOf, isMarked, assignedMark, marksMost, Marks, Joins, shownMarks, tracksLength, marksFrom}
 use Rattle.memos.specs.Memo.{Writes}
@@ -143,9 +142,6 @@ some-mark m t l some = by (eqb t tablesMost) refl
 
 -- ---- joined
 
-pub true-false : {A : Type 0} {b : Bool} → b ≡ true → b ≡ false → A
-true-false {b = b} p q = let z : true ≡ false = sym p ∙ q in let w : _≡_ {A = ℕ} 0 1 = cc in absurd (omega arith)
-
 pub joins-high : (a b : ℕ) → a < marksMost → 256 ≤ a → Joins a b a
 joins-high a b l h = record { kept = λ u q e. e; more = λ z. true-false (high-marked a l h) z; only = λ e. inl e }
 
@@ -158,10 +154,6 @@ joins-zero a b z = record {
 
 pub joins-same : (a b : ℕ) → a ≡ b → Joins a b a
 joins-same a b z = record { kept = λ u q e. e; more = λ f u q e. rw z e; only = λ e. inl e }
-
-or-right : (a b : Bool) → b ≡ true → (a || b) ≡ true
-or-right true b h = refl
-or-right false b h = h
 
 pub joins-or : (a b : ℕ) → Joins a b (bitOr a b)
 joins-or a b = record {
@@ -235,14 +227,10 @@ untracked {A} level long h some room = by (eqb level 0) refl (ltb long tracksLen
 pub tracked-room : (level long : ℕ) → (eqb level 0 || ltb long tracksLength) ≡ false → (level ≡ 0 → ⊥) × (tracksLength ≤ long)
 tracked-room level long h = let n = neither (eqb level 0) (ltb long tracksLength) h in (eqb-false level 0 (n .0), ltb-false long tracksLength (n .1))
 
-pub positive : (n : ℕ) → (n ≡ 0 → ⊥) → 0 < n
-positive zero h = absurd (h refl)
-positive (suc n) h = omega arith
-
 pub tracks-told : (level long : ℕ) → ((not (eqb level 0) && leb tracksLength long) ≡ true → (0 < level) × (tracksLength ≤ long))
     × ((not (eqb level 0) && leb tracksLength long) ≡ false → 0 < level → tracksLength ≤ long → ⊥)
 tracks-told level long = (
-  λ h. (let b = both (not (eqb level 0)) (leb tracksLength long) h in (positive level (eqb-false level 0 (not-true _ (b .0))), leb-true tracksLength long (b .1))),
+  λ h. (let b = both (not (eqb level 0)) (leb tracksLength long) h in (pos-of-ne-zero (eqb-false level 0 (not-true _ (b .0))), leb-true tracksLength long (b .1))),
   λ h some room. true-false (both-true (ne-eqb level 0 (λ z. omega arith)) (le-leb tracksLength long room)) h,
 )
   where

@@ -1,5 +1,5 @@
 -- Rows that tell of uses: what is written in one row, no other row has.
-use Prim.Native.Nat.{ℕ, zero, suc, _+_, _*_, _/_, _%_, _<_, _≤_}
+use Prim.Native.Nat.{ℕ, _+_, _*_, _/_, _%_, _<_, _≤_}
 use native.Mathlib.Omega.{arith}
 use native.Mathlib.Nat.{mod-lt, div-mul-le-self}
 use mathlib.Core.Path.{_≡_, refl, sym, ap, _∙_, subst}
@@ -7,22 +7,17 @@ use mathlib.Core.Bool.{Bool, true, false, _&&_, _||_}
 use mathlib.Core.Logic.{_⊎_, inl, inr}
 use mathlib.Core.List.{List}
 use lib.Dec.{eqb, ltb, leb}
-use lib.ListN.{length, getD, set, replicate, length-set, length-replicate, getD-replicate, List·getD-eq-default}
+use lib.ListN.{length, getD, set, length-set}
 use lib.Seq.{getD-set-same, getD-set-other}
 use borrow.Author.Tests.{eqb-true, eqb-false, ltb-true, ltb-false, leb-true, leb-false}
+use Rattle.tokens.proofs.Bools.{both, neither}
 use Rattle.meaning.specs.Bounds.{signalsMost, depthMost}
 use Rattle.words.specs.declared.Cursor.{Cursor}
-use Rattle.words.proofs.Loops.{both}
-use Rattle.words.proofs.Words.{neither}
 use Rattle.memos.specs.declared.Use.{Use}
 use Rattle.memos.specs.declared.Found.{Found}
 use Rattle.memos.specs.declared.Recalled.{Recalled}
 use Rattle.memos.specs.Tracks.{isMarked, assignedMark, marksMost, tracksLength, marksFrom}
 use Rattle.memos.specs.Memo.{Short, Near, memoRow, rowAt, pointsAt, beforeAt, behindAt, pictureSize, Notes, Points, Traces, Pictures, Told, telling, Row, Writes, AtLevel, SameUse, Remembered, Finds, Restores, Brings}
-
-pub some : (n : ℕ) → (n ≡ 0 → ⊥) → 0 < n
-some zero h = absurd (h refl)
-some (suc n) h = omega arith
 
 -- a place has a row
 pub row-within : (long n : ℕ) → 0 < long / memoRow → n % (long / memoRow) * memoRow ≤ long
@@ -364,11 +359,3 @@ module _ {m m1 m2 m3 m4 : List ℕ} {n o : ℕ} (k : ℕ) {u : Use} {b : Cursor}
 -- no row was written
 pub row-kept : {m : List ℕ} {n : ℕ} {x : Told} → Remembered m m n x
 row-kept = record { long = refl; tracks = λ i h. refl; each = λ j y r. inl r }
-
--- nothing is in use
-pub zeros : (n i : ℕ) → getD {A = ℕ} (replicate n 0) i 0 ≡ 0
-zeros n i = by (ltb i n) refl
-  where
-    by : (z : Bool) → ltb i n ≡ z → getD {A = ℕ} (replicate n 0) i 0 ≡ 0
-    by true e = getD-replicate {A = ℕ} n i 0 0 (ltb-true i n e)
-    by false e = List·getD-eq-default {A = ℕ} (replicate n 0) 0 (omega (arith, length-replicate {A = ℕ} n 0, ltb-false i n e))

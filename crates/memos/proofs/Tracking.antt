@@ -7,6 +7,7 @@ use mathlib.Core.Option.{Option, none}
 use mathlib.Core.Logic.{_⊎_, inl, inr}
 use mathlib.Core.List.{List, [], _++_, append-assoc, append-nil}
 use lib.ListN.{length, getD}
+use Rattle.tokens.proofs.Bools.{contra, true-false}
 use Rattle.meaning.specs.Bounds.{tablesMost}
 use Rattle.meaning.specs.Timing.{Tables}
 use Rattle.meaning.specs.Run.{State, Cycle, Played, follow}
@@ -14,14 +15,6 @@ use Rattle.meaning.specs.Meaning.{firstFailing}
 use Rattle.meaning.proofs.Turns.{orElse, fails-++}
 use Rattle.memos.proofs.Marking.{zero-marked}
 use Rattle.memos.specs.Tracks.{isMarked, assignedMark, Joins, tracksLength, marksAt, Granted, Like, Lands, Tracked, Tracking}
-
-bool-not : {b : Bool} → b ≡ true → b ≡ false → ⊥
-bool-not {b} p q = let z : true ≡ false = sym p ∙ q in let w : _≡_ {A = ℕ} 0 1 = cc in omega arith
-
--- a test that is true where another is, is false where that is
-contra : (a b : Bool) → (a ≡ true → b ≡ true) → b ≡ false → a ≡ false
-contra true b h e = absurd (bool-not (h refl) e)
-contra false b h e = refl
 
 granted-fewer : {tabs : Tables} {a r i c : ℕ} → ((k : ℕ) → k ≤ assignedMark → isMarked a k ≡ true → isMarked r k ≡ true) → Granted tabs r i c → Granted tabs a i c
 granted-fewer h g = record { each = λ k l e. g .each k l (h k (omega arith) e) }
@@ -79,7 +72,7 @@ module _ {tabs : Tables} {n : ℕ} where
           put-by : (i : ℕ) → i < n → (w : Bool) → isMarked (m₂ i) assignedMark ≡ w → (isMarked (m i) assignedMark ≡ true) ⊎ (isMarked (m₂ i) assignedMark ≡ true)
               → getD (f (h z .0) .0 .pins) i 0 ≡ getD (f (h s .0) .0 .pins) i 0
           put-by i l true e o = q .put i l e
-          put-by i l false e (inr o) = absurd (bool-not o e)
+          put-by i l false e (inr o) = true-false o e
           put-by i l false e (inl o) = q .kept i l e ∙ d .put i l o ∙ sym (y .each (h s .0) (like-same tracked-wide) .1 .kept i l e)
 
       -- THE LAW
@@ -108,7 +101,7 @@ module _ {tabs : Tables} {n : ℕ} where
         wide = q .wide;
         table-same = q .table-same;
         args-same = q .args-same;
-        put = λ i l e. absurd (bool-not e (ap (λ (k : ℕ). isMarked k assignedMark) (zero i l) ∙ zero-marked assignedMark (omega arith)));
+        put = λ i l e. true-false e (ap (λ (k : ℕ). isMarked k assignedMark) (zero i l) ∙ zero-marked assignedMark (omega arith));
         kept = λ i l e. refl;
       },
     );

@@ -2,18 +2,18 @@
 use Prim.Native.Nat.{ℕ, _+_, _*_, _≤_, _<_}
 use native.Mathlib.Omega.{arith}
 use mathlib.Core.Path.{_≡_, refl, sym, ap, _∙_}
-use mathlib.Core.Bool.{Bool, true, false, not, _&&_}
+use mathlib.Core.Bool.{Bool, true, false, not, _&&_, true≢false}
 use mathlib.Core.List.{List}
 use lib.Dec.{ltb, eqb}
 use lib.ListN.{getD}
 use borrow.Author.Count.{below-more}
 use borrow.Author.Tests.{ltb-true, eqb-true, eq-eqb, ne-eqb}
+use Rattle.tokens.proofs.Bools.{both}
 use Rattle.meaning.specs.Bounds.{signalsMost, tablesMost}
 use Rattle.meaning.specs.Timing.{Tables}
 use Rattle.meaning.specs.Meaning.{hasWave, tableAt}
 use Rattle.timing.specs.Marks.{charsMost, tableSize, mark}
 use Rattle.timing.specs.Held.{Held}
-use Rattle.arguments.proofs.Lists.{differ, both}
 use Rattle.noted.specs.Noted.{Covered, Fine}
 
 pub covered-none : {used waves : List ℕ} {k : ℕ} → Covered used waves k 0
@@ -28,7 +28,7 @@ covered-more {used} {waves} {k} {i} at x q h = record { each = below-more (λ j.
       where
         by : (z : Bool) → eqb (getD waves (at + i) 0) 1 ≡ z → (not (eqb (getD used i 0) 0) && not z) ≡ false → getD waves (k * tableSize + i) 0 ≡ 1
         by true e h = rw (sym q) (eqb-true _ 1 e)
-        by false e h = absurd (differ (rw (ne-eqb (getD used i 0) 0 (λ z. omega arith)) at h))
+        by false e h = absurd (true≢false (rw (ne-eqb (getD used i 0) 0 (λ z. omega arith)) at h))
 
 pub fine-all : {tables : ℕ} {used waves : List ℕ} → tables ≤ tablesMost → ((k : ℕ) → k < tables → Covered used waves k tableSize)
     → (text tplaces : List ℕ) (count : ℕ) (tabs : Tables) → Held text tplaces waves count tabs → Fine tables used tabs

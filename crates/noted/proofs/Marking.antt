@@ -2,7 +2,7 @@
 use Prim.Native.Nat.{ℕ, _+_, _*_, _≤_, _<_}
 use native.Mathlib.Omega.{arith}
 use mathlib.Core.Path.{_≡_, refl, sym, ap, _∙_, subst}
-use mathlib.Core.Bool.{Bool, true, false, not, _&&_, _||_}
+use mathlib.Core.Bool.{Bool, true, false, not, _&&_, _||_, true≢false}
 use mathlib.Core.List.{List, [], _∷_}
 use lib.Dec.{ltb, leb, eqb}
 use lib.ListN.{length, getD, take, set, length-set}
@@ -10,6 +10,7 @@ use lib.Seq.{take-all, getD-set-same, getD-set-other}
 use borrow.Author.Count.{below-more}
 use borrow.Author.Tests.{lt-ltb, ltb-true, ltb-false, leb-true, eqb-true, eqb-false, eq-eqb, ne-eqb}
 use Rattle.tokens.specs.Bytes.{between, digit, letter}
+use Rattle.tokens.proofs.Bools.{both, neither, either}
 use Rattle.meaning.specs.Bounds.{signalsMost}
 use Rattle.meaning.specs.Lists.{has, repeats}
 use Rattle.meaning.specs.Timing.{waveChar}
@@ -24,8 +25,7 @@ use Rattle.timing.specs.Marks.{charsMost, mark}
 use Rattle.assigns.specs.Given.{charOf, chars}
 use Rattle.measures.specs.Uses.{Given}
 use Rattle.arguments.specs.Supplied.{DataAt, Supplied}
-use Rattle.assigns.proofs.Table.{or-false}
-use Rattle.arguments.proofs.Lists.{differ, both, has-behind}
+use Rattle.arguments.proofs.Lists.{has-behind}
 use Rattle.arguments.proofs.Fits.{arg-first, arg-later}
 use Rattle.arguments.proofs.Counted.{argument-none}
 use Rattle.noted.specs.Noted.{Grows, CharNoted, CharsNoted, Gives, Supplies}
@@ -67,7 +67,7 @@ char-noted used i s c h e = (grows-set used i h, set-noted used i h s c e)
 
 pub word-none : {used : List ℕ} {s : ℕ} → CharsNoted used s []
 unfolding has
-word-none = record { each = λ c h. absurd (differ (sym h)) }
+word-none = record { each = λ c h. absurd (true≢false (sym h)) }
 
 module _ (w : List ℕ) (i : ℕ) {s : ℕ} {used : List ℕ} (x : CharsNoted used s (take i w)) where
   pub word-more : {used′ : List ℕ} → i < length w → Grows used used′ → CharNoted used′ s (getD w i 0) → CharsNoted used′ s (take (i + 1) w)
@@ -78,10 +78,6 @@ module _ (w : List ℕ) (i : ℕ) {s : ℕ} {used : List ℕ} (x : CharsNoted us
 
 -- ---- letters, digits and `#` are below the bound
 
-or-case : {G : Type 0} (x y : Bool) → (x ≡ true → G) → (y ≡ true → G) → (x || y) ≡ true → G
-or-case true y f g h = f refl
-or-case false y f g h = g h
-
 between-most : (a b c : ℕ) → between a b c ≡ true → c ≤ b
 unfolding between
 between-most a b c h = leb-true c b (both (leb a c) (leb c b) h .1)
@@ -89,9 +85,9 @@ between-most a b c h = leb-true c b (both (leb a c) (leb c b) h .1)
 pub written-low : (c : ℕ) → (waveChar c || eqb body.mark c) ≡ true → c < charsMost
 unfolding waveChar letter digit
 written-low c =
-    or-case (waveChar c) (eqb body.mark c)
-    (or-case (letter c) (digit c)
-    (or-case (between 65 90 c) (between 97 122 c) (λ h. omega (arith, between-most 65 90 c h)) (λ h. omega (arith, between-most 97 122 c h)))
+    either (waveChar c) (eqb body.mark c)
+    (either (letter c) (digit c)
+    (either (between 65 90 c) (between 97 122 c) (λ h. omega (arith, between-most 65 90 c h)) (λ h. omega (arith, between-most 97 122 c h)))
     (λ h. omega (arith, between-most 48 57 c h)))
     (λ h. omega (arith, eqb-true body.mark c h))
 
@@ -112,7 +108,7 @@ module _ {given before : List ℕ} where
 
   module _ {s : ℕ} {used : List ℕ} (x : Noting given s before used) where
     pub noting-kept : (not (eqb (getD given s 0) 0) && not (eqb (getD given s 0) body.mark)) ≡ false → Noting given (s + 1) before used
-    noting-kept e = record { grows = x .grows; each = below-more (Told given used) s (x .each) (λ n m. absurd (differ (rw (ne-eqb _ _ n, ne-eqb _ _ m) at e))) }
+    noting-kept e = record { grows = x .grows; each = below-more (Told given used) s (x .each) (λ n m. absurd (true≢false (rw (ne-eqb _ _ n, ne-eqb _ _ m) at e))) }
 
     pub noting-next : {used′ : List ℕ} → Grows used used′ → CharNoted used′ s (getD given s 0) → Noting given (s + 1) before used′
     noting-next {used′} g m =
@@ -153,7 +149,7 @@ char-later x a s e = rw (e, charOf)
 -- what is assigned to a signal is among the characters
 chars-has : (s : ℕ) (a : Assigns) → has s (assigned a) ≡ true → has (charOf s a) (chars a) ≡ true
 unfolding assigned chars has
-chars-has s [] h = absurd (differ (sym h))
+chars-has s [] h = absurd (true≢false (sym h))
 chars-has s (x ∷ a) h = by (eqb (x .0) s) refl h (chars-has s a)
   where
     by : (z : Bool) → eqb (x .0) s ≡ z → (z || has s (assigned a)) ≡ true → (has s (assigned a) ≡ true → has (charOf s a) (chars a) ≡ true)
@@ -167,7 +163,7 @@ module _ (used : List ℕ) where
   unfolding Gives assigned repeats
   gives-each [] o f = tt
   gives-each (x ∷ a) o f =
-      let once = or-false (has (x .0) (assigned a)) (repeats (assigned a)) o in (
+      let once = neither (has (x .0) (assigned a)) (repeats (assigned a)) o in (
         λ e. rw (char-first x a) at (f (x .0) (has-first (x .0) (assigned a)) (rw (char-first x a) e)),
         gives-each a (once .1) λ s h e.
             let same = char-later x a s (other-signal s (x .0) (assigned a) (once .0) h) in
@@ -179,7 +175,7 @@ module _ (used : List ℕ) where
   unfolding Supplies supplied repeats
   supplies-each [] o f = tt
   supplies-each (x ∷ xs) o f =
-      let once = or-false (has (x .0) (supplied xs)) (repeats (supplied xs)) o in (
+      let once = neither (has (x .0) (supplied xs)) (repeats (supplied xs)) o in (
         λ c h. f (x .0) (has-first (x .0) (supplied xs)) c (rw (arg-first x xs) h),
         supplies-each xs (once .1) λ s h c k.
             f s (has-behind s (x .0 ∷ []) (supplied xs) h) c (rw (arg-later x xs s (other-signal s (x .0) (supplied xs) (once .0) h)) k),
@@ -195,7 +191,7 @@ noting-all {given} {before} {used} {s} x l a g = gives-each used a (g .once) eac
         let below = g .below i h in
         let is : getD given i 0 ≡ charOf i a = g .gave .each i below in
         let among = chars-has i a h in
-        let real : getD given i 0 ≡ 0 → ⊥ = λ z. differ (sym among ∙ ap (λ (c : ℕ). has c (chars a)) (sym is ∙ z) ∙ g .gave .real) in
+        let real : getD given i 0 ≡ 0 → ⊥ = λ z. true≢false (sym among ∙ ap (λ (c : ℕ). has c (chars a)) (sym is ∙ z) ∙ g .gave .real) in
         subst (λ (c : ℕ). mark used i c ≡ true) is
         (x .each i (omega arith) real (λ q. eqb-false _ _ e (sym is ∙ q)) .is (subst (λ (c : ℕ). c < charsMost) (sym is) (written-low (charOf i a) (g .written (charOf i a) among))))
 
@@ -260,11 +256,11 @@ module _ {text given args before : List ℕ} where
         each i h c k =
             let below = u .below i h in
             let read = u .each i h .at in
-            x .each i (omega arith) (λ z. differ (sym h ∙ argument-none u i below z)) (argOf i xs) read .each c k .is (low read)
+            x .each i (omega arith) (λ z. true≢false (sym h ∙ argument-none u i below z)) (argOf i xs) read .each c k .is (low read)
           where
             low : DataAt text (getD args (signalsMost + i) 0) (argOf i xs) → c < charsMost
             low d = written-low c (by (waveChar c || eqb body.mark c) refl)
               where
                 by : (z : Bool) → (waveChar c || eqb body.mark c) ≡ z → z ≡ true
                 by true e = refl
-                by false e = absurd (differ (sym k ∙ no-other c false e .all _ _ _ (d .2)))
+                by false e = absurd (true≢false (sym k ∙ no-other c false e .all _ _ _ (d .2)))

@@ -2,23 +2,23 @@
 use Prim.Native.Nat.{ℕ, _+_, _≤_, _<_}
 use native.Mathlib.Numerals.{add-one}
 use mathlib.Core.Path.{_≡_, refl, sym, ap, _∙_}
-use mathlib.Core.Bool.{Bool, true, false, _||_}
+use mathlib.Core.Bool.{Bool, true, false, _||_, true≢false}
 use mathlib.Core.List.{List, [], _∷_, _++_}
 use lib.Dec.{eqb}
 use lib.ListN.{length, getD, take}
 use lib.Seq.{take-suc}
 use borrow.Author.Tests.{eqb-true}
 use Rattle.meaning.specs.Lists.{has}
+use Rattle.meaning.proofs.Lists.{has-append}
 use Rattle.words.specs.Cursor.{span}
 use Rattle.feeds.specs.declared.Feed.{Feed}
 use Rattle.feeds.specs.Feeds.{NextWord}
 use Rattle.feeds.proofs.Worded.{Worded, worded}
 use Rattle.arguments.specs.Supplied.{DataAt}
-use Rattle.arguments.proofs.Lists.{has-append, differ}
 
 or-left : (a b : Bool) → b ≡ false → (a || b) ≡ true → a ≡ true
 or-left true b h e = refl
-or-left false b h e = absurd (differ (sym e ∙ h))
+or-left false b h e = absurd (true≢false (sym e ∙ h))
 
 or-word : (a b z : Bool) → (a ≡ true → b ≡ true) → z ≡ false → (a || (b || z)) ≡ true → b ≡ true
 or-word true b z f n h = f refl
@@ -48,7 +48,7 @@ pub record Unread (text cs : List ℕ) (at : ℕ) (P : ℕ → Type 0) (K : List
   pub each : (c : ℕ) → has c cs ≡ true → has c rest ≡ false → P c
 
 pub unread-all : {text cs : List ℕ} {place : ℕ} {P : ℕ → Type 0} {K : List ℕ → Type 0} → DataAt text place cs → K cs → Unread text cs place P K
-unread-all {cs = cs} d k = record { rest = cs; read = d; known = k; each = λ c h n. absurd (differ (sym h ∙ n)) }
+unread-all {cs = cs} d k = record { rest = cs; read = d; known = k; each = λ c h n. absurd (true≢false (sym h ∙ n)) }
 
 module _ {text cs : List ℕ} {at : ℕ} {f : Feed} {P : ℕ → Type 0} {K : List ℕ → Type 0} (u : Unread text cs at P K) (n : NextWord text at f) where
   -- one word more, behind which the properties may be others; a repeat says characters of it in front of it

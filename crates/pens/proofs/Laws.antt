@@ -1,22 +1,22 @@
 -- Bytes behind those that were written: with room, without, and where the pen was full before.
-use Prim.Native.Nat.{ℕ, _+_, _/_, _%_, _≤_, _<_}
+use Prim.Native.Nat.{ℕ, _+_, _-_, _/_, _%_, _≤_, _<_}
 use native.Mathlib.Omega.{arith}
 use mathlib.Core.Path.{_≡_, refl, sym, ap, ap₂, _∙_, subst}
 use mathlib.Core.Bool.{Bool, true, false}
 use mathlib.Core.List.{List, [], _∷_, _++_, append-assoc}
 use lib.Dec.{leb}
 use lib.ListN.{length, take, drop, length-append}
-use borrow.Author.Tests.{leb-true, leb-false, eq-eqb, ne-eqb}
+use borrow.Author.Tests.{leb-true, leb-false, lt-ltb, le-ltb, eq-eqb, ne-eqb}
 use lib.Seq.{take-at, length-take-le, drop-append-add, drop-drop}
 use Rattle.tokens.specs.Written.{bytes}
+use Rattle.tokens.proofs.Bools.{true-false}
 use Rattle.pages.specs.Pages.{decimal, Puts}
 use Rattle.pages.proofs.Laws.{puts-length}
 use Rattle.folded.specs.Layout.{timed}
-use Rattle.pens.specs.Pens.{Holds, Writes}
+use Rattle.meaning.specs.Bounds.{timeMost}
+use Rattle.meaning.specs.Timing.{plus, minus, uncounted}
+use Rattle.pens.specs.Pens.{signedTimed, Holds, Writes}
 use Rattle.pens.specs.declared.Pen.{Pen}
-
-pub absurd-full : {A : Type 0} {b : Bool} → b ≡ true → b ≡ false → A
-absurd-full e f = absurd (let z : _≡_ {A = ℕ} 0 1 = cc in omega arith)
 
 page-is : (front bytes before entry exit : List ℕ) (at : ℕ) → at ≡ length front → entry ≡ front ++ drop (length front) before → exit ≡ take at entry ++ (bytes ++ drop (at + length bytes) entry)
     → exit ≡ (front ++ bytes) ++ drop (length (front ++ bytes)) before
@@ -30,7 +30,7 @@ page-is front bytes before entry exit at a e p =
 overflows : (entry bytes : List ℕ) (pen : Pen) → pen .full ≡ false → pen .at + length bytes ≤ length entry → (before front : List ℕ) → Holds before front pen entry → (b : Bool)
     → leb (length front) (length before) ≡ b → length before < length (front ++ bytes) → {c : Bool} → c ≡ true
 overflows entry bytes pen e f before front h true q l = absurd (omega (arith, h .some (leb-true _ _ q) .1, h .kept, length-append front bytes))
-overflows entry bytes pen e f before front h false q l = absurd-full (h .none (leb-false _ _ q)) e
+overflows entry bytes pen e f before front h false q l = true-false (h .none (leb-false _ _ q)) e
 
 module _ {entry bytes : List ℕ} {pen : Pen} where
   pub writes-full : pen .full ≡ true → Writes entry pen bytes entry pen
@@ -38,7 +38,7 @@ module _ {entry bytes : List ℕ} {pen : Pen} where
     kept = refl;
     on = λ before front h. record {
       kept = h .kept;
-      some = λ l. absurd-full e (h .some (omega (arith, length-append front bytes)) .0);
+      some = λ l. true-false e (h .some (omega (arith, length-append front bytes)) .0);
       none = λ l. e;
     };
   }
@@ -97,3 +97,16 @@ time-ns n e = sym (ap (λ (b : Bool). elim b as (λ c. List ℕ) [ true ↦ deci
 pub time-ps : (n : ℕ) → (n % 1000 ≡ 0 → ⊥) → decimal n ++ 112 ∷ 115 ∷ [] ≡ timed n
 unfolding timed bytes
 time-ps n e = sym (ap (λ (b : Bool). elim b as (λ c. List ℕ) [ true ↦ decimal (n / 1000) ++ bytes "ns" | false ↦ decimal n ++ bytes "ps" ]) (ne-eqb (n % 1000) 0 e))
+
+-- ---- with a sign
+
+as-written : ℕ → Bool → List ℕ
+as-written t b = signedTimed (elim b [ true ↦ minus (timeMost - t) | false ↦ plus (t - timeMost) ])
+
+pub signed-before : (t : ℕ) → t < timeMost → 45 ∷ timed (timeMost - t) ≡ signedTimed (uncounted t)
+unfolding signedTimed uncounted as-written
+signed-before t h = ap (as-written t) (sym (lt-ltb t timeMost h))
+
+pub signed-behind : (t : ℕ) → timeMost ≤ t → timed (t - timeMost) ≡ signedTimed (uncounted t)
+unfolding signedTimed uncounted as-written
+signed-behind t h = ap (as-written t) (sym (le-ltb t timeMost h))

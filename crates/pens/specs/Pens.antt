@@ -2,9 +2,16 @@
 use Prim.Native.Nat.{ℕ, _≤_, _<_}
 use mathlib.Core.Path.{_≡_}
 use mathlib.Core.Bool.{true, false}
-use mathlib.Core.List.{List, _++_}
+use mathlib.Core.List.{List, _∷_, _++_}
 use lib.ListN.{length, drop}
+use Rattle.meaning.specs.Timing.{Signed, plus, minus}
+use Rattle.folded.specs.Layout.{timed}
 use Rattle.pens.specs.declared.Pen.{Pen}
+
+-- a time with its sign, as it is written
+unfoldable pub signedTimed : Signed → List ℕ
+signedTimed (plus n) = timed n
+signedTimed (minus n) = 45 ∷ timed n
 
 -- the bytes `front` were written from the page's front on, where it had room for them all; else the pen is full, and what stands in the page is open
 pub record Holds (before front : List ℕ) (pen : Pen) (page : List ℕ) : Type 0 where

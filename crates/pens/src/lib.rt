@@ -3,7 +3,9 @@ ghost use Prim.Native.Nat.{_≤_};
 ghost use mathlib.Core.List.{List, _++_};
 ghost use Rattle.pages.specs.Pages.{decimal};
 ghost use Rattle.folded.specs.Layout.{timed};
-ghost use Rattle.pens.specs.Pens.{Writes};
+ghost use Rattle.meaning.specs.Timing.{uncounted};
+ghost use Rattle.pens.specs.Pens.{signedTimed, Writes};
+use words::START;
 
 // How many bytes stand in the page; or there was no room for all (`full`).
 pub struct Pen {
@@ -55,4 +57,15 @@ pub fn add_time(page: &mut [u8], pen: Pen, time: u64) -> Pen
     }
     let p = add_number(page, pen, time);
     add(page, p, b"ps")
+}
+
+// An event's time, as it is written: with a `-` where it lies before the cycle's start.
+pub fn add_signed(page: &mut [u8], pen: Pen, time: u64) -> Pen
+    ensures { λ r. ⌜ Writes (now (page .entry)) pen (signedTimed (uncounted time)) (now (page .exit)) r ⌝ }
+{
+    if time < START {
+        let p = add(page, pen, b"-");
+        return add_time(page, p, START - time);
+    }
+    add_time(page, pen, time - START)
 }

@@ -3,30 +3,33 @@
 use Prim.Native.Nat.{ℕ, _+_, _*_, _-_, _≤_, _<_}
 use native.Mathlib.Omega.{arith}
 use mathlib.Core.Path.{_≡_, refl, sym, ap, _∙_, subst}
-use mathlib.Core.Bool.{Bool, true, false, _||_}
-use mathlib.Core.List.{List, [], _∷_}
+use mathlib.Core.Bool.{Bool, true, false}
+use mathlib.Core.List.{List}
 use lib.Dec.{ltb, eqb}
-use lib.ListN.{length, getD, take, drop, length-take}
+use lib.ListN.{length, getD, take, drop, length-take, List·getD-eq-default}
 use lib.Seq.{getD-take, getD-drop, drop-drop}
 use borrow.Author.Tests.{eq-eqb, eqb-true, eqb-false, ltb-true, ltb-false}
+use Rattle.tokens.proofs.Bools.{or-right}
 use Rattle.meaning.specs.Bounds.{signalsMost, tablesMost}
 use Rattle.meaning.specs.Body.{Assigns, mark, argOf, supplied}
 use Rattle.meaning.specs.Timing.{Tables}
 use Rattle.meaning.specs.Run.{State, unassigned, next, behind, puts, cycleAt, again}
 use Rattle.meaning.specs.Meaning.{hasWave, allWaves, tableAt, playable}
+use Rattle.meaning.proofs.Rows.{puts-table, puts-long}
 use Rattle.walks.specs.Turns.{skipped}
 use Rattle.walks.proofs.Shifts.{turn-skipped, shift-last, skipped-arg, skipped-supplied}
+use Rattle.walks.proofs.Arguments.{behind-one}
 use Rattle.timing.specs.Marks.{charsMost}
 use Rattle.timing.specs.Held.{Held}
 use Rattle.assigns.specs.Given.{charOf}
 use Rattle.feeds.specs.declared.Feed.{Feed}
 use Rattle.feeds.specs.declared.Fed.{Fed}
 use Rattle.feeds.specs.Feeds.{Feeds, Takes, Skips as Passed, Fine}
-use Rattle.feeds.proofs.Front.{getD-past, fine-each}
+use Rattle.feeds.proofs.Front.{fine-each}
 use Rattle.measures.specs.Uses.{Given}
 use Rattle.arguments.proofs.Lists.{inside-each}
 use Rattle.pins.specs.Shown.{feedAt, Shows, Playable, Others, Skips, HasMark, Having, Ahead, Advances, vector}
-use Rattle.pins.proofs.Puts.{shown, puts-table, puts-long, puts-pin, char-marked, char-assigned}
+use Rattle.pins.proofs.Puts.{shown, puts-pin, char-marked, char-assigned}
 use Rattle.pins.proofs.Search.{fine, waves-all, waves-each, a-table}
 use Rattle.pins.proofs.Callers.{table-some, others-none, others-then}
 
@@ -40,7 +43,7 @@ row-mark l at n c h = by (ltb c n) refl
     by true e = let k = ltb-true c n e in (k, sym (getD-take n (drop at l) c 0 k ∙ getD-drop at l c 0) ∙ h)
     by false e =
         let k = ltb-false c n e in
-        let z : _≡_ {A = ℕ} 0 1 = sym (getD-past (take n (drop at l)) c (omega (arith, length-take n (drop at l)))) ∙ h in
+        let z : _≡_ {A = ℕ} 0 1 = sym (List·getD-eq-default (take n (drop at l)) 0 (omega (arith, length-take n (drop at l)))) ∙ h in
         absurd (omega arith)
 
 pub having-row : {text waves : List ℕ} {f : Feed} {table s most n : ℕ} → Fine text f (take ((table * signalsMost + s) * charsMost + charsMost - (table * signalsMost + s) * charsMost) (drop ((table * signalsMost + s) * charsMost) waves)) most n
@@ -53,11 +56,6 @@ having-row {text} {waves} {f} {table} {s} x =
           let r = row-mark waves at (at + charsMost - at) _ (fine-each x cs y i l) in
           (omega (arith, r .0), r .1));
     }
-
-behind-one : (cs : List ℕ) → behind cs ≡ drop 1 cs
-unfolding behind
-behind-one [] = refl
-behind-one (c ∷ cs) = refl
 
 -- n characters of the feed f have waveforms, and r is behind them
 pub record Far (text : List ℕ) (f : Feed) (waves : List ℕ) (table s most n : ℕ) (r : Feed) : Type 0 where
@@ -172,10 +170,6 @@ module _ {text given values feeds waves : List ℕ} {level signals table most k 
       }
 
 -- ---- and their cycles
-
-or-right : (a b : Bool) → b ≡ true → (a || b) ≡ true
-or-right true b h = refl
-or-right false b h = h
 
 -- what is no `#` shows the same again
 shown-again : (c old : ℕ) (arg arg′ : List ℕ) → eqb c mark ≡ false → shown c (shown c old arg) arg′ ≡ shown c old arg

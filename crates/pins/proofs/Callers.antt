@@ -2,7 +2,7 @@
 use Prim.Native.Nat.{ℕ, zero, suc, _≤_, _<_}
 use native.Mathlib.Omega.{arith}
 use mathlib.Core.Path.{_≡_, refl, sym, ap, _∙_, subst}
-use mathlib.Core.Bool.{true}
+use mathlib.Core.Bool.{true, true≢false}
 use mathlib.Core.Option.{Option, none, some}
 use mathlib.Core.List.{List, []}
 use lib.ListN.{length, getD, take, replicate, length-take, length-replicate, getD-replicate}
@@ -15,7 +15,7 @@ use Rattle.meaning.specs.Data.{assigned}
 use Rattle.meaning.specs.Run.{State, unassigned, puts, changed, follow, again, bare, play, start}
 use Rattle.feeds.specs.declared.Feed.{Feed}
 use Rattle.feeds.specs.Feeds.{Feeds}
-use Rattle.arguments.proofs.Lists.{differ, inside-each, inside-all}
+use Rattle.arguments.proofs.Lists.{inside-each, inside-all}
 use Rattle.pins.specs.Shown.{tableOf, feedAt, Feeding, Shows, Roomy, Playable, Others, vector, keptAt, Leaves, Returns}
 use Rattle.pins.proofs.Puts.{puts-supplied}
 
@@ -93,7 +93,7 @@ module _ {text feeds feeds′ : List ℕ} {l : ℕ} {xs : Args} where
 
 pub feeding-none : {text feeds : List ℕ} {level : ℕ} → Feeding text feeds level []
 unfolding supplied has
-feeding-none = record { each = λ s h. absurd (differ (sym h)) }
+feeding-none = record { each = λ s h. absurd (true≢false (sym h)) }
 
 -- ---- pins
 

@@ -2,7 +2,7 @@
 use Prim.Native.Nat.{ℕ, suc, _+_, _-_, _≤_, _<_}
 use native.Mathlib.Omega.{arith}
 use mathlib.Core.Path.{_≡_, refl, sym, ap, _∙_, subst}
-use mathlib.Core.Bool.{Bool, true, false, not}
+use mathlib.Core.Bool.{Bool, true, false, not, true≢false}
 use mathlib.Core.List.{List}
 use lib.ListN.{length, getD, take, drop, length-take}
 use lib.Seq.{getD-take}
@@ -14,7 +14,6 @@ use Rattle.meaning.specs.Run.{State, Played, puts, cycleAt, again}
 use Rattle.meaning.specs.Meaning.{allWaves, tableAt, playable, firstFailing}
 use Rattle.timing.specs.Held.{Held}
 use Rattle.measures.specs.Uses.{Given}
-use Rattle.arguments.proofs.Lists.{differ}
 use Rattle.pins.specs.Shown.{Shows, Playable, Told, vector, Advances}
 use Rattle.pins.proofs.Search.{fine, waves-here, waves-next, waves-end, turn-fails, turn-passes, turn-state, turns-pass, turns-state, turns-end, no-table, a-table}
 use Rattle.pins.proofs.Callers.{table-some, table-none, playable-puts, playable-turns}
@@ -103,15 +102,15 @@ module _ {text : List ℕ} {signals : ℕ} {values : List ℕ} {table : ℕ} {fe
   midway-fails {n} m e =
       record {
         fails = λ t. m .fails-as ∙ turn-fails tabs p a n (m .state) e;
-        sound = λ t. absurd (differ t);
-        shows = λ t. absurd (differ t);
+        sound = λ t. absurd (true≢false t);
+        shows = λ t. absurd (true≢false t);
       }
 
   midway-ends : Midway text signals values table feeds level tabs p a 0 whole → Told tabs text signals values table feeds level false p whole
   midway-ends m =
       let e = turns-end tabs p a (m .state) in
       record {
-        fails = λ t. absurd (differ (sym t));
+        fails = λ t. absurd (true≢false (sym t));
         sound = λ t. m .fails-as ∙ e .0;
         shows = λ t. subst (Shows text signals values table feeds level) (sym (m .ends-as ∙ e .1)) (m .shows);
       }

@@ -1,19 +1,18 @@
 -- Assignments signal by signal: no signal stands twice, so what it shows afterwards, and what is left of its argument, does not depend on the order.
 use Prim.Native.Nat.{ℕ, _<_}
 use mathlib.Core.Path.{_≡_, refl, sym, ap, _∙_, subst}
-use mathlib.Core.Bool.{Bool, true, false, _||_}
+use mathlib.Core.Bool.{Bool, true, false, _||_, true≢false}
 use mathlib.Core.List.{List, [], _∷_}
 use lib.Dec.{eqb}
 use lib.ListN.{length, getD, set, length-set}
 use lib.Seq.{getD-set-same, getD-set-other}
 use borrow.Author.Tests.{ne-eqb, eqb-true, eqb-false}
+use Rattle.tokens.proofs.Bools.{neither}
 use Rattle.meaning.specs.Lists.{has, repeats}
 use Rattle.meaning.specs.Body.{Assigns, Args, mark, argOf, supplied, marked}
 use Rattle.meaning.specs.Data.{assigned}
 use Rattle.meaning.specs.Run.{State, unassigned, next, behind, taken, put, puts}
 use Rattle.assigns.specs.Given.{charOf, chars}
-use Rattle.assigns.proofs.Table.{or-false}
-use Rattle.arguments.proofs.Lists.{differ}
 
 -- ---- what is left of the arguments
 
@@ -121,12 +120,6 @@ unfolding puts
 kept f h [] s = refl
 kept f h (x ∷ xs) s = kept f h xs (put x s) ∙ by-put f x s (h x s)
 
-pub puts-table : (a : Assigns) (s : State) → puts a s .table ≡ s .table
-puts-table = kept (λ s. s .table) one-table
-
-pub puts-long : (a : Assigns) (s : State) → length (puts a s .pins) ≡ length (s .pins)
-puts-long = kept (λ s. length (s .pins)) one-long
-
 pub puts-supplied : (a : Assigns) (s : State) → supplied (puts a s .args) ≡ supplied (s .args)
 puts-supplied = kept (λ s. supplied (s .args)) one-supplied
 
@@ -136,7 +129,7 @@ unmoved : {A : Type 0} (j : ℕ) (f : State → A) → ((x : ℕ × ℕ) (s : St
 unfolding puts has assigned
 unmoved j f h [] n s = refl
 unmoved j f h (x ∷ xs) n s =
-    let q = or-false (eqb (x .0) j) (has j (assigned xs)) n in
+    let q = neither (eqb (x .0) j) (has j (assigned xs)) n in
     unmoved j f h xs (q .1) (put x s) ∙ by-put f x s (h x s (eqb-false (x .0) j (q .0)))
 
 module _ (j : ℕ) where
@@ -151,8 +144,8 @@ module _ (j : ℕ) where
   unfolding puts charOf chars assigned repeats has
   puts-pin [] s r z h = refl
   puts-pin (x ∷ xs) s r z h =
-      let p = or-false (has (x .0) (assigned xs)) (repeats (assigned xs)) r in
-      let q = or-false (eqb (x .1) 0) (has 0 (chars xs)) z in
+      let p = neither (has (x .0) (assigned xs)) (repeats (assigned xs)) r in
+      let q = neither (eqb (x .1) 0) (has 0 (chars xs)) z in
       by (eqb (x .0) j) refl p (q .0) (puts-pin xs (put x s) (p .1) (q .1) (subst (λ (n : ℕ). j < n) (sym (by-put (λ t. length (t .pins)) x s (one-long x s))) h))
     where
       by : (b : Bool) → eqb (x .0) j ≡ b → (has (x .0) (assigned xs) ≡ false) × (repeats (assigned xs) ≡ false) → eqb (x .1) 0 ≡ false
@@ -171,7 +164,7 @@ module _ (j : ℕ) where
   unfolding puts charOf assigned repeats has
   puts-arg [] s r = refl
   puts-arg (x ∷ xs) s r =
-      let p = or-false (has (x .0) (assigned xs)) (repeats (assigned xs)) r in
+      let p = neither (has (x .0) (assigned xs)) (repeats (assigned xs)) r in
       by (eqb (x .0) j) refl (p .0) (puts-arg xs (put x s) (p .1))
     where
       by : (b : Bool) → eqb (x .0) j ≡ b → has (x .0) (assigned xs) ≡ false → argOf j (puts xs (put x s) .args) ≡ left (charOf j xs) (argOf j (put x s .args))
@@ -189,7 +182,7 @@ module _ (j : ℕ) where
 -- a signal that is given `#` is marked
 pub char-marked : (j : ℕ) (a : Assigns) → eqb (charOf j a) mark ≡ true → has j (marked a) ≡ true
 unfolding charOf marked has
-char-marked j [] e = absurd (differ (sym e))
+char-marked j [] e = absurd (true≢false (sym e))
 char-marked j (x ∷ xs) e = by (eqb (x .0) j) refl e (char-marked j xs) (eqb (x .1) mark) refl
   where
     later : (m : Bool) → has j (marked xs) ≡ true → has j (elim m [ true ↦ x .0 ∷ marked xs | false ↦ marked xs ]) ≡ true
@@ -203,13 +196,13 @@ char-marked j (x ∷ xs) e = by (eqb (x .0) j) refl e (char-marked j xs) (eqb (x
     by : (b : Bool) → eqb (x .0) j ≡ b → eqb (elim b [ true ↦ x .1 | false ↦ charOf j xs ]) mark ≡ true → (eqb (charOf j xs) mark ≡ true → has j (marked xs) ≡ true)
         → (m : Bool) → eqb (x .1) mark ≡ m → has j (elim m [ true ↦ x .0 ∷ marked xs | false ↦ marked xs ]) ≡ true
     by true o e ih true f = rw o
-    by true o e ih false f = absurd (differ (sym e ∙ f))
+    by true o e ih false f = absurd (true≢false (sym e ∙ f))
     by false o e ih m f = later m (ih e)
 
 -- and assigned
 pub char-assigned : (j : ℕ) (a : Assigns) → eqb (charOf j a) mark ≡ true → has j (assigned a) ≡ true
 unfolding charOf assigned has
-char-assigned j [] e = absurd (differ (sym e))
+char-assigned j [] e = absurd (true≢false (sym e))
 char-assigned j (x ∷ xs) e = by (eqb (x .0) j) e (char-assigned j xs)
   where
     by : (b : Bool) → eqb (elim b [ true ↦ x .1 | false ↦ charOf j xs ]) mark ≡ true → (eqb (charOf j xs) mark ≡ true → has j (assigned xs) ≡ true)

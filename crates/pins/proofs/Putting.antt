@@ -13,6 +13,7 @@ use Rattle.meaning.specs.Lists.{has}
 use Rattle.meaning.specs.Body.{Assigns, mark, argOf, supplied}
 use Rattle.meaning.specs.Data.{assigned}
 use Rattle.meaning.specs.Run.{State, puts}
+use Rattle.meaning.proofs.Rows.{puts-table, puts-long}
 use Rattle.words.specs.Packed.{ZerosFrom}
 use Rattle.assigns.specs.Given.{charOf}
 use Rattle.feeds.specs.declared.Feed.{Feed}
@@ -22,7 +23,7 @@ use Rattle.measures.specs.Uses.{Given}
 use Rattle.arguments.proofs.Lists.{inside-each}
 use Rattle.pins.specs.Shown.{feedAt, Fills, Shows, Roomy, Playable, Others, eight, Idle}
 use Rattle.pins.proofs.Turns.{Done, done-none, done-next, done-same, Refilled, refilled-none, refilled-next, refilled-same}
-use Rattle.pins.proofs.Puts.{shown, left, puts-table, puts-long, puts-supplied, puts-pin, puts-arg, arg-unmoved, char-marked}
+use Rattle.pins.proofs.Puts.{shown, left, puts-supplied, puts-pin, puts-arg, arg-unmoved, char-marked}
 
 -- what signal k shows afterwards, whatever characters its feed has left
 abbrev Showing : List ℕ → List ℕ → List ℕ → List ℕ → ℕ → ℕ → ℕ → Type 0

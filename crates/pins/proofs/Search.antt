@@ -4,18 +4,17 @@ use native.Mathlib.Omega.{arith}
 use native.Mathlib.Nat.{zero-add, suc-add}
 use native.Mathlib.Numerals.{add-one}
 use mathlib.Core.Path.{_≡_, refl, sym, ap, _∙_, subst}
-use mathlib.Core.Bool.{Bool, true, false, _||_}
+use mathlib.Core.Bool.{Bool, true, false, _||_, true≢false}
 use mathlib.Core.Option.{none, some}
-use mathlib.Core.List.{List, _∷_}
+use mathlib.Core.List.{List}
 use lib.Dec.{eqb}
 use lib.ListN.{length, getD, drop, drop-of-length-le}
-use lib.Seq.{drop-cons}
+use Rattle.tokens.proofs.Reading.{cut}
 use Rattle.meaning.specs.Timing.{Wave, Tables}
 use Rattle.meaning.specs.Body.{Assigns}
 use Rattle.meaning.specs.Run.{State, unassigned, Played, puts, cycleAt, again, follow}
 use Rattle.meaning.specs.Meaning.{hasWave, allWaves, tableAt, playable, firstFailing}
 use Rattle.walks.proofs.Loops.{again-add}
-use Rattle.arguments.proofs.Lists.{differ}
 use Rattle.pins.specs.Shown.{vector}
 
 -- ---- a cycle's signals
@@ -26,16 +25,13 @@ fine s c ws = eqb c unassigned || hasWave s c ws
 
 module _ (pins : List ℕ) (ws : List Wave) (s : ℕ) where
   module _ (h : s < length pins) where
-    cut : drop s pins ≡ getD pins s 0 ∷ drop (s + 1) pins
-    cut = rw (add-one, drop-cons pins s 0 h)
-
     pub waves-here : fine s (getD pins s 0) ws ≡ false → allWaves s (drop s pins) ws ≡ false
     unfolding allWaves
-    waves-here e = rw cut (rw e)
+    waves-here e = rw (cut pins s h) (rw e)
 
     pub waves-next : fine s (getD pins s 0) ws ≡ true → allWaves s (drop s pins) ws ≡ allWaves (s + 1) (drop (s + 1) pins) ws
     unfolding allWaves
-    waves-next e = rw cut (rw (e, add-one))
+    waves-next e = rw (cut pins s h) (rw (e, add-one))
 
   pub waves-end : length pins ≤ s → allWaves s (drop s pins) ws ≡ true
   unfolding allWaves
@@ -55,7 +51,7 @@ module _ (pins : List ℕ) (ws : List Wave) where
     where
       by : (z : Bool) → fine s (getD pins s 0) ws ≡ z → z ≡ true
       by true e = refl
-      by false e = absurd (differ (sym h ∙ waves-here pins ws s b e))
+      by false e = absurd (true≢false (sym h ∙ waves-here pins ws s b e))
 
   -- and the other way round
   pub waves-each : allWaves 0 pins ws ≡ true → (s : ℕ) → s < length pins → fine s (getD pins s 0) ws ≡ true

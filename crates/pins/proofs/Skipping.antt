@@ -2,7 +2,7 @@
 use Prim.Native.Nat.{ℕ, _+_, _≤_, _<_}
 use native.Mathlib.Omega.{arith}
 use mathlib.Core.Path.{_≡_, refl, sym, ap, _∙_, subst}
-use mathlib.Core.Bool.{Bool, true, false}
+use mathlib.Core.Bool.{Bool, true, false, true≢false}
 use mathlib.Core.Option.{none}
 use mathlib.Core.List.{List, [], _∷_}
 use lib.Dec.{eqb}
@@ -19,7 +19,6 @@ use Rattle.assigns.specs.Given.{charOf}
 use Rattle.feeds.specs.declared.Feed.{Feed}
 use Rattle.feeds.specs.Feeds.{Feeds, Skips}
 use Rattle.measures.specs.Uses.{Given}
-use Rattle.arguments.proofs.Lists.{differ}
 use Rattle.pins.specs.Shown.{feedAt, Fills, Shows, Playable, Others}
 use Rattle.pins.proofs.Puts.{puts-arg, arg-unmoved, char-marked}
 
@@ -115,7 +114,7 @@ module _ {text given before feeds values : List ℕ} {level n s : ℕ} (x : Skip
             subst (Feeds text (feedAt feeds level k)) (sym (skipped-arg n a u k (g .once) m))
             (x .further k (omega arith) (g .gave .each k b ∙ marked-char k a (g .once) m) (argOf k (u .args)) e)
         by false m =
-            let same = x .kept level k b (λ i l c. differ (sym (char-marked k a (eq-eqb _ _ (sym (g .gave .each k b) ∙ c))) ∙ m)) in
+            let same = x .kept level k b (λ i l c. true≢false (sym (char-marked k a (eq-eqb _ _ (sym (g .gave .each k b) ∙ c))) ∙ m)) in
             subst (Feeds text (feedAt feeds level k)) (sym (kept-arg n a u k m)) (subst (λ (f : Feed). Feeds text f (argOf k (u .args))) (sym same) e)
 
     pub skipped-shows : Shows text signals values table feeds level (skipped n a u)

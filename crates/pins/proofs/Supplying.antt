@@ -2,7 +2,7 @@
 use Prim.Native.Nat.{ℕ, _+_, _≤_}
 use native.Mathlib.Omega.{arith}
 use mathlib.Core.Path.{_≡_, sym, _∙_}
-use mathlib.Core.Bool.{false}
+use mathlib.Core.Bool.{false, true≢false}
 use mathlib.Core.List.{List}
 use lib.ListN.{getD}
 use Rattle.tokens.specs.Tokens.{Toks, toks}
@@ -13,7 +13,6 @@ use Rattle.meaning.specs.Data.{dataRead}
 use Rattle.feeds.specs.declared.Feed.{Feed}
 use Rattle.feeds.specs.Feeds.{Feeds}
 use Rattle.arguments.specs.Supplied.{Supplied}
-use Rattle.arguments.proofs.Lists.{differ}
 use Rattle.arguments.proofs.Counted.{argument-none}
 use Rattle.pins.specs.Shown.{Feeding}
 use Rattle.pins.proofs.Turns.{Refilled}
@@ -32,5 +31,5 @@ begun-all {given} {args} {before} {feeds} {level} {s} e x text xs u =
       each = λ k h.
           let below = u .below k h in
           let from = u .each k h .at in
-          (below, x .each k (omega arith) (λ z. differ (sym h ∙ argument-none u k below z)) text _ (from .0) (from .1) (from .2));
+          (below, x .each k (omega arith) (λ z. true≢false (sym h ∙ argument-none u k below z)) text _ (from .0) (from .1) (from .2));
     }

@@ -75,12 +75,6 @@ pub fn supply(given: &[u8], args: &[usize], feeds: &mut [usize], level: usize)
 
 // ---- assignments
 
-fn least(a: usize, b: usize) -> usize
-    ensures { λ r. ⌜ r ≡ min a b ⌝ }
-{
-    if a < b { a } else { b }
-}
-
 // Are the eight signals from s on given nothing? Asked at every eighth.
 fn idle(given: &[u8], s: usize) -> bool
     requires { ⌜ (length (now given) ≡ signalsMost) × (s < signalsMost) ⌝ }
@@ -108,7 +102,7 @@ pub fn put(
     let mut s = 0;
     while s < signals {
         if idle(given, s) {
-            s = least(s + EIGHT, signals);
+            s = sets::least(s + EIGHT, signals);
         } else {
             let b = given[s];
             if b == MARK {

@@ -2,22 +2,15 @@
 use Prim.Native.Nat.{ℕ, _+_, _-_, _<_}
 use native.Mathlib.Omega.{arith}
 use mathlib.Core.Path.{_≡_, refl}
-use mathlib.Core.Bool.{Bool, true, false, _&&_, _||_}
+use mathlib.Core.Bool.{true}
 use mathlib.Core.List.{List, [], _∷_, _++_}
+use Rattle.tokens.proofs.Bools.{both}
 use Rattle.meaning.specs.Lists.{has, inside}
 use Rattle.meaning.specs.Body.{Assigns, Args, Setting, Kind, Way, looped, shifted, entered, Body, done, vec, set′, inner, depth, marked, outside, inShift, shifting, supplied, turns, lengthsFit, fits}
-use Rattle.meaning.proofs.Turns.{Plain, PlainWay, Good}
+use Rattle.meaning.proofs.Turns.{Plain, Good, plain-way}
 use Rattle.plays.specs.Plays.{Single, Fits}
 
--- ---- tests joined, and numbers that stand in a list
-
-pub both : (a b : Bool) → (a && b) ≡ true → (a ≡ true) × (b ≡ true)
-both true b h = (refl, h)
-both false b h = let z : _≡_ {A = ℕ} 0 1 = cc in absurd (omega arith)
-
-pub neither : (a b : Bool) → (a || b) ≡ false → (a ≡ false) × (b ≡ false)
-neither true b h = let z : _≡_ {A = ℕ} 0 1 = cc in absurd (omega arith)
-neither false b h = (refl, h)
+-- ---- numbers that stand in a list
 
 pub inside-parts : (a b l : List ℕ) → inside (a ++ b) l ≡ true → (inside a l ≡ true) × (inside b l ≡ true)
 unfolding inside
@@ -35,12 +28,6 @@ plain-outside done h = refl
 plain-outside (vec p a r) h = rw (h .0, plain-outside r (h .1))
 plain-outside (set′ x r) h = plain-outside r (h .1)
 plain-outside (inner w b r) h = plain-outside r (h .1)
-
-plain-way : (w : Way) (P : Type 0) (l : List ℕ) → PlainWay w P → inShift w l ≡ []
-unfolding inShift
-plain-way (looped n) P l h = refl
-plain-way shifted P l h = absurd h
-plain-way (entered k t a) P l h = refl
 
 pub plain-shifting : (b : Body) → Plain b → shifting b ≡ []
 unfolding Plain shifting

@@ -6,6 +6,7 @@ use mathlib.Core.Bool.{Bool, true, false, _||_}
 use mathlib.Core.List.{List, []}
 use lib.ListN.{length, take}
 use Rattle.tokens.specs.Tokens.{Toks, left}
+use Rattle.tokens.proofs.Bools.{neither}
 use Rattle.meaning.specs.Body.{Args, Body, supplied}
 use Rattle.meaning.specs.Run.{State, follow}
 use Rattle.meaning.specs.Statements.{Env}
@@ -17,7 +18,7 @@ use Rattle.plays.specs.declared.Played.{Played}
 use Rattle.plays.specs.Plays.{Ground, Holding, Heads, Knows, Arrays, Standing, Kept, Plays, Fed, Ended, Onward, Steps, Resumed, Moves, nestOf, Below}
 use Rattle.memos.specs.Tracks.{Tracking}
 use Rattle.memos.proofs.Tracking.{follow-start, follow-assoc, follow-alike, tracking-none, tracking-then, tracking-same}
-use Rattle.plays.proofs.Fitting.{neither, fits-again}
+use Rattle.plays.proofs.Fitting.{fits-again}
 use Rattle.plays.proofs.Following.{failing-plays, alike-same, alike-then, told-alike}
 
 module _ {g : Ground} {memo₀ : List ℕ} {more level table : ℕ} {x : Arrays} {E : Env} {us : Toks} {k t : ℕ} {b : Body} {s : State} {c : Cursor} where

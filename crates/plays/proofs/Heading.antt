@@ -2,15 +2,16 @@
 use Prim.Native.Nat.{ℕ, _<_, _≤_}
 use Prim.Native.String.{String}
 use native.Mathlib.Omega.{arith}
-use mathlib.Core.Path.{_≡_, refl, sym, _∙_, subst}
+use mathlib.Core.Path.{_≡_, refl, sym, subst}
 use mathlib.Core.Bool.{Bool, true, false, not, _||_}
 use mathlib.Core.List.{List, [], _∷_}
 use lib.Dec.{eqb}
 use lib.ListN.{length}
+use borrow.Author.Tests.{not-false}
 use Rattle.tokens.specs.Written.{bytes, same}
 use Rattle.tokens.specs.Tokens.{Tok, Toks, stop, tok, toks, left}
 use Rattle.tokens.proofs.Laws.{left-most}
-use Rattle.meaning.specs.Reader.{Reader, ok, refuse, after, _>>=_, give, refuseIf, any, due, dueOf, oneOf, choose}
+use Rattle.meaning.specs.Reader.{Reader, ok, after, _>>=_, give, refuseIf, any, due, dueOf, oneOf, choose}
 use Rattle.meaning.specs.Lists.{has, count}
 use Rattle.meaning.specs.Signals.{Names}
 use Rattle.meaning.specs.Body.{Assigns, Args, mark, assigning, choosing, Kind, macro, procedure, looped, shifted, entered, Body, done, vec, set′, inner, marked, shifting, turns, fits}
@@ -22,9 +23,9 @@ use Rattle.held.specs.Held.{freeHead, HeadAt, Holds}
 use Rattle.held.proofs.Leads.{Leads, leads-bind, leads-give, leads-if, leads-refuse}
 use Rattle.held.proofs.Turn.{takes-head}
 use Rattle.held.proofs.Only.{Split, head-held}
-use Rattle.words.specs.Cursor.{alive, stream, from, Goes}
+use Rattle.words.specs.Cursor.{alive, stream}
 use Rattle.words.specs.declared.Cursor.{Cursor}
-use Rattle.words.proofs.Flow.{from-on, from-stop}
+use Rattle.words.proofs.Flow.{went}
 use Rattle.sets.proofs.Tidy.{TidyBelow, bare}
 use Rattle.signals.specs.Names.{AllTidy}
 use Rattle.timing.specs.Makes.{Makes}
@@ -32,26 +33,6 @@ use Rattle.assigns.specs.Given.{chars}
 use Rattle.assigns.proofs.Read.{differ-assigns, no-mark-assigned}
 use Rattle.sums.specs.Parts.{Exact}
 use Rattle.sums.proofs.Exact.{fits-exact}
-
--- ---- a reader that the code followed from where it answers
-
--- whoever follows a reader that answers goes on, with its answer and its tokens
-pub record Went {A : Type 0} (text : List ℕ) (r : Cursor) (a x : A) (us : Toks) : Type 0 where
-  pub on : alive r ≡ true
-  pub answer : a ≡ x
-  pub there : stream text r ≡ us
-
-pub went : {A : Type 0} {text : List ℕ} {c r : Cursor} {m : Reader A} {a x : A} {us : Toks} → Goes text c m r a → alive c ≡ true → m (stream text c) ≡ ok x us
-    → Went text r a x us
-unfolding give
-went {A} {text} {c} {r} {m} {a} {x} {us} g e h = by (alive r) refl
-  where
-    is : from text r (give a) ≡ ok x us
-    is = g .same ∙ from-on text c m e ∙ h
-
-    by : (b : Bool) → alive r ≡ b → Went text r a x us
-    by true q = let z : ok a (stream text r) ≡ ok x us = sym (from-on text r (give a) q) ∙ is in record { on = q; answer = cc; there = cc }
-    by false q = let w : refuse (r .no) (r .at) ≡ ok x us = sym (from-stop text r (give a) q) ∙ is in let z : _≡_ {A = ℕ} 0 1 = cc in absurd (omega arith)
 
 -- ---- where it begins
 
@@ -147,10 +128,6 @@ Fine n (loops m) = Unit {0}
 Fine n shifts = Unit {0}
 Fine n (uses k x t a) = fits (x .body) a ≡ true
 
-no-not : (b : Bool) → not b ≡ false → b ≡ true
-no-not true e = refl
-no-not false e = let z : _≡_ {A = ℕ} 0 1 = cc in absurd (omega arith)
-
 unmarked : (a : Assigns) → has mark (chars a) ≡ false → marked a ≡ []
 unfolding has chars marked
 unmarked [] h = refl
@@ -165,7 +142,7 @@ fine-used : (n : ℕ) (k : Kind) (d : ℕ) (ns : Names) (l : Decls) → Gives (F
 unfolding used
 fine-used n k d ns l =
     gives-after (Fine n) _ _ λ x. gives-after (Fine n) _ _ λ u. gives-after (Fine n) _ _ λ a.
-    gives-bind (λ v. not (fits (x .1 .body) (a .0)) ≡ false) (Fine n) _ _ (gives-if _ _ _) λ v h. gives-give (Fine n) _ (no-not _ h)
+    gives-bind (λ v. not (fits (x .1 .body) (a .0)) ≡ false) (Fine n) _ _ (gives-if _ _ _) λ v h. gives-give (Fine n) _ (not-false _ h)
 
 fine-set : (n : ℕ) (ns : Names) → AllTidy n ns → Gives (λ a. TidyBelow n (assigned a) × (marked a ≡ [])) (assigns ns false)
 fine-set n ns h = record { all = λ ts a us q. (differ-assigns ns false h .all ts a us q, unmarked a (no-mark-assigned ns .all ts a us q)) }
@@ -189,7 +166,7 @@ fine-head e n h = gives-choose F _ (
 
 -- ---- a used body's Shift plays as often as its arguments say
 
-abbrev Turned : Head → Type 0
+abbrev pub Turned : Head → Type 0
 Turned ends = Unit {0}
 Turned (vecs p a) = Unit {0}
 Turned (sets x) = Unit {0}
@@ -201,7 +178,7 @@ turned-used : (k : Kind) (d : ℕ) (ns : Names) (l : Decls) → Gives Turned (us
 unfolding used
 turned-used k d ns l = gives-after Turned _ _ λ x. gives-after Turned _ _ λ u. gives-after Turned _ _ λ a. gives-after Turned _ _ λ v. gives-give Turned _ refl
 
-turned-head : (e : Env) → Gives Turned (freeHead e)
+pub turned-head : (e : Env) → Gives Turned (freeHead e)
 unfolding head chosen looping shiftHead labelHead
 turned-head e = gives-choose Turned _ (
     (λ p. gives-after Turned _ _ λ a. gives-give Turned _ tt)
@@ -234,10 +211,10 @@ met {text} {E} {n} {b} {us} {c} {r} {P} tidy x e m =
     record {
       it = i .0;
       on = w .on;
-      read = rw (w .there) (i .2);
+      read = rw (w .behind) (i .2);
       fine = fine-head E n tidy .all _ (i .0) (i .1) (i .2);
-      told = subst P (w .answer) (m .held (w .on));
-      split = rw (w .there) (i .3);
+      told = subst P (w .is) (m .held (w .on));
+      split = rw (w .behind) (i .3);
     }
 
 module _ {text : List ℕ} {E : Env} {n : ℕ} {b : Body} {us : Toks} {c r : Cursor} {P : Head → Type 0} (i : Met text E n b us c r P) where

@@ -7,23 +7,20 @@ use mathlib.Core.Option.{Option, none, some}
 use mathlib.Core.List.{List}
 use lib.Dec.{ltb, leb, eqb}
 use lib.ListN.{length, getD}
-use borrow.Author.Tests.{lt-ltb, ltb-true, leb-true, leb-false, eqb-true, eqb-false, not-false}
+use borrow.Author.Tests.{ltb-true, leb-true, leb-false, eqb-true, eqb-false, not-false}
+use Rattle.tokens.proofs.Bools.{both, neither, true-false}
 use Rattle.meaning.specs.Bounds.{signalsMost, tablesMost}
 use Rattle.meaning.specs.Timing.{Tables}
 use Rattle.meaning.specs.Run.{unassigned}
 use Rattle.pins.specs.Shown.{tableOf}
+use Rattle.pins.proofs.Callers.{table-some}
 use Rattle.sums.specs.Sums.{Shown, before, Sum, okAt, orTable}
 use Rattle.tallies.specs.Rows.{slots, flagAt, slotOf, isSlot, sumAt, Marked}
 use Rattle.measures.specs.Book.{firstProcedure}
 use Rattle.memos.specs.Tracks.{isMarked, assignedMark, marksMost, Joins, tracksLength, marksAt, Granted}
-use Rattle.memos.proofs.Marking.{MarkedIf, marked-kept, marked-here, marked-other, true-false, joins-zero}
+use Rattle.memos.proofs.Marking.{MarkedIf, marked-kept, marked-here, marked-other, joins-zero}
 use Rattle.plays.specs.Plays.{SumMarks, PassedMarks}
-use Rattle.plays.proofs.Fitting.{both, neither}
 use Rattle.plays.proofs.Tracks.{table-below}
-
-table-some : (t : ℕ) → t < tablesMost → tableOf t ≡ some t
-unfolding tableOf
-table-some t h = rw (lt-ltb t tablesMost h, tableOf)
 
 -- those of the tables below t are there
 pub record Summing (S : Sum) (assigned : Bool) (j table m t : ℕ) : Type 0 where

@@ -10,6 +10,7 @@ use lib.Dec.{leb, ltb}
 use lib.ListN.{length, getD, take, drop, replicate, length-replicate, getD-replicate}
 use lib.Seq.{length-take-le, getD-take, ext-getD, drop-length}
 use borrow.Author.Tests.{leb-false, ltb-false}
+use Rattle.tokens.proofs.Bools.{neither}
 use Rattle.meaning.specs.Bounds.{signalsMost}
 use Rattle.meaning.specs.Timing.{Tables}
 use Rattle.meaning.specs.Body.{Args, Body, argOf}
@@ -30,7 +31,6 @@ use Rattle.memos.specs.Tracks.{isMarked, assignedMark, Granted as GrantedPin, L
 use Rattle.memos.proofs.Tracking.{like-same}
 use Rattle.plays.proofs.Tracks.{pins-wide, procedure-tracked}
 use Rattle.plays.specs.Plays.{Ground, Settles, SumMarks, PassedMarks, Passing}
-use Rattle.plays.proofs.Fitting.{neither}
 use Rattle.plays.proofs.Summing.{usable, known-sum}
 use Rattle.plays.proofs.Entering.{kind-macro, kind-procedure}
 

@@ -2,7 +2,7 @@
 use native.Mathlib.Omega.{arith}
 use mathlib.Core.Path.{_≡_, sym, subst}
 use mathlib.Core.Bool.{Bool, true, false}
-use mathlib.Core.List.{[], _∷_, _++_}
+use mathlib.Core.List.{[], _∷_}
 use Rattle.tokens.specs.Tokens.{Tok, Toks}
 use Rattle.meaning.specs.Bounds.{depthMost}
 use Rattle.meaning.specs.Lists.{inside}
@@ -10,10 +10,10 @@ use Rattle.meaning.specs.Reader.{ok}
 use Rattle.meaning.specs.Signals.{Names}
 use Rattle.meaning.specs.Timing.{Tables}
 use Rattle.meaning.specs.Body.{Body}
-use Rattle.meaning.specs.Statements.{Decl, Decls, Env, forPatterns, statements}
+use Rattle.meaning.specs.Statements.{Decls, Env, forPatterns, statements}
 use Rattle.meaning.specs.Document.{oneMacro, oneProcedure, bodies, pattern, patterns, Read}
 use Rattle.meaning.proofs.Gives.{Gives}
-use Rattle.meaning.proofs.Everywhere.{Every, Known}
+use Rattle.meaning.proofs.Everywhere.{Every, Known, every-more}
 use Rattle.meaning.proofs.Turns.{Good}
 use Rattle.meaning.proofs.Plain.{read-good, read-plain}
 use Rattle.meaning.proofs.Depth.{read-within}
@@ -27,15 +27,10 @@ use Rattle.plays.proofs.Fitting.{plain-outside, plain-shifting}
 use Rattle.plays.proofs.Single.{read-single}
 
 module _ (P : Body → Type 0) where
-  every-more : (l : Decls) (t : Tok) (d : Decl) → Every P l → P (d .body) → Every P (l ++ (t, d) ∷ [])
-  unfolding Every
-  every-more [] t d h p = (p, tt)
-  every-more (x ∷ l) t d h p = (h .0, every-more l t d (h .1) p)
-
   -- one more that was read
   read-more : (e : Env) (own : Bool) (names complete : Decls) (ts : Toks) (l : Decls) (us : Toks) → Gives P (statements e depthMost own)
       → More e own names complete ts l us → Every P complete → Every P l
-  read-more e own names complete ts l us g m h = rw (m .is) (every-more complete (m .name) (m .body) h (g .all _ _ _ (m .read)))
+  read-more e own names complete ts l us g m h = rw (m .is) (every-more P complete (m .name) (m .body) h (g .all _ _ _ (m .read)))
 
   module _ (g : (e : Env) → Known P e → (own : Bool) → Gives P (statements e depthMost own)) where
     known-macro : (e : Env) (ts : Toks) → Known P e → Leads (oneMacro e) ts (λ f us. Known P f)

@@ -10,6 +10,7 @@ use lib.Dec.{ltb, eqb}
 use lib.ListN.{length, getD}
 use lib.Seq.{ext-getD, getD-take}
 use Rattle.tokens.specs.Tokens.{Toks}
+use Rattle.tokens.proofs.Bools.{true-false}
 use Rattle.meaning.specs.Timing.{Tables}
 use Rattle.meaning.specs.Body.{Body}
 use Rattle.meaning.specs.Statements.{Env}
@@ -20,7 +21,7 @@ use Rattle.turns.specs.Few.{loopFew, playFew}
 use Rattle.turns.proofs.Decides.{few-left, fewer-fail}
 use Rattle.pins.specs.Shown.{tableOf}
 use Rattle.memos.specs.Tracks.{isMarked, assignedMark, tracksLength, marksAt, Granted, Like, Lands, Tracked, Tracking, Joins}
-use Rattle.memos.proofs.Marking.{zero-marked, true-false}
+use Rattle.memos.proofs.Marking.{zero-marked}
 use Rattle.memos.proofs.Tracking.{like-same, tracked-body, tracking-joined}
 use Rattle.plays.specs.declared.Played.{Played}
 use Rattle.plays.specs.Plays.{Ground, Arrays, Standing, Plays, Looping, Begins}

@@ -22,7 +22,7 @@ use Rattle.held.specs.Held.{freeHead, Holds}
 use Rattle.turns.specs.Few.{playFew}
 use Rattle.words.specs.Cursor.{alive, stream, Goes}
 use Rattle.words.specs.declared.Cursor.{Cursor}
-use Rattle.words.proofs.Flow.{stream-on, stream-stop}
+use Rattle.words.proofs.Flow.{stream-on, stream-stop, went}
 use Rattle.timing.specs.Makes.{Makes}
 use Rattle.timing.specs.Held.{Held}
 use Rattle.measures.specs.Uses.{Given}
@@ -32,7 +32,7 @@ use Rattle.heads.specs.Heads.{Tells}
 use Rattle.pins.specs.Shown.{tableOf, Playable, Told, vector}
 use Rattle.plays.proofs.Tracks.{turns-tracked}
 use Rattle.plays.specs.Plays.{Ground, Arrays, Showing, Standing, Plays}
-use Rattle.plays.proofs.Heading.{went, head-token, vector-place, end-due, fine-head}
+use Rattle.plays.proofs.Heading.{head-token, vector-place, end-due, fine-head}
 use Rattle.plays.proofs.Stepping.{vec-playable}
 
 -- a V's head tells what it gives
@@ -47,7 +47,7 @@ tells-given text book rows given args tables Shifts p a h = let z : _≡_ {A = �
 tells-given text book rows given args tables (UsesBody i t) p a h = let e = h .3 in let z : _≡_ {A = ℕ} 0 1 = cc in absurd (omega arith)
 
 -- the token ahead stands where the cursor does
-token-at : (text : List ℕ) (c : Cursor) (t : Tok) (vs : Toks) → stream text c ≡ tok t vs → c .at ≡ t .at
+pub token-at : (text : List ℕ) (c : Cursor) (t : Tok) (vs : Toks) → stream text c ≡ tok t vs → c .at ≡ t .at
 token-at text c t vs e = by (ltb (c .at) (c .end)) refl
   where
     by : (b : Bool) → ltb (c .at) (c .end) ≡ b → c .at ≡ t .at
@@ -73,13 +73,13 @@ module _ {g : Ground} {c r d : Cursor} {more level table : ℕ} {x y : Arrays} {
         let n = head-token E _ _ _ (h .1) in
         let at : c .at ≡ p = token-at (g .text) c (n .0) (n .1) (n .2) ∙ vector-place E _ (n .0) (n .1) (n .2) p a _ (h .1) in
         let gave = tells-given (g .text) (g .book) (g .rows) given args (g .known .tables) what p a
-        (subst (λ (z : Head). Tells (g .text) (g .book) (g .rows) given args (g .known .tables) what z) (w .answer) (m .held (w .on))) in
+        (subst (λ (z : Head). Tells (g .text) (g .book) (g .rows) given args (g .known .tables) what z) (w .is) (m .held (w .on))) in
         let fine = fine-head E (g .signals) (st .holding .tidy) .all _ _ _ (h .1) in
-        let q = end-due E (stream (g .text) r) us (rw (w .there) (h .2)) in
+        let q = end-due E (stream (g .text) r) us (rw (w .behind) (h .2)) in
         let v = went close (w .on) (q .1) in
         record {
           told = rw at (told a s (g .tplaces) (g .known .tables) p (E .tables) (st .holding .held) gave (vec-playable fine (st .fits)) (st .shows));
-          behind = λ e. (v .on, v .there);
+          behind = λ e. (v .on, v .behind);
         }
 
 -- what its V gives
@@ -91,7 +91,7 @@ shift-given {g} {p = p} {a = a} given args what st on m =
     let h = st .holds in
     let w = went (m .goes) on (h .1) in
     tells-given (g .text) (g .book) (g .rows) given args (g .known .tables) what p a
-    (subst (λ (z : Head). Tells (g .text) (g .book) (g .rows) given args (g .known .tables) what z) (w .answer) (m .held (w .on)))
+    (subst (λ (z : Head). Tells (g .text) (g .book) (g .rows) given args (g .known .tables) what z) (w .is) (m .held (w .on)))
 
 -- what it shows and assigns is tracked
 pub shift-tracked : {tabs : Tables} {n level : ℕ} {memo memo′ : List ℕ} {a : Assigns} {given : List ℕ} {s : State} (k t p table : ℕ) → Given a given → n ≤ signalsMost → length (s .pins) ≡ n

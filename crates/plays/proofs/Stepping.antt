@@ -2,19 +2,20 @@
 use Prim.Native.Nat.{ℕ, _+_, _-_, _<_, _≤_}
 use native.Mathlib.Omega.{arith}
 use mathlib.Core.Path.{_≡_, refl, sym, ap, _∙_, subst}
-use mathlib.Core.Bool.{Bool, true, false, _||_}
+use mathlib.Core.Bool.{Bool, true, false}
 use mathlib.Core.List.{List, []}
 use lib.ListN.{length, getD, take}
 use lib.Seq.{length-take-le}
 use Rattle.meaning.specs.Bounds.{signalsMost, tablesMost}
 use Rattle.memos.specs.Tracks.{Joins, shownMarks, tracksLength, marksAt, Tracking}
-use Rattle.memos.proofs.Marking.{joins-zero, true-false}
+use Rattle.memos.proofs.Marking.{joins-zero}
 use Rattle.memos.proofs.Tracking.{tracking-same, tracking-none, tracking-joined}
 use Rattle.plays.proofs.Tracks.{assigns-tracked, vector-tracked, chosen-tracked, pins-wide}
-use lib.Dec.{eqb, ltb}
-use borrow.Author.Tests.{lt-ltb, eqb-true}
+use lib.Dec.{ltb}
+use borrow.Author.Tests.{lt-ltb}
 use Rattle.tokens.specs.Tokens.{Toks, toks, left}
-use Rattle.meaning.specs.Lists.{has, inside, count}
+use Rattle.tokens.proofs.Bools.{true-false}
+use Rattle.meaning.specs.Lists.{inside, count}
 use Rattle.meaning.specs.Timing.{Tables}
 use Rattle.meaning.specs.Body.{Assigns, Args, assigning, choosing, Way, looped, shifted, entered, Body, done, vec, inner, marked, outside, shifting, supplied}
 use Rattle.meaning.specs.Data.{assigned}
@@ -26,7 +27,7 @@ use Rattle.held.specs.Held.{freeHead, HeadAt, Holds}
 use Rattle.turns.specs.Few.{loopFew, playingFew, playFew}
 use Rattle.words.specs.Cursor.{alive, stream}
 use Rattle.words.specs.declared.Cursor.{Cursor}
-use Rattle.sets.proofs.Tidy.{TidyBelow, bare, next}
+use Rattle.sets.proofs.Tidy.{TidyBelow, has-below}
 use Rattle.timing.specs.Makes.{Makes}
 use Rattle.timing.specs.Held.{Held}
 use Rattle.measures.specs.Uses.{Given}
@@ -37,6 +38,7 @@ use Rattle.heads.specs.declared.What.{What}
 use Rattle.heads.specs.declared.What.the-variants.{Ends, Vector, Assigns as AssignsOnly, Chooses, Loops, Shifts, Uses as UsesBody}
 use Rattle.heads.specs.Heads.{kindOf, Tells}
 use Rattle.pins.specs.Shown.{tableOf, Feeding, Shows, Playable, Told, vector}
+use Rattle.pins.proofs.Callers.{vector-once}
 use Rattle.plays.specs.declared.Played.{Played}
 use Rattle.plays.specs.Plays.{Ground, Holding, alone, Past, Passes, Summed, Single, Fits, Arrays, arrays, Showing, Standing, Telling, Plays, Ended, nestOf, Steps, Moves, Using, Invoking, Calling}
 use Rattle.plays.proofs.Supply.{same-puts, same-changed, same-playing, same-play}
@@ -108,27 +110,13 @@ told-none h = record { fails = λ q. (let z : _≡_ {A = ℕ} 0 1 = cc in absurd
 
 -- ---- assignments that can be made
 
-below-first : (n x i : ℕ) → x < n → (b : Bool) → eqb x i ≡ b → (o : Bool) → (b || o) ≡ true → (o ≡ true → i < n) → i < n
-below-first n x i h true e o k ih = omega (arith, eqb-true x i e)
-below-first n x i h false e o k ih = ih k
-
-tidy-below : {n : ℕ} {l : List ℕ} → TidyBelow n l → (i : ℕ) → has i l ≡ true → i < n
-unfolding has
-tidy-below bare i h = let z : _≡_ {A = ℕ} 0 1 = cc in absurd (omega arith)
-tidy-below {n} (next {x} {l} b e t) i h = below-first n x i b (eqb x i) refl (has i l) h (tidy-below t i)
-
 pub vec-playable : {n more level p : ℕ} {args : Args} {a : Assigns} {r : Body} → TidyBelow n (assigned a) → Fits more level args (vec p a r) → Playable n a args
 unfolding outside
-vec-playable {n} {more} {level} {p} {args} {a} {r} h f = record { below = tidy-below h; fed = inside-parts (marked a) (outside r) (supplied args) (f .fed) .0 }
+vec-playable {n} {more} {level} {p} {args} {a} {r} h f = record { below = has-below h; fed = inside-parts (marked a) (outside r) (supplied args) (f .fed) .0 }
 
 pub set-playable : {n : ℕ} {args : Args} {a : Assigns} → TidyBelow n (assigned a) → marked a ≡ [] → Playable n a args
 unfolding inside
-set-playable h e = record { below = tidy-below h; fed = rw e }
-
--- a V that is played once
-once : (p : ℕ) (a : Assigns) (s : State) → again 1 (vector p a) s ≡ vector p a s
-unfolding again follow
-once p a s = refl
+set-playable h e = record { below = has-below h; fed = rw e }
 
 -- ---- each head
 
@@ -181,7 +169,7 @@ module _ {g : Ground} {c r : Cursor} {more level table : ℕ} {x : Arrays} {E : 
         let a = i .told .0 in
         let d = met-split i (vecs p a) (i .told .1) in
         let fits : Fits more level (s .args) (vec p a (d .0)) = rw (d .1) at (st .fits) in
-        let once-told = rw (once p a s) at (told a s (g .tplaces) (g .known .tables) p (E .tables) (st .holding .held) (i .told .2) (vec-playable (met-fine i (vecs p a) (i .told .1)) fits) (st .shows)) in
+        let once-told = rw (vector-once p a s) at (told a s (g .tplaces) (g .known .tables) p (E .tables) (st .holding .held) (i .told .2) (vec-playable (met-fine i (vecs p a) (i .told .1)) fits) (st .shows)) in
         steps-on (vector p a) (d .0) (λ z. ap (λ (q : Body). playFew k t q z) (d .1)) (st .holding) (fits-behind-vec (same-puts a s) fits) refl once-told
         (λ h. tracking-joined (λ some room. (vector-tracked (i .told .2) few table p (pins-wide (st .shows) wide) (st .shows .table-is) (once-told .sound h), joins some room)))
         λ h. (i .on, d .2, met-less i)

@@ -8,6 +8,7 @@ use lib.ListN.{getD}
 use lib.Dec.{eqb}
 use borrow.Author.Tests.{eqb-true, eqb-false, not-true}
 use Rattle.tokens.specs.Tokens.{Toks, toks}
+use Rattle.tokens.proofs.Bools.{both}
 use Rattle.meaning.specs.Lists.{count}
 use Rattle.meaning.specs.Body.{Args, Body, shifting}
 use Rattle.meaning.specs.Statements.{Env}
@@ -17,7 +18,6 @@ use Rattle.sums.specs.Sums.{Sums}
 use Rattle.sums.specs.Parts.{Exact}
 use Rattle.tallies.specs.Rows.{sumAt, isSummed, isShifted}
 use Rattle.plays.specs.Plays.{Ground, SumOf, Summed}
-use Rattle.plays.proofs.Fitting.{both}
 
 -- nothing, where no mark is set
 pub summed-none : (g : Ground) (E : Env) (marks sums : List ℕ) → ((i : ℕ) → getD marks i 0 ≡ 0) → Summed g marks sums E

@@ -1,33 +1,24 @@
 -- Whatever is played, the signals that have an argument stay: only characters are taken.
 use Prim.Native.Nat.{ℕ, zero, suc}
-use mathlib.Core.Path.{_≡_, refl, ap, _∙_}
+use mathlib.Core.Path.{_≡_, refl, _∙_}
 use mathlib.Core.Bool.{Bool, true, false}
-use mathlib.Core.List.{List, [], _∷_}
+use mathlib.Core.List.{[], _∷_}
 use lib.Dec.{eqb}
 use Rattle.meaning.specs.Body.{Assigns, Args, mark, Setting, assigning, choosing, Kind, macro, procedure, listed, Way, looped, shifted, entered, Body, done, vec, set′, inner, supplied}
-use Rattle.meaning.specs.Run.{shiftOf, State, Played, behind, taken, put, puts, changed, follow, again, entering}
+use Rattle.meaning.specs.Run.{shiftOf, State, Played, put, puts, changed, follow, again, entering}
 use Rattle.turns.specs.Few.{loopFew, playingFew, playFew}
+use Rattle.pins.proofs.Puts.{supplied-taken}
 
 -- the same signals have arguments
 abbrev pub Same : State → State → Type 0
 Same s s′ = supplied (s′ .args) ≡ supplied (s .args)
-
-same-taken : (i : ℕ) (a : Args) → supplied (taken i a) ≡ supplied a
-unfolding supplied taken
-same-taken i [] = refl
-same-taken i (x ∷ xs) = by (eqb (x .0) i) (same-taken i xs)
-  where
-    by : (b : Bool) → supplied (taken i xs) ≡ supplied xs
-        → supplied (elim b [ true ↦ (x .0, behind (x .1)) ∷ xs | false ↦ x ∷ taken i xs ]) ≡ x .0 ∷ supplied xs
-    by true h = refl
-    by false h = ap (λ (l : List ℕ). x .0 ∷ l) h
 
 same-put : (x : ℕ × ℕ) (s : State) → Same s (put x s)
 unfolding put
 same-put x s = by (eqb (x .1) mark) refl
   where
     by : (b : Bool) → eqb (x .1) mark ≡ b → Same s (put x s)
-    by true e = rw (e, put) (same-taken (x .0) (s .args))
+    by true e = rw (e, put) (supplied-taken (x .0) (s .args))
     by false e = rw (e, put)
 
 pub same-puts : (a : Assigns) (s : State) → Same s (puts a s)

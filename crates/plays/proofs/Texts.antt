@@ -51,7 +51,7 @@ module _ (text places lists tplaces waves book rows list : List ℕ) (known : Kn
     abbrev env : Env
     env = h .tabled .parts .env
 
-    is-whole : Whole env (h .tabled .parts .names) d
+    pub is-whole : Whole env (h .tabled .parts .names) d
     is-whole = whole (toks text 0) d (h .tabled .rest) (h .tabled .parts)
 
     holding : Holding all env
@@ -64,7 +64,7 @@ module _ (text places lists tplaces waves book rows list : List ℕ) (known : Kn
     all-fit : All (λ x. Playing (x .1 .body)) (d .patterns)
     all-fit = patterns-fit (toks text 0) d (h .tabled .rest) (h .tabled .parts)
 
-    is-listed : Listed env (d .patterns) (d .listed) run
+    pub is-listed : Listed env (d .patterns) (d .listed) run
     is-listed = listed-stand env (d .patterns) (is-whole .patterns) (d .listed) run (h .run-is)
 
     -- all patterns are left

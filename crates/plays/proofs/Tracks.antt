@@ -3,22 +3,24 @@ use Prim.Native.Nat.{ℕ, zero, suc, _+_, _-_, _*_, _<_, _≤_}
 use native.Mathlib.Nat.{add-zero, zero-add, add-suc, suc-add}
 use native.Mathlib.Omega.{arith}
 use mathlib.Core.Path.{_≡_, refl, sym, ap, _∙_, subst}
-use mathlib.Core.Bool.{Bool, true, false, _&&_, _||_}
+use mathlib.Core.Bool.{Bool, true, false, _||_}
 use mathlib.Core.Option.{Option, none, some}
 use mathlib.Core.Logic.{_⊎_, inl, inr}
-use mathlib.Core.List.{List, [], _∷_, _++_}
+use mathlib.Core.List.{List, [], _∷_}
 use lib.Dec.{eqb, ltb}
 use lib.ListN.{length, getD, replicate}
 use borrow.Author.Tests.{eqb-true, eqb-false, ltb-true}
 use Rattle.tokens.specs.Tokens.{Toks}
+use Rattle.tokens.proofs.Bools.{both, true-false}
 use Rattle.meaning.specs.Bounds.{signalsMost, tablesMost, depthMost}
 use Rattle.meaning.specs.Timing.{Wave, Tables}
 use Rattle.meaning.specs.Body.{Assigns, Args, mark, choosing, Kind, macro, procedure, Body, done, vec, marked, argOf}
-use Rattle.meaning.specs.Run.{State, Cycle, Played, unassigned, next, puts, changed, cycleAt, follow, again, bare, entering}
+use Rattle.meaning.specs.Run.{State, Played, unassigned, next, puts, changed, cycleAt, follow, again, bare, entering}
 use Rattle.meaning.specs.Statements.{Env}
 use Rattle.words.specs.declared.Cursor.{Cursor}
 use Rattle.meaning.specs.Meaning.{hasWave, allWaves, tableAt, playable, firstFailing}
-use Rattle.meaning.proofs.Turns.{orElse, fails-++}
+use Rattle.meaning.proofs.Turns.{sound-parts}
+use Rattle.meaning.proofs.Rows.{puts-table, puts-long}
 use Rattle.walks.specs.Turns.{lostAll}
 use Rattle.walks.proofs.Shifts.{puts-args}
 use Rattle.measures.specs.Uses.{Given}
@@ -26,25 +28,21 @@ use Rattle.assigns.specs.Given.{charOf}
 use lib.Seq.{length-take-le}
 use Rattle.pins.specs.Shown.{tableOf, valuesLength, Shows, vector}
 use Rattle.plays.specs.Plays.{Ground, Arrays, nestOf, Fits, Invoking}
-use Rattle.pins.proofs.Puts.{shown, puts-table, puts-long, puts-pin}
+use Rattle.pins.proofs.Puts.{shown, puts-pin}
 use Rattle.sums.specs.Sums.{okAt}
 use Rattle.sums.proofs.Cycles.{passes}
 use Rattle.memos.specs.Tracks.{isMarked, assignedMark, Joins, shownMarks, tracksLength, marksAt, Granted, Like, Lands, Tracked, Tracking}
-use Rattle.memos.proofs.Marking.{zero-marked, true-false, joins-zero, joins-same, shown-put, shown-kept, shown-under}
+use Rattle.memos.proofs.Marking.{zero-marked, joins-zero, joins-same, shown-put, shown-kept, shown-under}
 use Rattle.memos.proofs.Tracking.{tracked-then, tracked-same, tracked-silent, tracked-wide, tracking-joined, like-same}
 
 -- ---- a cycle that can be played shows what can be shown
 
-and-both : (a b : Bool) → (a && b) ≡ true → (a ≡ true) × (b ≡ true)
-and-both true b h = (refl, h)
-and-both false b h = true-false h refl
-
 waves-each : (ws : List Wave) (s : ℕ) (cs : List ℕ) → allWaves s cs ws ≡ true → (j : ℕ) → j < length cs → (eqb (getD cs j 0) unassigned || hasWave (s + j) (getD cs j 0) ws) ≡ true
 unfolding allWaves
 waves-each ws s [] h j l = absurd (omega arith)
-waves-each ws s (c ∷ cs) h zero l = rw add-zero (and-both (eqb c unassigned || hasWave s c ws) (allWaves (suc s) cs ws) h .0)
+waves-each ws s (c ∷ cs) h zero l = rw add-zero (both (eqb c unassigned || hasWave s c ws) (allWaves (suc s) cs ws) h .0)
 waves-each ws s (c ∷ cs) h (suc j) l =
-    let r = waves-each ws (suc s) cs (and-both (eqb c unassigned || hasWave s c ws) (allWaves (suc s) cs ws) h .1) j (omega arith) in rw (add-suc, ← suc-add) r
+    let r = waves-each ws (suc s) cs (both (eqb c unassigned || hasWave s c ws) (allWaves (suc s) cs ws) h .1) j (omega arith) in rw (add-suc, ← suc-add) r
 
 passed-waves : (tabs : Tables) (p : ℕ) (s : State) (k : ℕ) → s .table ≡ some k → (w : Bool) → allWaves 0 (s .pins) (tableAt tabs k) ≡ w → firstFailing tabs (cycleAt p s ∷ []) ≡ none → w ≡ true
 unfolding firstFailing playable cycleAt
@@ -69,21 +67,6 @@ table-below t k e = by (ltb t tablesMost) refl
     by : (w : Bool) → ltb t tablesMost ≡ w → (t ≡ k) × (k < tablesMost)
     by true q = let z : some t ≡ some k = rw (q, tableOf) at e in let same : t ≡ k = cc in (same, omega (arith, ltb-true t tablesMost q))
     by false q = let z : none ≡ some k = rw (q, tableOf) at e in let w : _≡_ {A = ℕ} 0 1 = cc in absurd (omega arith)
-
-or-first : (o : Option ℕ) → orElse none o ≡ none → o ≡ none
-unfolding orElse
-or-first o h = h
-
-or-some : (k : ℕ) (o : Option ℕ) → orElse (some k) o ≡ none → ⊥
-unfolding orElse
-or-some k o h = let w : _≡_ {A = ℕ} 0 1 = cc in omega arith
-
-both-none : (tabs : Tables) (x y : List Cycle) → firstFailing tabs (x ++ y) ≡ none → (firstFailing tabs x ≡ none) × (firstFailing tabs y ≡ none)
-both-none tabs x y h = by (firstFailing tabs x) refl (sym (fails-++ tabs x y) ∙ h)
-  where
-    by : (o : Option ℕ) → firstFailing tabs x ≡ o → orElse o (firstFailing tabs y) ≡ none → (firstFailing tabs x ≡ none) × (firstFailing tabs y ≡ none)
-    by none e q = (e, or-first (firstFailing tabs y) q)
-    by (some k) e q = absurd (or-some k (firstFailing tabs y) q)
 
 pub pins-wide : {text : List ℕ} {n : ℕ} {values : List ℕ} {table : ℕ} {feeds : List ℕ} {level : ℕ} {s : State} → Shows text n values table feeds level s → n ≤ length values
     → length (s .pins) ≡ n
@@ -216,9 +199,9 @@ module _ {n : ℕ} {a : Assigns} {given : List ℕ} (gave : Given a given) (few 
         → Tracked tabs n (givenMarks given table) s (again (suc t) (vector p a))
     unfolding again follow
     turns-tracked zero p table s wide chosen sound =
-        tracked-silent (vector-tracked table p wide chosen (both-none tabs (vector p a s .1) [] sound .0))
+        tracked-silent (vector-tracked table p wide chosen (sound-parts tabs (vector p a s .1) [] sound .0))
     turns-tracked (suc t) p table s wide chosen sound =
-        let b = both-none tabs (vector p a s .1) (again (suc t) (vector p a) (puts a s) .1) sound in
+        let b = sound-parts tabs (vector p a s .1) (again (suc t) (vector p a) (puts a s) .1) sound in
         let first = vector-tracked table p wide chosen (b .0) in
         tracked-then wide first (turns-tracked t p table (puts a s) (puts-long a s ∙ wide) (puts-table a s ∙ chosen) (b .1)) λ i l. joins-same _ _ refl
 

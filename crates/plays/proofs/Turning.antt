@@ -1,11 +1,13 @@
 -- A Loop: its first turn is all where that fails, where there is no other, or where no second may be open; else its second turn follows.
 use Prim.Native.Nat.{ℕ, zero, suc, _-_, _<_, _≤_}
 use native.Mathlib.Omega.{arith}
+use native.Mathlib.Nat.{pos-of-ne-zero}
 use mathlib.Core.Path.{_≡_, refl, sym, _∙_}
 use mathlib.Core.Bool.{Bool, true, false, _||_}
 use lib.Dec.{ltb, eqb}
 use borrow.Author.Tests.{le-ltb, ne-eqb, ltb-false, eqb-false}
 use Rattle.tokens.specs.Tokens.{Toks}
+use Rattle.tokens.proofs.Bools.{neither}
 use Rattle.meaning.specs.Timing.{Tables}
 use Rattle.meaning.specs.Body.{Body}
 use Rattle.meaning.specs.Statements.{Env}
@@ -14,16 +16,12 @@ use Rattle.turns.specs.Few.{loopFew, playFew}
 use Rattle.plays.specs.declared.Played.{Played}
 use Rattle.plays.specs.Plays.{Ground, Arrays, Standing, Plays}
 use Rattle.plays.proofs.Supply.{same-play}
-use Rattle.plays.proofs.Fitting.{neither, fits-again}
+use Rattle.plays.proofs.Fitting.{fits-again}
 use Rattle.plays.proofs.Following.{first-fails, failing-plays, second-alike, alike-same, alike-then, told-alike}
 
 or-last : (a b : Bool) → (a || b) ≡ true → b ≡ false → a ≡ true
 or-last true b h e = refl
 or-last false b h e = let z : true ≡ false = sym h ∙ e in let w : _≡_ {A = ℕ} 0 1 = cc in absurd (omega arith)
-
-positive : (k : ℕ) → (k ≡ 0 → ⊥) → 0 < k
-positive zero h = absurd (h refl)
-positive (suc k) h = omega arith
 
 -- two turns
 pub twice : (n k : ℕ) (f : ℕ → State → Play) (s : State) → 2 ≤ n → 0 < k → loopFew n k f s ≡ follow (f k s) (f (k - 1))
@@ -55,7 +53,7 @@ module _ {g : Ground} {tabs : Tables} {level : ℕ} {y : Arrays} {us : Toks} {r 
         let i = neither (r .failed || ltb n 2) (eqb k 0) h in
         let j = neither (r .failed) (ltb n 2) (i .0) in
         let l : 2 ≤ n = ltb-false n 2 (j .1) in
-        let m : 0 < k = positive k (eqb-false k 0 (i .1)) in
+        let m : 0 < k = pos-of-ne-zero (eqb-false k 0 (i .1)) in
         record {
           told = told-alike (alike-then (alike-same (twice n k f s l m)) (second-alike tabs (f k s) (f (k - 1)) (p .told .sound (j .0)))) (q .told);
           behind = q .behind;
@@ -63,7 +61,7 @@ module _ {g : Ground} {tabs : Tables} {level : ℕ} {y : Arrays} {us : Toks} {r 
 
 -- a second turn may be open
 pub second-open : (n k : ℕ) (f : Bool) → ((f || ltb n 2) || eqb k 0) ≡ false → 0 < k
-second-open n k f h = positive k (eqb-false k 0 (neither (f || ltb n 2) (eqb k 0) h .1))
+second-open n k f h = pos-of-ne-zero (eqb-false k 0 (neither (f || ltb n 2) (eqb k 0) h .1))
 
 -- there is one
 pub second-due : (n k : ℕ) (f : Bool) → ((f || ltb n 2) || eqb k 0) ≡ false → 2 ≤ n

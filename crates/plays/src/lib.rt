@@ -30,11 +30,11 @@ ghost use Rattle.meaning.specs.Bounds.{depthMost};
 ghost use Rattle.memos.specs.Tracks.{isMarked, assignedMark, marksMost, Joins, shownMarks, tracksLength, marksFrom, marksAt, Granted};
 ghost use Rattle.memos.specs.Memo.{memoRow, beforeAt, AtLevel, Brings};
 use heads::Known;
+use measures::DEPTH;
 use memos::Found;
 use memos::Use;
 use words::Cursor;
 
-const DEPTH: usize = 8;
 // Second turns that may be open at once: a failing cycle is decided by one pin and the table.
 const SECONDS: usize = 2;
 

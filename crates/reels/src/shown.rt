@@ -19,12 +19,6 @@ struct Piece {
     visits: usize,
 }
 
-fn least(a: usize, b: usize) -> usize
-    ensures { λ r. ⌜ (r ≤ a) × (r ≤ b) × (0 < a → 0 < b → 0 < r) ⌝ }
-{
-    if a < b { a } else { b }
-}
-
 // min(wanted, cycles left).
 fn due(cycles: usize, first: usize, wanted: usize) -> usize
     ensures { λ r. ⌜ first + r ≤ 18446744073709551615 ⌝ }
@@ -32,7 +26,7 @@ fn due(cycles: usize, first: usize, wanted: usize) -> usize
     if cycles <= first {
         return 0;
     }
-    least(wanted, cycles - first)
+    sets::least(wanted, cycles - first)
 }
 
 // Of the rows that are left, as many as a page holds.
@@ -40,7 +34,7 @@ fn fitting(left: usize, width: usize) -> usize
     requires { ⌜ (2 ≤ width) × (width ≤ signalsMost + 2) ⌝ }
     ensures { λ r. ⌜ (r ≤ left) × (r * width ≤ 1048576) × (0 < left → 0 < r) ⌝ }
 {
-    least(left, ROWS / width)
+    sets::least(left, ROWS / width)
 }
 
 // Nothing more is written.

@@ -14,28 +14,19 @@ use Rattle.tokens.specs.Written.{same}
 use Rattle.tokens.specs.Tokens.{Tok, Toks, stop, tok}
 use Rattle.meaning.specs.Reader.{any, aheadOf, ahead as aheadIs}
 use Rattle.meaning.specs.Names.{find}
+use Rattle.meaning.proofs.Options.{or-none, or-or}
+use Rattle.meaning.proofs.Others.{same-eq}
 use Rattle.words.specs.Cursor.{span, ahead, stream, alive, Goes}
 use Rattle.words.specs.Values.{told}
 use Rattle.words.specs.declared.Cursor.{Cursor}
-use Rattle.words.proofs.Words.{same-eq, same-self}
-use Rattle.words.proofs.Flow.{stream-on, stream-stop}
-use Rattle.feeds.proofs.Ahead.{went}
+use Rattle.words.proofs.Words.{same-self}
+use Rattle.words.proofs.Flow.{stream-on, stream-stop, went}
 use Rattle.labels.specs.Table.{wordOf, wordsOf, numberOf}
 use Rattle.labels.proofs.Numbers.{numbered}
 use Rattle.references.specs.References.{behind, nextAt, nameAt, pastBy}
 use Rattle.references.specs.Filled.{counted, noted, Filled}
 
 -- ---- what is found first
-
-or-none : (x : Option ℕ) → orElse x none ≡ x
-unfolding orElse
-or-none none = refl
-or-none (some x) = refl
-
-or-or : (x y z : Option ℕ) → orElse (orElse x y) z ≡ orElse x (orElse y z)
-unfolding orElse
-or-or none y z = refl
-or-or (some x) y z = refl
 
 pub find-append : (xs ys : List (Tok × ℕ)) (w : List ℕ) → find (xs ++ ys) w ≡ orElse (find xs w) (find ys w)
 unfolding find orElse

@@ -7,14 +7,15 @@ use mathlib.Core.Option.{Option, none, some, orElse}
 use mathlib.Core.List.{List, [], _∷_, _++_}
 use Rattle.tokens.specs.Written.{bytes, same, cases}
 use Rattle.tokens.specs.Tokens.{Tok, Toks, stop, tok, toks}
+use Rattle.tokens.proofs.Bools.{neither}
 use Rattle.meaning.specs.Reader.{any, aheadOf}
 use Rattle.meaning.specs.Names.{find, isSome}
 use Rattle.meaning.specs.Body.{assigning, choosing, looped, shifted, entered, Body, done, vec, set′, inner}
 use Rattle.meaning.specs.Statements.{Env}
 use Rattle.meaning.specs.Run.{cycles}
 use Rattle.held.specs.Held.{Holds}
-use Rattle.words.proofs.Words.{neither, same-eq}
 use Rattle.meaning.specs.Labels.{Here, begins, due, within, beginning, parting, labelling, behind, labelled, labelsFrom, labels, taken, usedBy}
+use Rattle.meaning.proofs.Others.{same-eq}
 use Rattle.labels.specs.Table.{wordsOf, numberOf, Gathers}
 use Rattle.labels.specs.declared.Gathered.{Gathered}
 use Rattle.labels.proofs.Chains.{taken-number}

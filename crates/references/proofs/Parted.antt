@@ -22,8 +22,8 @@ use Rattle.held.proofs.Grammar.{moves-assign, moves-argument, moves-statements}
 use Rattle.held.proofs.Leads.{Leads, leads-bind, leads-give, leads-if, leads-while}
 use Rattle.held.proofs.Due.{any-is, due-is}
 use Rattle.held.proofs.All.{all-more}
-use Rattle.words.proofs.Words.{same-eq}
 use Rattle.meaning.specs.Labels.{parting}
+use Rattle.meaning.proofs.Others.{same-eq}
 
 -- the tokens us stand in ts behind a token behind which something begins
 pub data Parted : Toks → Toks → Type 0 where

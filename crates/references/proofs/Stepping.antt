@@ -16,7 +16,7 @@ use Rattle.held.proofs.Turn.{takes-head}
 use Rattle.held.proofs.Only.{Split, head-held}
 use Rattle.words.specs.Cursor.{alive, stream}
 use Rattle.words.specs.declared.Cursor.{Cursor}
-use Rattle.feeds.proofs.Ahead.{Went, went}
+use Rattle.words.proofs.Flow.{went, Went}
 use Rattle.timing.specs.Makes.{Makes}
 use Rattle.measures.specs.Measures.{Measures}
 use Rattle.measures.specs.Book.{bodies, measureAt}

@@ -9,9 +9,8 @@ ghost use Rattle.labels.specs.Table.{Held};
 ghost use Rattle.references.specs.References.{nameAt, pastBy};
 ghost use Rattle.references.specs.Filled.{noted, Filled, pastOf, tables, Stood, Promised, Stepped};
 use heads::Known;
+use measures::DEPTH;
 use words::Cursor;
-
-const DEPTH: usize = 8;
 
 // The cursor behind what was read, and how many cycles come before it; was it the `}`?
 pub struct Passed {

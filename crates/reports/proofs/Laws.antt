@@ -50,11 +50,6 @@ module _ (w : List ℕ) (n i : ℕ) where
   unfolding value bounded
   value-end h k = rw (drop-of-length-le w h) (rw (le-leb n cyclesMost k, bounded))
 
-pub number-some : (w : List ℕ) → 0 < length w → number w ≡ value 0 w
-unfolding number
-number-some [] h = absurd (omega arith)
-number-some (b ∷ s) h = refl
-
 pub number-all : (w : List ℕ) (n : ℕ) → bounded (value 0 w) ≡ some n → told (ltb 0 (length w)) n ≡ bounded (number w)
 unfolding number bounded
 number-all [] n h = refl

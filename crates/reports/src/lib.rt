@@ -10,17 +10,13 @@ ghost use Rattle.words.specs.Table.{names};
 ghost use Rattle.words.specs.Values.{valueOf, told};
 ghost use Rattle.reports.specs.Report.{isState, state as stateDue, offset as offsetDue, head as headDue, Record, oneRecord, closing as closingDue};
 ghost use Rattle.reports.specs.Read.{bounded, Passes, earlier, outsideAt, Places, Opens, Decides};
+use words::BAD_NUMBER;
 use words::Cursor;
+use words::NOT_HERE;
+use words::UNKNOWN;
 use words::Value;
 
 const OFFSET_MOST: u64 = 1_099_511_627_776;
-
-// Refusals.
-const NOT_HERE: u8 = 4;
-
-const UNKNOWN: u8 = 6;
-
-const BAD_NUMBER: u8 = 9;
 
 // A state letter, and the cursor behind its quotes.
 struct Stated {

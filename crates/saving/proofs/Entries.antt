@@ -8,18 +8,19 @@ use mathlib.Core.List.{List, [], _∷_, _++_}
 use lib.ListN.{length}
 use Rattle.tokens.specs.Written.{bytes, same}
 use Rattle.tokens.specs.Tokens.{Tok, Toks, stop, tok, toks, faultOf}
-use Rattle.meaning.specs.Refusals.{notDefined, tooLarge, notPlayable}
-use Rattle.meaning.specs.Reader.{Res, ok, refuse, _>>_, due}
+use Rattle.meaning.specs.Refusals.{notDefined, tooLarge, notPlayable, acrossEdge}
+use Rattle.meaning.specs.Reader.{Res, ok, refuse, _>>_}
 use Rattle.meaning.specs.Names.{find, name}
 use Rattle.meaning.specs.Groups.{groups}
 use Rattle.meaning.specs.Body.{listed, entered, Body, inner}
 use Rattle.meaning.specs.Statements.{Decl, Decls}
 use Rattle.meaning.specs.Document.{listEntry, burst, Read, document}
 use Rattle.meaning.specs.Run.{cyclesOf}
-use Rattle.meaning.specs.Meaning.{Answer, given, refused, answering, runOf, firstFailing, Meaning, fitting, judged, accept, meaning}
+use Rattle.meaning.specs.Edges.{firstInRun}
+use Rattle.meaning.specs.Meaning.{Answer, given, refused, answering, runOf, firstFailing, Meaning, fitting, ordered, meaningOf, judged, accept, meaning}
 use Rattle.meaning.proofs.SameTokens.{Stands, stands-on, stands-there}
-use Rattle.held.proofs.Rest.{Rest, all, behind, rest-rest, Moves, moving, moves-leaves, moves-bind, moves-due, leaves-option}
-use Rattle.held.proofs.Grammar.{moves-signals, moves-groups, moves-timing, moves-macro, moves-procedure}
+use Rattle.held.proofs.Rest.{Rest, all, behind, rest-rest, moves-leaves, moves-due, leaves-option}
+use Rattle.held.proofs.Grammar.{moves-signals, moves-groups, moves-timing, moves-macro, moves-procedure, opening-moves}
 use Rattle.held.proofs.Bodies.{leads-bodies}
 use Rattle.held.proofs.Leads.{Leads, leads-bind, leads-give, leads-if, leads-until}
 use Rattle.held.proofs.Due.{name-is, due-is}
@@ -77,9 +78,6 @@ burst-lists ts =
     let r3 = rest-rest (moves-leaves (moves-due _) .rest cs c ds k) r2 in
     let r4 = rest-rest (moves-leaves (moves-due _) .rest ds d es m) r3 in
     entries-rest l r4 (leads-until (Reading es) listEntry (one-entry es) (λ s us ts q i. (i .0, rest-rest q (i .1))) "}" [] es (tt, all) .all l fs n .0))
-
-opening-moves : Moves (do due "STIL"; due "1.0"; due ";")
-opening-moves = moves-bind _ _ (moves-due _) λ x. search moving
 
 burst-at : (ts : Toks) (d : Read) (us : Toks) (p : Parts ts d us) → Rest (p .burst-at) ts
 burst-at ts d us p =
@@ -145,16 +143,20 @@ listed-at text d us {n} {p} e h =
 -- ---- whatever the text: only the run refuses with 15
 
 pub listed-place : (text : List ℕ) (p : ℕ) → meaning text ≡ refused notDefined p → ListedAt text p
-unfolding meaning accept answering judged
+unfolding meaning accept answering judged ordered
 listed-place text p e = by (faultOf text) refl e
   where
-    fitted : {A : Type 0} (x : Bool) (o : Option ℕ) (m : Meaning) → _≡_ {A = Answer Meaning} (elim x [ false ↦ refused tooLarge 0 | true ↦ elim o [ some q ↦ refused notPlayable q | none ↦ given m ] ]) (refused notDefined p) → A
+    paired : {A : Type 0} (o : Option ℕ) (m : Meaning) → _≡_ {A = Answer Meaning} (elim o [ some q ↦ refused acrossEdge q | none ↦ given m ]) (refused notDefined p) → A
+    paired (some q) m e = let z : _≡_ {A = ℕ} 25 15 = cc in absurd (omega arith)
+    paired none m e = let z : _≡_ {A = ℕ} 0 1 = cc in absurd (omega arith)
+
+    fitted : {A : Type 0} (x : Bool) (o : Option ℕ) (m : Meaning) → _≡_ {A = Answer Meaning} (elim x [ false ↦ refused tooLarge 0 | true ↦ elim o [ some q ↦ refused notPlayable q | none ↦ ordered m ] ]) (refused notDefined p) → A
     fitted false o m e = let z : _≡_ {A = ℕ} 16 15 = cc in absurd (omega arith)
     fitted true (some q) m e = let z : _≡_ {A = ℕ} 17 15 = cc in absurd (omega arith)
-    fitted true none m e = let z : _≡_ {A = ℕ} 0 1 = cc in absurd (omega arith)
+    fitted true none m e = paired (firstInRun (m .tables) (length (m .signals)) (m .run)) m e
 
     ran : (d : Read) (us : Toks) → document (toks text 0) ≡ ok d us → (a : Answer Body) → runOf (d .patterns) (d .listed) ≡ a → answering a (judged d) ≡ refused notDefined p → ListedAt text p
-    ran d us q (given r) f e = fitted (fitting r) (firstFailing (d .tables) (cyclesOf (length (d .signals)) r)) _ e
+    ran d us q (given r) f e = fitted (fitting r) (firstFailing (d .tables) (cyclesOf (length (d .signals)) r)) (meaningOf d r) e
     ran d us q (refused n s) f e = let k : s ≡ p = cc in subst (ListedAt text) k (listed-at text d us q f)
 
     read : (r : Res Read) → document (toks text 0) ≡ r → accept r ≡ refused notDefined p → ListedAt text p

@@ -21,7 +21,7 @@ use Rattle.meaning.specs.Names.{name, dueAmong, newName, known, oldName, within
 use Rattle.meaning.specs.Labels.{usedTwice, earlier, eachOnce}
 use Rattle.meaning.specs.Signals.{Names, signal, signals, signalUpTo, signalsUpTo}
 use Rattle.meaning.specs.Groups.{term, sign, joined, more, terms, bracket, expression, group, groups, groupUpTo, groupsUpTo}
-use Rattle.meaning.specs.Timing.{Wave, Tables, quoted, letterDue, alternative, letters, Events, oneEvent, event, entry, waveforms, table, timing}
+use Rattle.meaning.specs.Timing.{Wave, Tables, quoted, Signed, timeOf, signedQuoted, letterDue, alternative, letters, Events, oneEvent, event, entry, waveforms, table, timing}
 use Rattle.meaning.specs.Body.{Assigns, Args, Kind, Body}
 use Rattle.meaning.specs.Data.{charsOf, times, repeated, piece, part, dataRead, assign, assigns, argument, arguments}
 use Rattle.meaning.specs.Statements.{Decls, Env, Head, ends, vecs, sets, loops, shifts, uses, used, chosen, looping, shiftHead, labelHead, head, inShift, behind, statementsF, statements, declared}
@@ -210,6 +210,14 @@ low-quoted : (a : ℕ) → Low (quoted a)
 unfolding quoted
 low-quoted a = search lowly depth 9
 
+low-time : (sign : ℕ → Signed) → Low (timeOf sign)
+unfolding timeOf
+low-time sign = search lowly
+
+low-signed : Low signedQuoted
+unfolding signedQuoted
+low-signed = search (lowly, low-ahead, low-time) depth 9
+
 low-letter : Low letterDue
 unfolding letterDue
 low-letter = search lowly
@@ -224,7 +232,7 @@ low-letters = low-bind _ _ low-letter λ e. low-while alternative (λ es. (low-a
 
 low-oneEvent : (n : ℕ) (s : Events) → Low (oneEvent n s)
 unfolding oneEvent
-low-oneEvent n s = search (lowly, low-quoted, low-letters) depth 10
+low-oneEvent n s = search (lowly, low-signed, low-letters) depth 10
 
 low-event : (n : ℕ) (s : Events) → Low (event n s)
 unfolding event

@@ -11,21 +11,19 @@ use lib.ListN.{length}
 use borrow.Author.Tests.{lt-ltb, le-ltb, eq-eqb, ne-eqb, eqb-false, leb-true, leb-false}
 use Rattle.tokens.specs.Written.{bytes, same, cases}
 use Rattle.tokens.specs.Bytes.{between}
-use Rattle.tokens.specs.Tokens.{Tok, Toks, stop, tok, toks, left}
+use Rattle.tokens.specs.Tokens.{Tok, Toks, stop, toks, left}
 use Rattle.tokens.proofs.Laws.{unfolds, left-most}
+use Rattle.tokens.proofs.Bools.{never}
 use Rattle.words.specs.Cursor.{ahead, stopNo, stream, Stands}
 use Rattle.words.specs.Values.{told}
 use Rattle.words.specs.declared.Cursor.{Cursor}
-use Rattle.words.proofs.Flow.{stream-on, stream-stop}
+use Rattle.words.proofs.Flow.{stream-stop, token-here, fewer}
 use Rattle.saving.specs.Saving.{Span, Block, Turn, on, ends, closing, beginning, turn, following, blocksFrom, blocks, inBlock, blockAt, semicolon, upTo, entry, ofBlock, hurt}
 use Rattle.saving.specs.Found.{spanIf, hurtOf, begunIn, turnedTo, Scans}
 use Rattle.saving.specs.declared.Hurt.{Hurt}
 use Rattle.saving.specs.declared.Scan.{Scan}
 
 -- ---- one token
-
-never : {A : Type 0} → false ≡ true → A
-never e = let z : _≡_ {A = ℕ} 0 1 = cc in absurd (omega arith)
 
 module _ (q : ℕ) where
   pub close-outside : (s : Scan) → s .depth ≡ 0 → Scans (closing (s .depth) (begunIn s) q) q (record { depth = 0; begun = s .begun; first = s .first; ended = false })
@@ -188,15 +186,8 @@ pub among : {text : List ℕ} {at : ℕ} {c : Cursor} → Stands text at c → A
 among {text} {at} s = record { place = at; there = s .there }
 
 module _ (text : List ℕ) (c : Cursor) (h : c .at < c .end) where
-  here : stream text c ≡ tok (ahead text c) (toks text (c .end))
-  here = stream-on text c (lt-ltb (c .at) (c .end) h)
-
   pub token-inside : Among text c → c .at < length text
-  token-inside a = let u = unfolds text (a .place) (ahead text c) (toks text (c .end)) (sym (a .there) ∙ here) in omega (arith, u .some, u .within)
-
-  pub fewer : {d : Cursor} → Stands text (c .end) d → suc (left (stream text d)) ≡ left (stream text c)
-  unfolding left
-  fewer {d} s = ap (λ (ts : Toks). suc (left ts)) (s .there) ∙ sym (ap left here)
+  token-inside a = let u = unfolds text (a .place) (ahead text c) (toks text (c .end)) (sym (a .there) ∙ token-here text c h) in omega (arith, u .some, u .within)
 
 -- ---- the block that p lies in
 
@@ -218,13 +209,13 @@ module _ (text : List ℕ) (p : ℕ) where
   module _ {c : Cursor} {s : Scan} (l : Looks c s) (h : c .at < c .end) where
     pub looks-room : s .depth < length text
     unfolding left
-    looks-room = let k : left (stream text c) ≡ suc (left (toks text (c .end))) = ap left (here text c h) in omega (arith, l .few)
+    looks-room = let k : left (stream text c) ≡ suc (left (toks text (c .end))) = ap left (token-here text c h) in omega (arith, l .few)
 
     module _ {r : Scan} (t : Scans (turn (s .depth) (begunIn s) (ahead text c)) (c .at + 1) r) where
       one-on : blockAt p (blocks text) ≡ blockAt p (following (turnedTo (r .ended) r (c .at + 1)) (λ d o. blocksFrom (length text) d o (toks text (c .end))))
       unfolding blocksFrom
       one-on =
-          l .still ∙ ap (λ (ts : Toks). blockAt p (blocksFrom (length text) (s .depth) (begunIn s) ts)) (here text c h)
+          l .still ∙ ap (λ (ts : Toks). blockAt p (blocksFrom (length text) (s .depth) (begunIn s) ts)) (token-here text c h)
           ∙ ap (λ (x : Turn). blockAt p (following x (λ d o. blocksFrom (length text) d o (toks text (c .end))))) (t .turned)
 
       pub looks-found : ((r .ended && leb (r .first) p) && ltb p (c .at + 1)) ≡ true → some (record { first = r .first; behind = c .at + 1 }) ≡ blockAt p (blocks text)
@@ -259,11 +250,11 @@ module _ (text : List ℕ) (p : ℕ) where
 module _ (text : List ℕ) where
   pub semicolon-here : (c : Cursor) → c .at < c .end → same (ahead text c .word) (bytes ";") ≡ true → semicolon (stream text c) ≡ some (c .at + 1)
   unfolding semicolon
-  semicolon-here c h e = rw (here text c h, semicolon) (rw e)
+  semicolon-here c h e = rw (token-here text c h, semicolon) (rw e)
 
   pub semicolon-later : (c : Cursor) {d : Cursor} → c .at < c .end → same (ahead text c .word) (bytes ";") ≡ false → Stands text (c .end) d → semicolon (stream text c) ≡ semicolon (stream text d)
   unfolding semicolon
-  semicolon-later c h e w = rw (here text c h, semicolon) (rw e (ap semicolon (sym (w .there))))
+  semicolon-later c h e w = rw (token-here text c h, semicolon) (rw e (ap semicolon (sym (w .there))))
 
   pub semicolon-none : (c : Cursor) → c .end ≤ c .at → semicolon (stream text c) ≡ none
   unfolding semicolon
@@ -277,7 +268,7 @@ module _ (text : List ℕ) where
     -- up to the `;` that is found behind the name
     pub entry-upto : c .at < c .end → {d : Cursor} → Stands text (c .end) d → entry (toks text p) ≡ upTo (c .at) (semicolon (stream text d))
     unfolding entry
-    entry-upto h {d} v = ap entry (sym (w .there)) ∙ ap entry (here text c h) ∙ ap (λ (ts : Toks). upTo (c .at) (semicolon ts)) (sym (v .there))
+    entry-upto h {d} v = ap entry (sym (w .there)) ∙ ap entry (token-here text c h) ∙ ap (λ (ts : Toks). upTo (c .at) (semicolon ts)) (sym (v .there))
 
 pub upto-found : (a : ℕ) {o : Option ℕ} {q : ℕ} → o ≡ some q → upTo a o ≡ some (record { first = a; behind = q })
 unfolding upTo

@@ -7,7 +7,7 @@ use mathlib.Core.Bool.{Bool, true, false, _&&_}
 use mathlib.Core.List.{List, [], _∷_}
 use lib.Dec.{eqb, ltb}
 use lib.ListN.{length, getD, set}
-use borrow.Author.Tests.{eqb-true, ltb-true, ltb-false}
+use borrow.Author.Tests.{eqb-true, ltb-false}
 use Rattle.saving.specs.Saving.{spaced}
 
 pub spaced-length : (a e : ℕ) (s : List ℕ) → length (spaced a e s) ≡ length s
@@ -71,14 +71,6 @@ spaced-past (suc a) (suc e) (b ∷ s) h = ap (λ (l : List ℕ). b ∷ l) (space
 -- as the code goes on, and stops
 pub spaced-step : (i e : ℕ) (s : List ℕ) → i < e → spaced i e s ≡ spaced (i + 1) e (set s i 32)
 spaced-step i e s h = rw add-one (spaced-on i e s h)
-
-pub both-below : (i e n : ℕ) → (ltb i e && ltb i n) ≡ true → (i < e) × (i < n)
-both-below i e n h = by (ltb i e) (ltb i n) refl refl h
-  where
-    by : (x y : Bool) → ltb i e ≡ x → ltb i n ≡ y → (x && y) ≡ true → (i < e) × (i < n)
-    by true true p q h = (ltb-true i e p, ltb-true i n q)
-    by true false p q h = let z : _≡_ {A = ℕ} 0 1 = cc in absurd (omega arith)
-    by false y p q h = let z : _≡_ {A = ℕ} 0 1 = cc in absurd (omega arith)
 
 pub spaced-end : (i e : ℕ) (s : List ℕ) → (ltb i e && ltb i (length s)) ≡ false → spaced i e s ≡ s
 spaced-end i e s h = by (ltb i e) (ltb i (length s)) refl refl h

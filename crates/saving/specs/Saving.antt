@@ -10,12 +10,8 @@ use Rattle.tokens.specs.Written.{bytes, same, cases}
 use Rattle.tokens.specs.Bytes.{between}
 use Rattle.tokens.specs.Refusals.{notHere}
 use Rattle.tokens.specs.Tokens.{Tok, Toks, stop, tok, toks}
-use Rattle.meaning.specs.Refusals.{tooDeep, notDefined, notPlayable, noRoom}
+use Rattle.meaning.specs.Refusals.{tooDeep, notDefined, notPlayable, noRoom, acrossEdge}
 use Rattle.meaning.specs.Meaning.{Answer, given, refused, answering, Meaning, meaning}
-
--- 25: a cycle's last event does not come before the next cycle's first (request 8)
-abbrev pub acrossEdge : ℕ
-acrossEdge = 25
 
 -- bytes of a text: the first, and the one behind the last
 pub record Span : Type 0 where

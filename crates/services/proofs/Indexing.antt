@@ -2,74 +2,51 @@
 use Prim.Native.Nat.{ℕ, _+_, _-_, _≤_}
 use native.Mathlib.Omega.{arith}
 use native.Mathlib.Nat.{zero-add}
-use mathlib.Core.Path.{_≡_, refl, sym, ap, _∙_, subst}
+use mathlib.Core.Path.{_≡_, refl, sym, ap, _∙_}
 use mathlib.Core.Bool.{Bool, true, false, not, _&&_, _||_}
 use mathlib.Core.Option.{Option, none, some}
 use mathlib.Core.List.{List, _++_}
 use lib.Dec.{leb, ltb}
 use lib.ListN.{length, take, drop, length-take}
 use lib.Seq.{take-at}
-use borrow.Author.Tests.{leb-true, ltb-false}
+use borrow.Author.Tests.{ltb-false, not-true, not-false}
 use Rattle.tokens.specs.Written.{same}
-use Rattle.meaning.specs.Bounds.{sizeMost, cyclesMost}
-use Rattle.meaning.specs.Refusals.{noRoom, notPlayable}
-use Rattle.meaning.specs.Run.{size, cycles}
-use Rattle.meaning.specs.Meaning.{Answer, given, refused, answering, fitting, Meaning}
-use Rattle.meaning.proofs.Gives.{no-not}
+use Rattle.tokens.proofs.Bools.{neither}
+use Rattle.meaning.specs.Refusals.{noRoom}
+use Rattle.meaning.specs.Run.{size}
+use Rattle.meaning.specs.Meaning.{Answer, given, refused, answering, Meaning}
 use Rattle.timing.specs.declared.Watch.{Watch}
-use Rattle.arguments.proofs.Lists.{both}
-use Rattle.assigns.proofs.Table.{or-false}
 use Rattle.texts.specs.Texts.{sound}
 use Rattle.texts.specs.Tables.{Found}
 use Rattle.texts.specs.declared.Verdict.{Verdict}
 use Rattle.texts.proofs.Sounds.{sound-runs}
-use Rattle.plays.specs.declared.Failing.{Failing}
+use Rattle.verdicts.specs.declared.Unfit.{Unfit}
 use Rattle.pages.specs.Pages.{Puts}
-use Rattle.sections.specs.Listing.{Short, Fronts}
+use Rattle.sections.specs.Listing.{Fronts}
 use Rattle.index.specs.Index.{Index, linesOf, indexOf, written, holder, rebuiltIn, index, notTheIndex, takenAs, taken, belongs, holds, Rebuilt as Bytes}
-use Rattle.index.specs.Lines.{Lists, indexIn, heldOf}
+use Rattle.index.specs.Lines.{indexIn, heldOf}
 use Rattle.index.specs.declared.Held.{Held}
-use Rattle.index.proofs.Names.{listed-few}
-use Rattle.verdicts.specs.Found.{Plays}
+use Rattle.verdicts.specs.Found.{meantBy, Plays}
 use Rattle.verdicts.specs.Buffers.{afterwards, spared}
 use Rattle.services.specs.Indexes.{Stands, Rebuilds, Indexes}
 use Rattle.services.specs.declared.Rebuilt.{Rebuilt}
 use Rattle.services.specs.declared.Indexed.the-variants.{Written, Refused}
-use Rattle.verdicts.proofs.Found.{meantBy, meaning-refused, meaning-failing, meaning-given}
+use Rattle.verdicts.proofs.Found.{meaning-refused}
 use Rattle.verdicts.proofs.Sparing.{room, spared-room}
 
 -- ---- a text that 1 to 16 leave
 
 module _ {w : Watch} {text places lists tplaces waves book rows list : List ℕ} {v : Verdict} (f : Found text w places lists tplaces waves book rows list v) where
-  few-cycles : cycles 0 (f .it .run) ≤ cyclesMost
-  unfolding fitting
-  few-cycles =
-      let k = both (leb (size (f .it .run)) sizeMost) (leb (cycles 0 (f .it .run)) cyclesMost) (sound-runs text (f .is) .fits) in
-      leb-true (cycles 0 (f .it .run)) cyclesMost (k .1)
-
-  -- its listed patterns, as the code has them
-  pub lists-are : Lists text book list (v .parts .listed) (v .parts .patterns) (f .it .read .patterns) (f .it .run)
-  lists-are = record {
-    book-long = f .tabled .describes .book-long;
-    patterns-are = f .tabled .patterns-are;
-    counted = f .tabled .patterns-counted;
-    few = f .tabled .few-patterns;
-    few-listed = f .tabled .few-listed;
-    short = subst Short (f .tabled .listed-are) (listed-few .all _ _ _ (f .tabled .parts .burst-read));
-    run-is = rw (f .tabled .listed-are) at (sound-runs text (f .is) .run-is);
-    fits = few-cycles;
-  }
-
   -- and its index
   index-is : indexOf text (meantBy (f .it)) ≡ indexIn text list tplaces (v .parts .listed) (v .parts .known .tables) (f .it .read .patterns)
   unfolding indexOf linesOf
   index-is = rw (sound-runs text (f .is) .read, f .tabled .listed-are, f .tabled .held .named)
 
-  module _ {a : Failing} {r : Rebuilt} {cycle : ℕ} {page : List ℕ} (p : Plays text places lists tplaces waves book rows list v a) where
-    pub rebuild-failing : a .failed ≡ true → (r .no ≡ notPlayable) × (r .place ≡ a .place) → Rebuilds text cycle r page
-    rebuild-failing h k = record { refuses = λ z. meaning-failing f p h ∙ rw (k .0, k .1); accepts = λ z. absurd (omega (arith, k .0)) }
+  module _ {a : Unfit} {r : Rebuilt} {cycle : ℕ} {page : List ℕ} (p : Plays text places lists tplaces waves book rows list v a) where
+    pub rebuild-failing : (a .no ≡ 0 → ⊥) → (r .no ≡ a .no) × (r .place ≡ a .place) → Rebuilds text cycle r page
+    rebuild-failing h k = record { refuses = λ z. p .refuses f h ∙ rw (k .0, k .1); accepts = λ z. absurd (h (sym (k .0) ∙ z)) }
 
-    pub rebuild-stands : {before : List ℕ} → a .failed ≡ false → r .no ≡ 0
+    pub rebuild-stands : {before : List ℕ} → a .no ≡ 0 → r .no ≡ 0
         → Fronts (written (indexIn text list tplaces (v .parts .listed) (v .parts .known .tables) (f .it .read .patterns))) before (r .length) page
         → heldOf (r .holder) ≡ holder cycle 0 (indexIn text list tplaces (v .parts .listed) (v .parts .known .tables) (f .it .read .patterns) .patterns)
         → Rebuilds text cycle r page
@@ -77,7 +54,7 @@ module _ {w : Watch} {text places lists tplaces waves book rows list : List ℕ}
       refuses = λ n. absurd (n z);
       accepts = λ n. (
         meantBy (f .it),
-        meaning-given f p h,
+        p .accepts f h,
         record {
           front-is = ap (take (r .length)) (e .page-is) ∙ take-at _ _ (r .length) (sym (e .length-is)) ∙ ap written (sym index-is);
           length-is = e .length-is ∙ ap (λ (x : Index). length (written x)) (sym index-is);
@@ -88,10 +65,6 @@ module _ {w : Watch} {text places lists tplaces waves book rows list : List ℕ}
 
 pub rebuild-refused : {text page : List ℕ} {n p cycle : ℕ} {r : Rebuilt} → sound text ≡ refused n p → (n ≡ 0 → ⊥) → (r .no ≡ n) × (r .place ≡ p) → Rebuilds text cycle r page
 rebuild-refused {text} e z k = record { refuses = λ h. meaning-refused text e ∙ rw (k .0, k .1); accepts = λ h. absurd (z (sym (k .0) ∙ h)) }
-
-not-true : (b : Bool) → not b ≡ true → b ≡ false
-not-true true e = let z : _≡_ {A = ℕ} 0 1 = cc in absurd (omega arith)
-not-true false e = refl
 
 -- ---- as the service Index answers it
 
@@ -157,7 +130,7 @@ module _ {text page : List ℕ} {cycle : ℕ} {r : Rebuilt} (h : Rebuilds text c
 
       pub holds-told : not y ≡ false → given (heldOf (r .holder)) ≡ holds text bytes cycle
       unfolding holds taken takenAs answering
-      holds-told z = sym (rw (h .accepts on .1, taken, holds) (rw (tested ∙ no-not y z, takenAs) (ap given (sym (stands on .holder-is)))))
+      holds-told z = sym (rw (h .accepts on .1, taken, holds) (rw (tested ∙ not-false y z, takenAs) (ap given (sym (stands on .holder-is)))))
 
 -- ---- belonging
 
@@ -182,7 +155,7 @@ span-front page n e = let z : n - 0 ≡ n = omega arith in e ∙ (rw z)
 pub front-fits : (page buffer : List ℕ) (n : ℕ) (spare : Bool) {bytes : List ℕ} → bytes ≡ take (n - 0) (drop 0 page) → (not spare || ltb (length buffer) n) ≡ false
     → 0 + length bytes ≤ length buffer
 front-fits page buffer n spare e f =
-    omega (arith, ap length (span-front page n e), length-take n page, ltb-false (length buffer) n (or-false (not spare) (ltb (length buffer) n) f .1))
+    omega (arith, ap length (span-front page n e), length-take n page, ltb-false (length buffer) n (neither (not spare) (ltb (length buffer) n) f .1))
 
 pub held-some : (h : Held) → h .held ≡ true → given (some (h .number)) ≡ given (heldOf h)
 held-some h e = rw e

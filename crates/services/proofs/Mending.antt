@@ -10,9 +10,9 @@ use lib.ListN.{length, take, drop, length-take, drop-of-length-le}
 use lib.Seq.{take-at}
 use borrow.Author.Tests.{eqb-true, eqb-false, ltb-true, ltb-false, not-true, not-false}
 use Rattle.tokens.specs.Refusals.{textMost, tooLong}
+use Rattle.tokens.proofs.Bools.{neither}
 use Rattle.meaning.specs.Refusals.{noRoom}
 use Rattle.meaning.specs.Meaning.{Answer, given, refused, answering}
-use Rattle.assigns.proofs.Table.{or-false}
 use Rattle.pages.specs.Pages.{Puts}
 use Rattle.saving.specs.Saving.{hurt, spaced, overwritten, verdict, Saved as SavedText, saving, Restored, save}
 use Rattle.saving.specs.Steps.{Steps}
@@ -139,7 +139,7 @@ module _ (text spans : List ℕ) (spare : Bool) where
 
       module _ (e : (not spare || ltb (length spans / 2) (m .count)) ≡ false) where
         enough : m .count ≤ length spans / 2
-        enough = ltb-false (length spans / 2) (m .count) (or-false (not spare) (ltb (length spans / 2) (m .count)) e .1)
+        enough = ltb-false (length spans / 2) (m .count) (neither (not spare) (ltb (length spans / 2) (m .count)) e .1)
 
         pub some-copy : length text ≤ textMost → SomeCopy text spans copy log′ (m .count)
         some-copy s = record { saved = it; saves = saves-it; short = s; copied = refl; blank = log; logged = h .noted; counted = h .counted; roomy = enough }
@@ -148,5 +148,5 @@ module _ (text spans : List ℕ) (spare : Bool) where
             → Saves (spared spare (save text spans)) text text′ spans spans′ (Spans (m .count))
         save-told {text′} {spans′} f =
             let w = f it saves-it in
-            saves-given (ap (λ (b : Bool). spared b (save text spans)) (not-false spare (or-false (not spare) (ltb (length spans / 2) (m .count)) e .0)) ∙ spared-all (save text spans)
+            saves-given (ap (λ (b : Bool). spared b (save text spans)) (not-false spare (neither (not spare) (ltb (length spans / 2) (m .count)) e .0)) ∙ spared-all (save text spans)
             ∙ save-given text spans saves-it (omega (arith, enough, h .counted)) ∙ rw (← h .counted, ← w .0, ← w .1))

@@ -10,7 +10,9 @@ use Rattle.meaning.specs.Bounds.{entryMost}
 use Rattle.meaning.specs.Timing.{Event}
 use Rattle.meaning.specs.Meaning.{Answer, given, refused, answering}
 use Rattle.meaning.specs.Services.{eventsOut, Waveform, waveform}
+use Rattle.charts.specs.Serving.{toldAll}
 use Rattle.charts.proofs.Rooms.{room}
+use Rattle.charts.proofs.Telling.{told-times}
 use Rattle.verdicts.specs.Buffers.{afterwards}
 use Rattle.services.specs.Waveforms.{Shows, Outlines, Shapes}
 use Rattle.services.specs.declared.Outline.{Outline}
@@ -46,10 +48,10 @@ module _ {text : List ℕ} {k s c : ℕ} {ts ls : List ℕ} {o : Outline} (h : O
       waveform-full z = handed ∙ rw (tested ∙ ap not z, eventsOut)
 
       pub waveform-given : {times′ letters′ : List ℕ} → y ≡ false
-          → (times′ ≡ take (o .count) ts ++ drop (o .count) times) × (letters′ ≡ take (o .count) ls ++ drop (o .count) letters)
+          → (times′ ≡ toldAll (take (o .count) ts) ++ drop (o .count) times) × (letters′ ≡ take (o .count) ls ++ drop (o .count) letters)
           → answer ≡ given (record { count = o .count; times = times′; letters = letters′ })
       unfolding eventsOut
-      waveform-given z p = handed ∙ rw (tested ∙ ap not z, eventsOut) (rw (p .0, p .1, shows .times-are, shows .letters-are, shows .count-is))
+      waveform-given z p = handed ∙ rw (tested ∙ ap not z, eventsOut) (rw (p .0, p .1, shows .times-are, told-times (h .finds on .0), shows .letters-are, shows .count-is))
 
 -- ---- as the service answers it
 

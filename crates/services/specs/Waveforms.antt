@@ -8,7 +8,8 @@ use Rattle.meaning.specs.Refusals.{noSuch}
 use Rattle.meaning.specs.Bounds.{entryMost}
 use Rattle.meaning.specs.Timing.{Event}
 use Rattle.meaning.specs.Meaning.{Answer, given, refused, answering, tableAt, meaning}
-use Rattle.meaning.specs.Services.{waveOf, timesOf, lettersOf, Waveform}
+use Rattle.meaning.specs.Services.{waveOf, lettersOf, Waveform}
+use Rattle.waves.specs.Waves.{countsOf}
 use Rattle.verdicts.specs.Buffers.{afterwards}
 use Rattle.services.specs.Answers.{shapedOf}
 use Rattle.services.specs.declared.Shaped.{Shaped}
@@ -18,11 +19,11 @@ use Rattle.services.specs.declared.Outline.{Outline}
 unfoldable pub eventsOf : List ℕ → ℕ → ℕ → ℕ → Answer (List Event)
 eventsOf text k s c = answering (meaning text) λ m. elim (waveOf s c (tableAt (m .tables) k)) [ none ↦ refused noSuch 0 | some es ↦ given es ]
 
--- they stand at the front of two arrays
+-- they stand at the front of two arrays, the times as they are counted
 pub record Shows (ts ls : List ℕ) (n : ℕ) (es : List Event) : Type 0 where
   pub count-is : n ≡ length es
   pub few : n ≤ entryMost
-  pub times-are : take n ts ≡ timesOf es
+  pub times-are : take n ts ≡ countsOf es
   pub letters-are : take n ls ≡ lettersOf es
 
 pub record Outlines (text : List ℕ) (k s c : ℕ) (ts ls : List ℕ) (r : Outline) : Type 0 where

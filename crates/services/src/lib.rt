@@ -22,20 +22,18 @@ ghost use Rattle.services.specs.Waveforms.{Outlines, Shapes};
 ghost use Rattle.services.specs.Charts.{Plots};
 ghost use Rattle.services.specs.Indexes.{Rebuilds, belongingOf, holdingOf, Indexes};
 ghost use Rattle.services.specs.Saves.{SomeCopy, Saves};
-use bodies::TOO_MANY;
 use charts::NO_SUCH;
 use index::Held;
 use saving::Hurt;
 use saving::Mended;
 use saving::Turn;
-use texts::TOO_LONG;
 use texts::Verdict;
 use timing::Watch;
-use verdicts::NO_ROOM;
-use verdicts::NOT_PLAYABLE;
+use tokens::TEXT_MOST;
+use tokens::TOO_LONG;
 use verdicts::Wanted;
-
-pub const TEXT_MOST: usize = texts::TEXT_MOST;
+use words::NO_ROOM;
+use words::TOO_MANY;
 
 // The numbers of 64 spans: more are rare.
 const LOG: usize = 128;
@@ -157,7 +155,7 @@ pub fn name(text: &[u8], table: bool, number: usize) -> Located
 
 // ---- Waveform
 
-// The events of a table, signal and character, to the front of two arrays: 1 to 18, or how many there are.
+// The events of a table, signal and character, to the front of two arrays, their times as they are counted: 1 to 18, or how many there are.
 pub fn events(
     text: &[u8],
     table: usize,
@@ -204,7 +202,7 @@ pub fn events(
     }
 }
 
-// The waveform of a table, signal and character: its events' times in ps and their letters, to the front of both buffers.
+// The waveform of a table, signal and character: its events' times in ps, each the 64 bits of a signed number, and their letters, to the front of both buffers.
 pub fn waveform(
     text: &[u8],
     table: usize,
@@ -231,7 +229,7 @@ pub fn waveform(
 
 // ---- Waveforms by the list
 
-// Any text: 1 to 17, 8, 19, or what the single calls leave. There is room for what else is handed out (`spare`), or that is 19 too.
+// Any text: 1 to 17, 25, 8, 19, or what the single calls leave. There is room for what else is handed out (`spare`), or that is 19 too.
 pub fn plotted(
     text: &[u8],
     asked: &[u64],
@@ -316,8 +314,8 @@ fn rebuild_found<'a>(
         used,
         v,
     );
-    if f.failed {
-        return unbuilt(NOT_PLAYABLE, f.place);
+    if f.no != 0 {
+        return unbuilt(f.no, f.place);
     }
     let holder = index::holder(text, book, list, parts.listed, parts.patterns, cycle);
     let length = index::write(

@@ -2,11 +2,12 @@
 use mathlib.Core.Path.{_≡_, refl, sym, ap}
 use Prim.Native.Nat.{ℕ, zero, suc, _+_, _≤_, _<_}
 use native.Mathlib.Omega.{arith}
-use mathlib.Core.Bool.{Bool, true, false, _||_}
+use mathlib.Core.Bool.{Bool, true, false, false≢true, _||_}
 use mathlib.Core.List.{List, [], _∷_, _++_}
 use lib.Dec.{eqb}
 use lib.ListN.{length, length-append}
 use borrow.Author.Tests.{eqb-true, eqb-false, ne-eqb}
+use Rattle.tokens.proofs.Bools.{neither, neither-or}
 use Rattle.meaning.specs.Bounds.{signalsMost}
 use Rattle.meaning.specs.Lists.{has, meets, without}
 
@@ -16,6 +17,15 @@ pub data TidyBelow (most : ℕ) : List ℕ → Type 0 where
 
 abbrev pub Tidy : List ℕ → Type 0
 Tidy = TidyBelow signalsMost
+
+pub has-below : {most : ℕ} {l : List ℕ} → TidyBelow most l → (s : ℕ) → has s l ≡ true → s < most
+unfolding has
+has-below bare s h = absurd (false≢true h)
+has-below {most} (next {x} {l} b e t) s h = by (eqb x s) refl h (has-below t s)
+  where
+    by : (z : Bool) → eqb x s ≡ z → (z || has s l) ≡ true → (has s l ≡ true → s < most) → s < most
+    by true q k ih = omega (arith, eqb-true x s q)
+    by false q k ih = ih k
 
 -- ---- at most as many as the bound says
 
@@ -61,36 +71,29 @@ tidy-short {most} {l} t = let e = by t in omega arith
 
 -- ---- joins and differences
 
-or-false : (x y : Bool) → (x || y) ≡ false → (x ≡ false) × (y ≡ false)
-or-false true y h = let z : _≡_ {A = ℕ} 0 1 = cc in absurd (omega arith)
-or-false false y h = (refl, h)
-
-false-or : {x y : Bool} → x ≡ false → y ≡ false → (x || y) ≡ false
-false-or e f = rw (e, f)
-
 -- x has nothing of y ∷ g
 meets-cons : (x g : List ℕ) (y : ℕ) → meets x (y ∷ g) ≡ false → (has y x ≡ false) × (meets x g ≡ false)
 unfolding meets has
 meets-cons [] g y h = (refl, refl)
 meets-cons (a ∷ x) g y h =
-    let p = or-false (has a (y ∷ g)) (meets x (y ∷ g)) h in
-    let q = or-false (eqb y a) (has a g) (p .0) in
+    let p = neither (has a (y ∷ g)) (meets x (y ∷ g)) h in
+    let q = neither (eqb y a) (has a g) (p .0) in
     let r = meets-cons x g y (p .1) in
-    (false-or (ne-eqb a y (λ e. eqb-false y a (q .0) (sym e))) (r .0), false-or (q .1) (r .1))
+    (neither-or (ne-eqb a y (λ e. eqb-false y a (q .0) (sym e))) (r .0), neither-or (q .1) (r .1))
 
 has-append : (y : ℕ) (a b : List ℕ) → has y a ≡ false → has y b ≡ false → has y (a ++ b) ≡ false
 unfolding has
 has-append y [] b h k = k
-has-append y (x ∷ a) b h k = let p = or-false (eqb x y) (has y a) h in false-or (p .0) (has-append y a b (p .1) k)
+has-append y (x ∷ a) b h k = let p = neither (eqb x y) (has y a) h in neither-or (p .0) (has-append y a b (p .1) k)
 
 has-without : (y : ℕ) (g x : List ℕ) → has y g ≡ false → has y (without g x) ≡ false
 unfolding has without
 has-without y [] x h = refl
-has-without y (a ∷ g) x h = let p = or-false (eqb a y) (has y g) h in by (has a x) (p .0) (has-without y g x (p .1))
+has-without y (a ∷ g) x h = let p = neither (eqb a y) (has y g) h in by (has a x) (p .0) (has-without y g x (p .1))
   where
     by : (b : Bool) → eqb a y ≡ false → has y (without g x) ≡ false → has y (elim b [ true ↦ without g x | false ↦ a ∷ without g x ]) ≡ false
     by true e k = k
-    by false e k = false-or e k
+    by false e k = neither-or e k
 
 module _ {most : ℕ} where
   pub tidy-single : {x : ℕ} → x < most → TidyBelow most (x ∷ [])

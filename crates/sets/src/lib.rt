@@ -38,7 +38,7 @@ pub fn is_empty(s: Set) -> bool
 }
 
 // The smaller of the two.
-fn least(a: usize, b: usize) -> usize
+pub fn least(a: usize, b: usize) -> usize
     ensures { λ r. ⌜ r ≡ min a b ⌝ }
 {
     if a < b { a } else { b }

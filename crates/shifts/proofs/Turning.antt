@@ -3,7 +3,7 @@ use Prim.Native.Nat.{ℕ, suc, _+_, _-_, _≤_, _<_}
 use native.Mathlib.Nat.{sub-zero}
 use native.Mathlib.Omega.{arith}
 use mathlib.Core.Path.{_≡_, refl, sym, ap, _∙_, subst}
-use mathlib.Core.Bool.{Bool, true, false, _&&_}
+use mathlib.Core.Bool.{Bool, true, false, _&&_, true≢false}
 use mathlib.Core.List.{List, [], _∷_, _++_}
 use lib.Dec.{leb}
 use lib.ListN.{length, take}
@@ -15,7 +15,6 @@ use Rattle.walks.specs.Turns.{skipped}
 use Rattle.walks.proofs.Loops.{again-add}
 use Rattle.walks.proofs.Shifts.{turns-skipped, shift-left, skipped-supplied}
 use Rattle.measures.specs.Uses.{Given}
-use Rattle.arguments.proofs.Lists.{differ}
 use Rattle.pins.specs.Shown.{tableOf, Shows, Playable, Others, Skips, vector}
 use Rattle.pins.proofs.Callers.{playable-puts, others-none, others-then}
 use Rattle.rows.specs.declared.Walk.{Walk}
@@ -64,7 +63,7 @@ module _ {signals table : ℕ} {values : List ℕ} {w w′ : Walk} {before after
     pub cycling-due : over w′ ≡ false → Due signals w′ after
     cycling-due more =
         let g = going-on (d .going) some more in
-        record { going = g; next = g .reached cycling-reached; enough = λ e. absurd (differ (sym e ∙ cycling-reached)) }
+        record { going = g; next = g .reached cycling-reached; enough = λ e. absurd (true≢false (sym e ∙ cycling-reached)) }
 
 -- ---- the turns of one V
 
@@ -117,7 +116,7 @@ module _ {text : List ℕ} {signals : ℕ} {values : List ℕ} {table : ℕ} {fe
       midway-went : over w ≡ false → w .walking ≡ false → Went signals (whole .1) 1 w₀ w before buffer
       unfolding again
       midway-went more e =
-          m .goes-as w buffer (subst (λ (r : Walk). Went signals [] 1 w r buffer buffer) (unspent e) (went-spent w 1 buffer more (λ k. absurd (differ (sym k ∙ e)))))
+          m .goes-as w buffer (subst (λ (r : Walk). Went signals [] 1 w r buffer buffer) (unspent e) (went-spent w 1 buffer more (λ k. absurd (true≢false (sym k ∙ e)))))
 
       midway-shows : Shows text signals values table feeds level (whole .0)
       unfolding again
@@ -188,7 +187,7 @@ module _ {text given values₀ feeds₀ : List ℕ} {level signals table t i₀ 
             record {
               went = λ a s p g k h.
                   let m = turn one a s p g k h in midway-over m (x .due .next) (put a (m .state) table g (m .playable-as) (m .shows)) cycles ended;
-              shows = λ a s p g k h o. absurd (differ (sym ended ∙ o));
+              shows = λ a s p g k h o. absurd (true≢false (sym ended ∙ o));
             }
 
 -- ---- behind the characters that were passed

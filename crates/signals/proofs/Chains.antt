@@ -5,7 +5,7 @@ use native.Mathlib.Nat.{add-zero, add-suc}
 use native.Mathlib.Numerals.{add-one}
 use mathlib.Core.Path.{_≡_, refl, sym, ap, _∙_, subst}
 use mathlib.Core.Bool.{Bool, true, false, cond}
-use mathlib.Core.Option.{Option, none, some}
+use mathlib.Core.Option.{Option, none, some, orElse}
 use mathlib.Core.List.{List, [], _∷_, _++_}
 use lib.Dec.{eqb, ltb}
 use lib.ListN.{length, getD, set, length-set}
@@ -14,34 +14,23 @@ use borrow.Author.Tests.{lt-ltb, le-ltb, ltb-true, ltb-false, eqb-true, eqb-fals
 use Rattle.tokens.specs.Written.{same}
 use Rattle.tokens.specs.Tokens.{Tok}
 use Rattle.meaning.specs.Names.{find}
+use Rattle.meaning.proofs.Options.{or-none, or-or}
+use Rattle.meaning.proofs.Others.{same-eq}
 use Rattle.words.specs.Cursor.{span}
 use Rattle.words.specs.Table.{nameOf, namesFrom, names}
 use Rattle.words.specs.Values.{told}
 use Rattle.words.specs.Chains.{chainsMost, chainOf, InChain}
-use Rattle.words.proofs.Words.{same-eq}
 use Rattle.words.proofs.Names.{names-more}
 use Rattle.signals.specs.Names.{namesMost, placesLength, earlierAt, lastAt, Apart, Linked, ended, link, Chained, Unchained, Put}
 
 -- ---- what is found among the first names, or else behind them
-
-abbrev orElse : Option ℕ → Option ℕ → Option ℕ
-orElse none y = y
-orElse (some x) y = some x
-
-or-none : (x : Option ℕ) → orElse x none ≡ x
-or-none none = refl
-or-none (some x) = refl
-
-or-or : (x y z : Option ℕ) → orElse (orElse x y) z ≡ orElse x (orElse y z)
-or-or none y z = refl
-or-or (some x) y z = refl
 
 abbrev here : Bool → ℕ → Option ℕ
 here true i = some i
 here false i = none
 
 find-append : (xs : List (Tok × ℕ)) (t : Tok) (i : ℕ) (w : List ℕ) → find (xs ++ (t, i) ∷ []) w ≡ orElse (find xs w) (here (same (t .word) w) i)
-unfolding find
+unfolding find orElse
 find-append [] t i w = by (same (t .word) w)
   where
     by : (b : Bool) → _≡_ {A = Option ℕ} (elim b [ true ↦ some i | false ↦ none ]) (here b i)
@@ -138,6 +127,7 @@ module _ {text places w : List ℕ} {count : ℕ} where
 
     pub walk-turn : 0 < k → {b : Bool} {r : ℕ} → b ≡ same (nameOf text places (k - 1) .word) w → r ≡ cond b (k - 1) found
         → Walked text places w count r (earlierAt places (k - 1))
+    unfolding orElse
     walk-turn p {b} {r} f g =
         let i = k - 1 in
         let l = linked-link (x .linked) p in
@@ -162,7 +152,7 @@ module _ {text places w : List ℕ} {count : ℕ} where
         by false f u = rw (← f)
 
     pub walk-ends : k ≤ 0 → told (ltb found count) found ≡ find (names text places count) w
-    unfolding namesFrom find
+    unfolding namesFrom find orElse
     walk-ends z =
         let nothing : find (names text places (x .bound)) w ≡ none =
         found-up-to text places w 0 (x .bound) (omega arith) (λ j m n. apart-differs text places w j refl (linked-none (x .linked) (omega arith) j n)) in

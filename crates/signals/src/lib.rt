@@ -18,6 +18,7 @@ ghost use Rattle.words.specs.Chains.{chainsMost};
 ghost use Rattle.signals.specs.Names.{namesMost, placesLength, rowLength, Chained, Unchained, Sized, listAt, namesOf, Written, Put, Added, Named, AllTidy, Usable, termWithin, expressionWithin, Fronted};
 use sets::Set;
 use words::Cursor;
+use words::TOO_MANY;
 
 // How many groups there may be.
 const GROUPS: usize = 128;
@@ -41,9 +42,7 @@ pub const LISTS: usize = NAMES * ROW;
 // How deep brackets may stand in an expression.
 const BRACKETS: usize = 8;
 
-// Refusals: one item or bracket too many; a group that repeats or lacks a signal, or is empty.
-const TOO_MANY: u8 = 8;
-
+// Refusal: a group that repeats or lacks a signal, or is empty.
 const BAD_GROUP: u8 = 10;
 
 // How many names there are, and the cursor behind them.

@@ -10,6 +10,7 @@ use lib.Dec.{leb, eqb}
 use lib.ListN.{length, getD, take, set, length-append}
 use lib.Seq.{ext-getD, getD-take, length-take-le, getD-set-same, getD-set-other}
 use borrow.Author.Tests.{lt-leb, leb-true, eqb-true, eqb-false}
+use Rattle.tokens.proofs.Bools.{both}
 use Rattle.meaning.specs.Body.{Body}
 use Rattle.meaning.specs.Run.{State, Cycle, play}
 use Rattle.meaning.proofs.Rows.{AllWide}
@@ -20,7 +21,6 @@ use Rattle.walks.proofs.Seen.{length-seen, seen-all}
 use Rattle.walks.proofs.Loops.{length-copies, seen-copies}
 use Rattle.pins.specs.Shown.{tableOf}
 use Rattle.plays.specs.Plays.{Ground, Arrays, Showing}
-use Rattle.plays.proofs.Fitting.{both}
 use Rattle.rows.specs.declared.Walk.{Walk}
 use Rattle.rows.specs.Again.{Again}
 use Rattle.rows.specs.Went.{over, spends, Went}

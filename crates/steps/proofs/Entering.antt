@@ -20,13 +20,14 @@ use Rattle.words.specs.declared.Cursor.{Cursor}
 use Rattle.measures.specs.declared.Measure.{Measure}
 use Rattle.measures.specs.Measures.{Measures}
 use Rattle.measures.specs.Book.{measureAt}
+use Rattle.measures.proofs.Within.{size-within}
 use Rattle.heads.specs.Heads.{kindOf}
 use Rattle.pins.specs.Shown.{Leaves, Returns}
 use Rattle.plays.specs.declared.Played.{Played}
 use Rattle.plays.specs.Plays.{Ground, Arrays, arrays, Sized, Kept, Telling}
 use Rattle.plays.proofs.Keeping.{feeding-kept}
 use Rattle.plays.proofs.Entering.{pins-back}
-use Rattle.loops.proofs.Exact.{exact-cycles, exact-size}
+use Rattle.loops.proofs.Exact.{exact-cycles}
 use Rattle.rows.specs.declared.Walk.{Walk}
 use Rattle.rows.specs.Went.{spent, past, Going}
 use Rattle.steps.specs.declared.Walked.{Walked}
@@ -48,7 +49,7 @@ module _ {g : Ground} {i more level table t : ℕ} {x : Arrays} {E : Env} {b : B
   used-few = omega (arith, only-few (u .ready), entered-long t t (kindOf i) a b)
 
   pub used-size : m .size ≡ size b
-  used-size = exact-size measures used-small
+  used-size = size-within measures used-small
 
   pub used-cycles : m .cycles + t * m .shifts ≡ cycles t b
   used-cycles = exact-cycles measures t used-few

@@ -5,13 +5,13 @@ use mathlib.Core.Bool.{Bool, true, false, _||_}
 use mathlib.Core.List.{List}
 use lib.ListN.{length}
 use Rattle.tokens.specs.Tokens.{Toks, left}
+use Rattle.tokens.proofs.Bools.{neither}
 use Rattle.meaning.specs.Body.{Body}
 use Rattle.meaning.specs.Run.{State, visits, play}
 use Rattle.meaning.specs.Statements.{Env}
 use Rattle.words.specs.Cursor.{alive, stream}
 use Rattle.words.specs.declared.Cursor.{Cursor}
 use Rattle.plays.specs.Plays.{Ground, Arrays, Standing, Kept}
-use Rattle.plays.proofs.Fitting.{neither}
 use Rattle.rows.specs.declared.Walk.{Walk}
 use Rattle.rows.specs.Went.{over, Going}
 use Rattle.rows.proofs.Going.{going-on}

@@ -14,7 +14,7 @@ use Rattle.meaning.specs.Body.{looped, Body}
 use Rattle.meaning.specs.Run.{State, size, cycles, turnsOf, shiftOf, visits, again, playing, play}
 use Rattle.meaning.specs.Meaning.{firstFailing}
 use Rattle.meaning.specs.Statements.{Env}
-use Rattle.meaning.proofs.Turns.{Plain}
+use Rattle.meaning.proofs.Turns.{Plain, sound-parts}
 use Rattle.meaning.proofs.Rows.{length-play, length-again}
 use Rattle.turns.specs.Few.{loopFew, playFew}
 use Rattle.walks.specs.Statement.{playedIn, cyclesIn}
@@ -22,10 +22,11 @@ use Rattle.walks.specs.Turns.{begins}
 use Rattle.walks.proofs.Loops.{some-cycles, turn-below, loop-begins, loop-left, loop-behind}
 use Rattle.measures.specs.declared.Measure.{Measure}
 use Rattle.measures.specs.Measures.{Measures}
+use Rattle.measures.proofs.Within.{size-within}
 use Rattle.plays.specs.declared.Played.{Played}
 use Rattle.plays.specs.Plays.{Ground, Arrays, arrays, Showing, Standing, Plays}
 use Rattle.loops.specs.Held.{tables, Standing as Measurable}
-use Rattle.loops.proofs.Exact.{exact-size, plain-exact}
+use Rattle.loops.proofs.Exact.{plain-exact}
 use Rattle.rows.specs.declared.Walk.{Walk}
 use Rattle.rows.specs.Went.{Going, spent, past, Went}
 use Rattle.rows.proofs.Going.{went-from}
@@ -33,7 +34,6 @@ use Rattle.steps.specs.declared.Walked.{Walked}
 use Rattle.steps.specs.Walks.{Ready, Walks, Turning, only}
 use Rattle.steps.proofs.Passing.{Passed, only-left, only-cycles, only-sound, loop-told}
 use Rattle.steps.proofs.Alone.{only-small, only-few, only-passed, only-affords, only-entered}
-use Rattle.steps.proofs.Parting.{sound-parts}
 use Rattle.steps.proofs.Turning.{went-cost, turns-split, turn-standing}
 
 -- ---- its body is held
@@ -72,7 +72,7 @@ pub record Reaching (g : Ground) (ts : Toks) (more level table t n k : ℕ) (x :
 module _ {tabs : Tables} {t n : ℕ} {b : Body} {s : State} {w : Walk} {m : Measure} (ready : Ready tabs t (only (looped n) b) s w) (some : 0 < n) (plain : Plain b) (measured : Measures b m)
   where
     pub loop-size : 1 + size b ≡ m .size + 1
-    loop-size = omega (arith, exact-size measured (only-small ready))
+    loop-size = omega (arith, size-within measured (only-small ready))
 
     few : n * cycles t b ≤ cyclesMost
     unfolding turnsOf shiftOf

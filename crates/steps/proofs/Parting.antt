@@ -4,37 +4,27 @@ use native.Mathlib.Nat.{sub-zero}
 use native.Mathlib.Omega.{arith}
 use mathlib.Core.Path.{_≡_, refl, sym, ap, _∙_, subst}
 use mathlib.Core.Bool.{Bool, true, false}
-use mathlib.Core.Option.{Option, none, some}
+use mathlib.Core.Option.{none}
 use mathlib.Core.List.{List, [], _∷_, _++_}
 use lib.ListN.{length}
 use lib.Dec.{leb}
 use borrow.Author.Tests.{le-leb}
 use Rattle.tokens.specs.Tokens.{Toks}
+use Rattle.tokens.proofs.Bools.{both}
 use Rattle.meaning.specs.Timing.{Tables}
 use Rattle.meaning.specs.Body.{Assigns, Setting, Way, Body, vec, set′, inner}
 use Rattle.meaning.specs.Run.{State, Cycle, shiftOf, size, cycles, visits, puts, changed, cycleAt, follow, play}
 use Rattle.meaning.specs.Meaning.{firstFailing}
-use Rattle.meaning.proofs.Turns.{orElse, fails-++}
+use Rattle.meaning.proofs.Turns.{sound-parts}
 use Rattle.walks.specs.Statement.{playedIn, cyclesIn}
 use Rattle.walks.proofs.Bodies.{length-in}
 use Rattle.plays.specs.Plays.{Ground, Arrays}
-use Rattle.plays.proofs.Fitting.{both}
 use Rattle.rows.specs.declared.Walk.{Walk}
 use Rattle.rows.specs.Went.{over, spends, Went}
 use Rattle.rows.proofs.Going.{went-spent, went-both, went-over}
 use Rattle.steps.specs.declared.Walked.{Walked}
 use Rattle.steps.specs.Walks.{Ready, Walks, Parted, only}
 use Rattle.steps.proofs.Passing.{only-cycles}
-
--- ---- no cycle of either part fails
-
-none-both : (a b : Option ℕ) → orElse a b ≡ none → (a ≡ none) × (b ≡ none)
-unfolding orElse
-none-both none b h = (refl, h)
-none-both (some p) b h = let z : _≡_ {A = ℕ} 0 1 = cc in absurd (omega arith)
-
-pub sound-parts : (tabs : Tables) (a b : List Cycle) → firstFailing tabs (a ++ b) ≡ none → (firstFailing tabs a ≡ none) × (firstFailing tabs b ≡ none)
-sound-parts tabs a b h = none-both (firstFailing tabs a) (firstFailing tabs b) (sym (fails-++ tabs a b) ∙ h)
 
 -- ---- nothing is gone through
 

@@ -12,12 +12,14 @@ use Rattle.meaning.specs.Reader.{dueOf}
 use Rattle.meaning.specs.Body.{Assigns, shifted, done, vec}
 use Rattle.meaning.specs.Run.{State, Played as Play, size, cycles, turnsOf, shiftOf, visits, puts, follow, again, play}
 use Rattle.meaning.specs.Statements.{Env, Head}
+use Rattle.meaning.proofs.Rows.{puts-table}
 use Rattle.held.specs.Held.{freeHead, Holds}
 use Rattle.turns.specs.Few.{playFew}
 use Rattle.walks.specs.Statement.{playedIn, cyclesIn}
-use Rattle.walks.proofs.Shifts.{puts-table, shift-turns}
+use Rattle.walks.proofs.Shifts.{shift-turns}
 use Rattle.words.specs.Cursor.{alive, stream, Goes}
 use Rattle.words.specs.declared.Cursor.{Cursor}
+use Rattle.words.proofs.Flow.{went}
 use Rattle.timing.specs.Makes.{Makes}
 use Rattle.measures.specs.Uses.{Given}
 use Rattle.heads.specs.declared.What.{What}
@@ -25,7 +27,7 @@ use Rattle.heads.specs.Heads.{Tells as HeadTells}
 use Rattle.pins.specs.Shown.{Playable, vector}
 use Rattle.plays.specs.declared.Played.{Played}
 use Rattle.plays.specs.Plays.{Ground, Arrays, Showing, Standing, Plays}
-use Rattle.plays.proofs.Heading.{went, end-due, fine-head}
+use Rattle.plays.proofs.Heading.{end-due, fine-head}
 use Rattle.plays.proofs.Stepping.{vec-playable}
 use Rattle.plays.proofs.Shifting.{tells-given}
 use Rattle.rows.specs.declared.Walk.{Walk}
@@ -46,7 +48,7 @@ module _ {g : Ground} {c r : Cursor} {more level table : ℕ} {x : Arrays} {E : 
       let h = st .holds in
       let w = went (m .goes) on (h .1) in (
         tells-given (g .text) (g .book) (g .rows) given args (g .known .tables) what p a
-            (subst (λ (z : Head). HeadTells (g .text) (g .book) (g .rows) given args (g .known .tables) what z) (w .answer) (m .held (w .on))),
+            (subst (λ (z : Head). HeadTells (g .text) (g .book) (g .rows) given args (g .known .tables) what z) (w .is) (m .held (w .on))),
         vec-playable (fine-head E (g .signals) (st .holding .tidy) .all _ _ _ (h .1)) (st .fits),
       )
 
@@ -55,9 +57,9 @@ module _ {g : Ground} {c r : Cursor} {more level table : ℕ} {x : Arrays} {E : 
   shift-closed close =
       let h = st .holds in
       let w = went (m .goes) on (h .1) in
-      let q = end-due E (stream (g .text) r) us (rw (w .there) (h .2)) in
+      let q = end-due E (stream (g .text) r) us (rw (w .behind) (h .2)) in
       let v = went close (w .on) (q .1) in
-      (v .on, v .there)
+      (v .on, v .behind)
 
 -- ---- its turns
 

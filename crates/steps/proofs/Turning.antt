@@ -11,12 +11,13 @@ use lib.Dec.{leb, ltb}
 use lib.ListN.{length}
 use borrow.Author.Tests.{le-leb, lt-leb, lt-ltb, le-ltb, leb-true}
 use Rattle.tokens.specs.Tokens.{Toks}
+use Rattle.tokens.proofs.Bools.{both}
 use Rattle.meaning.specs.Timing.{Tables}
 use Rattle.meaning.specs.Body.{looped, Body, supplied}
 use Rattle.meaning.specs.Run.{State, Cycle, Played as Play, shiftOf, cycles, visits, follow, again, playing, play}
 use Rattle.meaning.specs.Meaning.{firstFailing}
 use Rattle.meaning.specs.Statements.{Env}
-use Rattle.meaning.proofs.Turns.{Plain, keeps, copies, steady}
+use Rattle.meaning.proofs.Turns.{Plain, keeps, copies, steady, sound-parts}
 use Rattle.meaning.proofs.Rows.{AllWide, length-play, length-again}
 use Rattle.walks.specs.Statement.{playedIn}
 use Rattle.walks.specs.Turns.{begins}
@@ -24,13 +25,13 @@ use Rattle.walks.proofs.Loops.{again-add, loop-begins, loop-behind}
 use Rattle.words.specs.Cursor.{alive, stream}
 use Rattle.words.specs.declared.Cursor.{Cursor}
 use Rattle.plays.specs.Plays.{Ground, Arrays, Showing, Standing}
-use Rattle.plays.proofs.Fitting.{both, fits-again}
+use Rattle.plays.proofs.Fitting.{fits-again}
 use Rattle.rows.specs.declared.Walk.{Walk}
 use Rattle.rows.specs.Went.{over, spends, Went}
 use Rattle.rows.proofs.Going.{went-both, went-over}
 use Rattle.steps.specs.declared.Walked.{Walked}
 use Rattle.steps.specs.Walks.{Ready, Walks, Turning, Repeated}
-use Rattle.steps.proofs.Parting.{sound-parts, spends-none, went-none}
+use Rattle.steps.proofs.Parting.{spends-none, went-none}
 use Rattle.steps.proofs.Copying.{went-repeated}
 
 -- ---- what it costs counts only on the way to the cycle looked for

@@ -1,12 +1,10 @@
 -- Fold for callers in C, from what the service answers where its length has room, or 19.
 use Prim.Native.Nat.{ℕ, _≤_}
 use native.Mathlib.Omega.{arith}
-use mathlib.Core.Path.{_≡_, refl, sym, ap, _∙_}
-use mathlib.Core.Bool.{Bool, true, false}
+use mathlib.Core.Path.{_≡_, sym, ap, _∙_}
 use mathlib.Core.List.{List, [], _∷_}
 use lib.Dec.{leb}
 use lib.ListN.{length}
-use borrow.Author.Tests.{leb-true}
 use Rattle.meaning.specs.Meaning.{Answer, given, refused}
 use Rattle.texts.specs.Told.{packedRefusal}
 use Rattle.folded.specs.Fold.{Folded as Bytes}
@@ -17,7 +15,7 @@ use Rattle.verdicts.specs.Buffers.{afterwards, spared}
 use Rattle.stil.specs.Interface.{withRoom, fronted}
 use Rattle.stil.specs.Folds.{Flattens}
 use Rattle.stil.proofs.Handing.{hands-none, hands-all}
-use Rattle.stil.proofs.Opening.{spared-none}
+use Rattle.stil.proofs.Opening.{some-room}
 
 module _ (a : Answer Bytes) {buffer buffer′ : List ℕ} {r : Folded} (numbers : List ℕ) (h : Folds (spared (leb 1 (length numbers)) a) buffer buffer′ r) where
   roomy : foldedOf r buffer′ ≡ withRoom 1 numbers a
@@ -33,11 +31,7 @@ module _ (a : Answer Bytes) {buffer buffer′ : List ℕ} {r : Folded} (numbers 
 
   module _ {n : ℕ} (e : r ≡ Text n) where
     pub flattens-room : 1 ≤ length numbers
-    flattens-room = by (leb 1 (length numbers)) refl
-      where
-        by : (y : Bool) → leb 1 (length numbers) ≡ y → 1 ≤ length numbers
-        by true t = leb-true 1 (length numbers) t
-        by false t = absurd (spared-none a _ (ap (λ (y : Bool). spared y a) (sym t) ∙ sym (h .answers) ∙ ap (λ (x : Folded). foldedOf x buffer′) e))
+    flattens-room = some-room a 1 numbers (sym (h .answers) ∙ ap (λ (x : Folded). foldedOf x buffer′) e)
 
     pub flattens-all : {numbers′ : List ℕ} → numbers′ ≡ fronted (n ∷ []) numbers → Flattens a buffer buffer′ numbers 0 numbers′
     flattens-all q = record { counted = hands-all (sym roomy ∙ ap (λ (x : Folded). foldedOf x buffer′) e) q; folded-is = filled }

@@ -18,10 +18,17 @@ use Rattle.views.specs.declared.Shown.the-variants.{Rows, Refused}
 use Rattle.stil.proofs.Handing.{hands-none, hands-all}
 
 -- without room for what else is handed out, nothing is given
-pub spared-none : {A : Type 0} (a : Answer A) (x : A) → spared false a ≡ given x → ⊥
+spared-none : {A : Type 0} (a : Answer A) (x : A) → spared false a ≡ given x → ⊥
 unfolding answering
 spared-none (given y) x e = let z : _≡_ {A = ℕ} 0 1 = cc in omega arith
 spared-none (refused n p) x e = let z : _≡_ {A = ℕ} 0 1 = cc in omega arith
+
+pub some-room : {A : Type 0} (a : Answer A) (k : ℕ) (numbers : List ℕ) {x : A} → spared (leb k (length numbers)) a ≡ given x → k ≤ length numbers
+some-room a k numbers {x} e = by (leb k (length numbers)) refl e
+  where
+    by : (y : Bool) → leb k (length numbers) ≡ y → spared y a ≡ given x → k ≤ length numbers
+    by true t e = leb-true k (length numbers) t
+    by false t e = absurd (spared-none a x e)
 
 module _ (a : Answer Window) {rows rows′ : List ℕ} {r : Shown} (numbers : List ℕ) (h : Views (spared (leb 2 (length numbers)) a) rows rows′ r) where
   answered : shownOf r rows′ ≡ withRoom 2 numbers a
@@ -37,11 +44,7 @@ module _ (a : Answer Window) {rows rows′ : List ℕ} {r : Shown} (numbers : Li
 
   module _ {n v : ℕ} (e : r ≡ Rows n v) where
     pub opens-room : 2 ≤ length numbers
-    opens-room = by (leb 2 (length numbers)) refl
-      where
-        by : (y : Bool) → leb 2 (length numbers) ≡ y → 2 ≤ length numbers
-        by true t = leb-true 2 (length numbers) t
-        by false t = absurd (spared-none a _ (ap (λ (y : Bool). spared y a) (sym t) ∙ sym (h .answers) ∙ ap (λ (x : Shown). shownOf x rows′) e))
+    opens-room = some-room a 2 numbers (sym (h .answers) ∙ ap (λ (x : Shown). shownOf x rows′) e)
 
     pub opens-all : {numbers′ : List ℕ} → numbers′ ≡ fronted (n ∷ v ∷ []) numbers → Opens a rows rows′ numbers 0 numbers′
     opens-all q = record { counted = hands-all (sym answered ∙ ap (λ (x : Shown). shownOf x rows′) e) q; rows-are = written }

@@ -1,11 +1,9 @@
 -- A saved text as a caller in C has it: one number, the text and its spans in two buffers, and how many there are at the front of a third.
 use Prim.Native.Nat.{ℕ, _≤_}
-use mathlib.Core.Path.{_≡_, refl, sym, ap, _∙_}
-use mathlib.Core.Bool.{Bool, true, false}
+use mathlib.Core.Path.{_≡_, sym, ap, _∙_}
 use mathlib.Core.List.{List, [], _∷_}
 use lib.Dec.{leb}
 use lib.ListN.{length}
-use borrow.Author.Tests.{leb-true}
 use Rattle.meaning.specs.Meaning.{Answer}
 use Rattle.texts.specs.Told.{packedRefusal}
 use Rattle.saving.specs.Saving.{Restored}
@@ -16,7 +14,7 @@ use Rattle.services.specs.declared.Saved.the-variants.{Spans, Refused}
 use Rattle.stil.specs.Interface.{withRoom, fronted}
 use Rattle.stil.specs.Saves.{Restores}
 use Rattle.stil.proofs.Handing.{hands-none, hands-all}
-use Rattle.stil.proofs.Opening.{spared-none}
+use Rattle.stil.proofs.Opening.{some-room}
 
 module _ (a : Answer Restored) {text text′ spans spans′ : List ℕ} {r : Saved} (numbers : List ℕ) (h : Saves (spared (leb 1 (length numbers)) a) text text′ spans spans′ r) where
   answered : savedOf r text′ spans′ ≡ withRoom 1 numbers a
@@ -36,11 +34,7 @@ module _ (a : Answer Restored) {text text′ spans spans′ : List ℕ} {r : Sav
 
   module _ {n : ℕ} (e : r ≡ Spans n) where
     pub restores-room : 1 ≤ length numbers
-    restores-room = by (leb 1 (length numbers)) refl
-      where
-        by : (y : Bool) → leb 1 (length numbers) ≡ y → 1 ≤ length numbers
-        by true t = leb-true 1 (length numbers) t
-        by false t = absurd (spared-none a _ (ap (λ (y : Bool). spared y a) (sym t) ∙ sym (h .answers) ∙ ap (λ (x : Saved). savedOf x text′ spans′) e))
+    restores-room = some-room a 1 numbers (sym (h .answers) ∙ ap (λ (x : Saved). savedOf x text′ spans′) e)
 
     pub restores-all : {numbers′ : List ℕ} → numbers′ ≡ fronted (n ∷ []) numbers → Restores a text text′ spans spans′ numbers 0 numbers′
     restores-all q = record { counted = hands-all (sym answered ∙ ap (λ (x : Saved). savedOf x text′ spans′) e) q; text-is = the-text; spans-are = the-spans }

@@ -35,9 +35,9 @@ use services::Holding;
 use services::Indexed;
 use services::Located;
 use services::Saved;
-use services::TEXT_MOST;
-use verdicts::NO_ROOM;
+use tokens::TEXT_MOST;
 use views::Shown;
+use words::NO_ROOM;
 
 // A refusal as one number: 32 times its place and its number.
 fn pack(no: u8, place: usize) -> u64
@@ -110,7 +110,7 @@ pub extern "C" fn lutemeteor_window(
     }
 }
 
-// Waveform: times in ps and letters, and how many events there are. A buffer without room for its part is 19.
+// Waveform: times in ps, each the 64 bits of a signed number, and letters, and how many events there are. A buffer without room for its part is 19.
 #[no_mangle]
 pub extern "C" fn lutemeteor_waveform(
     text: &[u8],

@@ -5,7 +5,7 @@ ghost use Rattle.streams.specs.Pages.{roomMost, rawRoom, rowsMost};
 ghost use Rattle.io.specs.Counts.{Counts};
 
 // One byte more than a text may have, so that one that is too long is refused and never cut.
-const TEXT: usize = 65_537;
+const TEXT: usize = tokens::TEXT_MOST + 1;
 
 // The same of a raw text.
 const RAW: usize = 1_048_577;

@@ -1,6 +1,5 @@
 -- Rows by their bytes: pins that lose a value, names by their numbers, and rows one behind the other in a buffer.
 use Prim.Native.Nat.{ℕ, zero, suc, _+_, _*_, _-_, _≤_, _<_}
-use native.Mathlib.Nat.{suc-mul, mul-le-mul-right}
 use native.Mathlib.Omega.{arith}
 use native.Mathlib.Numerals.{add-one}
 use mathlib.Core.Path.{_≡_, refl, sym, ap, ap₂, _∙_}
@@ -71,9 +70,6 @@ pub word-none : (text places : List ℕ) (n s : ℕ) → n ≤ s → nameAt (wor
 word-none text places n s h = past-end (wordsIn text places n) s (omega (arith, words-long text places 0 n))
 
 -- ---- rows in a buffer
-
-pub row-room : (r count w long : ℕ) → r < count → count * w ≤ long → r * w + w ≤ long
-row-room r count w long h g = omega (arith, mul-le-mul-right {m = suc r} {n = count} w h, suc-mul r w)
 
 -- as the code lends it
 pub part-is : (a w : ℕ) (buffer : List ℕ) → take ((a + w) - a) (drop a buffer) ≡ take w (drop a buffer)

@@ -2,7 +2,7 @@
 use Prim.Native.Nat.{ℕ}
 use native.Mathlib.Omega.{arith}
 use mathlib.Core.Path.{_≡_, sym, ap, ap₂, _∙_, subst}
-use mathlib.Core.Bool.{true}
+use mathlib.Core.Bool.{true, true≢false}
 use mathlib.Core.Option.{none}
 use lib.ListN.{length, drop, length-drop}
 use lib.Seq.{drop-drop}
@@ -12,7 +12,6 @@ use Rattle.meaning.specs.Run.{State, Played, follow, play}
 use Rattle.meaning.specs.Meaning.{firstFailing}
 use Rattle.meaning.proofs.Turns.{orElse, fails-++}
 use Rattle.measures.specs.Measures.{joined}
-use Rattle.arguments.proofs.Lists.{differ}
 use Rattle.sums.specs.Sums.{Sum, Asks, Leaves, due, Enough, Sums}
 use Rattle.sums.specs.Parts.{Kept}
 use Rattle.sums.proofs.Taken.{play-joined, due-joined}
@@ -50,7 +49,7 @@ module _ (tabs : Tables) (n : ℕ) where
 
   -- a sum that asks for what can't be asks for enough
   pub spoilt : {t : ℕ} {front : Body} {S R : Sum} → Sums tabs n t front S → (one : Body) → Takes t one → R .bad ≡ true → Sums tabs n t (joined front one) R
-  spoilt {t} {front} x one y e = record { used = used-both t front one (x .used) y; each = λ s w f h. absurd (differ (sym e ∙ h .good)) }
+  spoilt {t} {front} x one y e = record { used = used-both t front one (x .used) y; each = λ s w f h. absurd (true≢false (sym e ∙ h .good)) }
 
   pub added : {t : ℕ} {front one : Body} {S R : Sum} → Sums tabs n t front S → Adds t one S R → Sums tabs n t (joined front one) R
   unfolding follow

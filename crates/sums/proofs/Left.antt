@@ -12,8 +12,7 @@ use borrow.Author.Tests.{eqb-true, eqb-false}
 use Rattle.meaning.specs.Lists.{count}
 use Rattle.meaning.specs.Body.{Assigns, Args, mark, marked, argOf}
 use Rattle.meaning.specs.Run.{State, next, put, puts}
-use Rattle.turns.proofs.Shows.{moving-puts}
-use Rattle.walks.proofs.Shifts.{puts-table}
+use Rattle.meaning.proofs.Rows.{puts-table, puts-long}
 use Rattle.measures.proofs.Counting.{count-append}
 use Rattle.sums.specs.Sums.{Shown, before, argument, char, Sum, orTable, Stands, Leaves}
 use Rattle.sums.specs.Parts.{shownOne, shownBy, lastOf, behind}
@@ -62,9 +61,6 @@ module _ (i : ℕ) where
       by true = count-append i (y .0 ∷ []) (marked a)
       by false = omega arith
 
-pub wide-puts : (a : Assigns) (s : State) → length (puts a s .pins) ≡ length (s .pins)
-wide-puts a s = moving-puts (length (s .pins)) a (s .args) .2 .to s (record { args = refl; width = refl }) .width
-
 module _ (i : ℕ) (s : State) where
   -- one of them
   stands-put : (y : ℕ × ℕ) (x : Shown) (s₁ : State) → i < length (s₁ .pins) → count i (marked (y ∷ [])) ≤ length (argOf i (s₁ .args)) → Gone i s s₁ → Stands x i s s₁
@@ -104,7 +100,7 @@ module _ (i : ℕ) (s : State) where
       let left = arg-puts i (y ∷ []) s₁ in
       let parts = marked-first i y a in
       let long = ap length left ∙ length-drop (count i (marked (y ∷ []))) (argOf i (s₁ .args)) in
-      stands-puts a (shownOne y i x) (put y s₁) (omega (arith, wide-puts (y ∷ []) s₁)) (omega arith)
+      stands-puts a (shownOne y i x) (put y s₁) (omega (arith, puts-long (y ∷ []) s₁)) (omega arith)
       (gone-more i s (count i (marked (y ∷ []))) s₁ (put y s₁) left g)
       (stands-put y x s₁ b (omega arith) g e)
 
@@ -131,7 +127,7 @@ module _ {n : ℕ} {S : Sum} {s s₁ : State} (l : Leaves n S s s₁) {R : Sum} 
   pub leaves-puts : (a : Assigns) → ((i : ℕ) → count i (marked a) ≤ length (argOf i (s₁ .args))) → ((i : ℕ) → i < n → R .pin i ≡ shownBy a i (S .pin i)) → R .table ≡ S .table
       → Leaves n R s (puts a s₁)
   leaves-puts a h p q = record {
-    wide = wide-puts a s₁ ∙ l .wide;
+    wide = puts-long a s₁ ∙ l .wide;
     table-is = puts-table a s₁ ∙ rw q (l .table-is);
     pins-are = λ i b. rw (p i b) (stands-puts i s a (S .pin i) s₁ (rw (l .wide) b) (h i) (l .args-are i) (l .pins-are i b));
     args-are = λ i. gone-more i s (count i (marked a)) s₁ (puts a s₁) (arg-puts i a s₁) (l .args-are i);

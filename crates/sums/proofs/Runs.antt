@@ -3,7 +3,7 @@ use Prim.Native.Nat.{ℕ, _<_}
 use native.Mathlib.Nat.{zero-mul}
 use native.Mathlib.Omega.{arith}
 use mathlib.Core.Path.{_≡_, refl, sym, _∙_}
-use mathlib.Core.Bool.{true}
+use mathlib.Core.Bool.{true, true≢false}
 use mathlib.Core.Option.{Option, none, some}
 use mathlib.Core.List.{[]}
 use lib.ListN.{length, length-replicate, getD-replicate}
@@ -13,7 +13,6 @@ use Rattle.meaning.specs.Body.{listed, Body, shifting, argOf}
 use Rattle.meaning.specs.Run.{shiftOf, State, bare, entering, playing, play, start, cyclesOf}
 use Rattle.meaning.specs.Meaning.{firstFailing}
 use Rattle.meaning.proofs.Everywhere.{Runs, no-more, one-more}
-use Rattle.arguments.proofs.Lists.{differ}
 use Rattle.sums.specs.Sums.{Sum, okAt, orTable, Asks, due, Enough}
 use Rattle.sums.specs.Parts.{Alone, Cleared}
 use Rattle.sums.proofs.Adds.{fails-none}
@@ -24,14 +23,14 @@ module _ (tabs : Tables) (n : ℕ) where
   unfolding start orTable okAt argOf has
   asks-start {S} x = record {
     good = x .good;
-    tabled = λ e. absurd (differ (sym e ∙ x .untabled));
+    tabled = λ e. absurd (true≢false (sym e ∙ x .untabled));
     shown = λ i t b e. rw (getD-replicate {A = ℕ} n i 0 0 b) (by i t b e);
-    fed = λ i t b e c g. absurd (differ (sym g));
+    fed = λ i t b e c g. absurd (true≢false (sym g));
   }
     where
       by : (i : ℕ) (t : Option ℕ) → i < n → S .under i t ≡ true → okAt tabs (orTable t none) i 0 ≡ true
       by i (some k) b e = refl
-      by i none b e = absurd (differ (sym e ∙ x .unshown i b))
+      by i none b e = absurd (true≢false (sym e ∙ x .unshown i b))
 
   pub pattern-plays : {b : Body} → Cleared tabs n b → firstFailing tabs (play 0 b (start n) .1) ≡ none
   unfolding start due count argOf

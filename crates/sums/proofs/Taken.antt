@@ -9,9 +9,9 @@ use lib.ListN.{drop}
 use lib.Seq.{drop-drop}
 use lib.Dec.{eqb}
 use Rattle.meaning.specs.Lists.{has, count, repeats}
-use Rattle.meaning.specs.Body.{Assigns, Args, Way, looped, shifted, entered, Body, done, vec, set′, inner, marked, outside, inShift, shifting, argOf}
+use Rattle.meaning.specs.Body.{Assigns, Args, Body, done, vec, set′, inner, marked, outside, shifting, argOf}
 use Rattle.meaning.specs.Run.{shiftOf, State, Cycle, Played, puts, cycleAt, follow, again, playing, play}
-use Rattle.meaning.proofs.Turns.{PlainWay, Plain}
+use Rattle.meaning.proofs.Turns.{Plain, plain-way}
 use Rattle.walks.specs.Turns.{vector, lost, lostAll}
 use Rattle.walks.proofs.Arguments.{arg-kept, arg-skipped}
 use Rattle.walks.proofs.Shifts.{puts-args}
@@ -68,12 +68,6 @@ due-joined t a b i =
     omega arith
 
 -- ---- a plain body takes none
-
-plain-way : (w : Way) (P : Type 0) (l : List ℕ) → PlainWay w P → inShift w l ≡ []
-unfolding inShift
-plain-way (looped n) P l h = refl
-plain-way shifted P l h = absurd h
-plain-way (entered k t a) P l h = refl
 
 pub plain-due : (t : ℕ) (b : Body) (i : ℕ) → Plain b → due t b i ≡ 0
 unfolding Plain due outside shifting count

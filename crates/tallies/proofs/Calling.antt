@@ -2,7 +2,7 @@
 use Prim.Native.Nat.{ℕ, _+_, _*_, _≤_, _<_}
 use native.Mathlib.Omega.{arith}
 use mathlib.Core.Path.{_≡_, refl, sym, ap, _∙_, subst}
-use mathlib.Core.Bool.{Bool, true, false}
+use mathlib.Core.Bool.{Bool, true, false, true≢false}
 use mathlib.Core.Option.{Option, none, some}
 use mathlib.Core.List.{List}
 use borrow.Author.Count.{below-more}
@@ -10,7 +10,6 @@ use Rattle.meaning.specs.Bounds.{signalsMost}
 use Rattle.meaning.specs.Timing.{Tables}
 use Rattle.meaning.specs.Body.{Args, argOf}
 use Rattle.arguments.specs.Supplied.{Supplied}
-use Rattle.arguments.proofs.Lists.{differ}
 use Rattle.sums.specs.Sums.{Shown, orTable}
 use Rattle.sums.specs.Parts.{Kept, Shows, Entered, InPlace, Called}
 use Rattle.sums.proofs.Statements.{kept-both}
@@ -97,7 +96,7 @@ module _ {text waves given args : List ℕ} {r from : ℕ} {sums : List ℕ} whe
       where
         by : (b : Bool) → (b ≡ false → sumAt sums₀ r .bad ≡ false) → b ≡ true
         by true f = refl
-        by false f = absurd (differ (sym e ∙ f refl))
+        by false f = absurd (true≢false (sym e ∙ f refl))
 
 -- ---- a procedure: the first s signals were passed
 

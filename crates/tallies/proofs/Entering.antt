@@ -2,7 +2,7 @@
 use Prim.Native.Nat.{ℕ, _+_, _*_, _≤_, _<_}
 use native.Mathlib.Omega.{arith}
 use mathlib.Core.Path.{_≡_, refl, sym, ap, _∙_, subst}
-use mathlib.Core.Bool.{Bool, true, false, _||_}
+use mathlib.Core.Bool.{Bool, true, false, _||_, true≢false}
 use mathlib.Core.Option.{Option}
 use mathlib.Core.List.{List, [], _∷_}
 use lib.Dec.{eqb}
@@ -13,7 +13,6 @@ use Rattle.meaning.specs.Timing.{Tables}
 use Rattle.meaning.specs.Body.{Args, mark, argOf, supplied}
 use Rattle.data.proofs.Characters.{no-mark, no-zero}
 use Rattle.arguments.specs.Supplied.{Supplied}
-use Rattle.arguments.proofs.Lists.{differ}
 use Rattle.arguments.proofs.Fits.{arg-none}
 use Rattle.pins.specs.Shown.{tableOf}
 use Rattle.pins.proofs.Callers.{table-some, table-none}
@@ -46,7 +45,7 @@ module _ {text : List ℕ} {xs : Args} {given args : List ℕ} (u : Supplied tex
 
   pub real-char : (c : ℕ) → has c (argOf i xs) ≡ true → shownOf c ≡ char c
   real-char c h =
-      shown-char c (λ e. differ (sym h ∙ ap (λ (n : ℕ). has n (argOf i xs)) e ∙ nonzero)) (λ e. differ (sym h ∙ ap (λ (n : ℕ). has n (argOf i xs)) e ∙ unmarked))
+      shown-char c (λ e. true≢false (sym h ∙ ap (λ (n : ℕ). has n (argOf i xs)) e ∙ nonzero)) (λ e. true≢false (sym h ∙ ap (λ (n : ℕ). has n (argOf i xs)) e ∙ unmarked))
 
 last-not : (cs : List ℕ) (d : ℕ) → has mark cs ≡ false → (d ≡ mark → ⊥) → lastOf cs d ≡ mark → ⊥
 unfolding lastOf has
@@ -54,7 +53,7 @@ last-not [] d h n e = n e
 last-not (c ∷ cs) d h n e = by (eqb c mark) refl h (λ k m. last-not cs c k m e)
   where
     by : (z : Bool) → eqb c mark ≡ z → (z || has mark cs) ≡ false → (has mark cs ≡ false → (c ≡ mark → ⊥) → ⊥) → ⊥
-    by true q k f = differ k
+    by true q k f = true≢false k
     by false q k f = f k (eqb-false c mark q)
 
 -- ---- what is left on a signal

@@ -7,10 +7,9 @@ use mathlib.Core.Option.{Option, none, some}
 use mathlib.Core.List.{List}
 use lib.Dec.{ltb}
 use borrow.Author.Tests.{ltb-true, lt-ltb}
+use Rattle.tokens.proofs.Bools.{both, contra}
 use Rattle.meaning.specs.Bounds.{signalsMost, tablesMost}
 use Rattle.meaning.specs.Timing.{Tables}
-use Rattle.words.proofs.Loops.{both}
-use Rattle.arguments.proofs.Lists.{differ}
 use Rattle.pins.specs.Shown.{tableOf}
 use Rattle.sums.specs.Sums.{Shown, before, Sum}
 use Rattle.sums.specs.Parts.{Kept, Shows}
@@ -39,10 +38,6 @@ slot-place i t h =
 -- two tests, and a third one that may change
 and-kept : (x y z : Bool) → (x ≡ true → y ≡ true → z ≡ true) → (x && y) ≡ true → (x && z) ≡ true
 and-kept x y z f h = let b = both x y h in rw (b .0) (f (b .0) (b .1))
-
-pub carried : (x y : Bool) → (x ≡ true → y ≡ true) → y ≡ false → x ≡ false
-carried true y f e = absurd (differ (sym (f refl) ∙ e))
-carried false y f e = refl
 
 -- a table that is fine in a row that was not written
 pub fine-read : {r b : ℕ} {sums sums′ : List ℕ} → Only r sums sums′ → (q k : ℕ) → (q ≡ r → ⊥) → k < tablesMost → b ≡ byteAt sums′ q (fineFrom + k) → (b ≡ 0 → ⊥)
@@ -98,7 +93,7 @@ pin-alike sums sums′ r i f = picked (ltb i signalsMost) _ _ (λ e. f (ltb-true
 pub grown-kept : {r : ℕ} {sums sums′ : List ℕ} → Grown r sums sums′ → (n : ℕ) → Kept n (sumAt sums r) (sumAt sums′ r)
 grown-kept g n =
     record {
-      good = carried _ _ (g .bad);
+      good = contra _ _ (g .bad);
       needs = g .needs;
       fine = λ k. and-kept _ _ _ (λ h e. g .fine k (ltb-true k tablesMost h) e);
       under = λ i t l. and-kept _ _ _ (λ (h : (ltb i signalsMost && isSlot t) ≡ true). g .marks (i * slots + slotOf t) (omega (arith, slot-place i t h)));

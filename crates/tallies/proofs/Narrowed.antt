@@ -7,8 +7,8 @@ use mathlib.Core.List.{List}
 use lib.Dec.{ltb}
 use borrow.Author.Count.{below-more}
 use borrow.Author.Tests.{ltb-true}
+use Rattle.tokens.proofs.Bools.{both}
 use Rattle.meaning.specs.Bounds.{tablesMost}
-use Rattle.arguments.proofs.Lists.{both}
 use Rattle.tallies.specs.Rows.{fineFrom, flagAt, sumAt, Stored, More}
 use Rattle.tallies.proofs.Stored.{flag-is, flag-was}
 use Rattle.tallies.proofs.Grown.{more-none, more-then, more-unfine}

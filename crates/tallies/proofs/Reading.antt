@@ -2,7 +2,7 @@
 use Prim.Native.Nat.{ℕ, _+_, _≤_, _<_}
 use native.Mathlib.Omega.{arith}
 use mathlib.Core.Path.{_≡_, refl, sym, ap, _∙_, subst}
-use mathlib.Core.Bool.{Bool, true, false}
+use mathlib.Core.Bool.{Bool, true, false, true≢false}
 use mathlib.Core.List.{List, [], _∷_, _++_}
 use lib.Dec.{ltb, eqb}
 use lib.ListN.{length, getD, take, set, replicate, length-set, length-replicate, getD-replicate, List·getD-eq-default}
@@ -15,7 +15,6 @@ use Rattle.words.specs.Cursor.{span}
 use Rattle.feeds.specs.declared.Feed.{Feed}
 use Rattle.feeds.specs.Feeds.{NextWord}
 use Rattle.arguments.specs.Supplied.{DataAt, Supplied}
-use Rattle.arguments.proofs.Lists.{differ}
 use Rattle.arguments.proofs.Fits.{arg-none}
 use Rattle.arguments.proofs.Counted.{argument-none}
 use Rattle.noted.proofs.Reading.{take-more, has-more, Unread, unread-all, unread-word, unread-none}
@@ -33,7 +32,7 @@ last-append (x ∷ xs) ys d = last-append xs ys x
 last-word : (front w : List ℕ) (d : ℕ) → ((c : ℕ) → has c front ≡ true → has c w ≡ true) → lastOf w (lastOf front d) ≡ lastOf w d
 unfolding lastOf has
 last-word [] [] d a = refl
-last-word (x ∷ front) [] d a = absurd (differ (sym (a x (rw (eq-eqb x x refl)))))
+last-word (x ∷ front) [] d a = absurd (true≢false (sym (a x (rw (eq-eqb x x refl)))))
 last-word front (x ∷ w) d a = refl
 
 -- one more of a list
@@ -69,13 +68,13 @@ module _ {text : List ℕ} {place : ℕ} where
 pub reading-unsupplied : {text : List ℕ} {xs : Args} {given args : List ℕ} → Supplied text xs given args → (i : ℕ) → i < signalsMost → getD given i 0 ≡ 0
     → (0 ≡ lastOf (argOf i xs) 0) × ((c : ℕ) → has c (argOf i xs) ≡ true → ⊥)
 unfolding lastOf has
-reading-unsupplied {text} {xs} u i h z = let e = arg-none i xs (argument-none u i h z) in (rw e, λ c k. differ (sym (rw e at k)))
+reading-unsupplied {text} {xs} u i h z = let e = arg-none i xs (argument-none u i h z) in (rw e, λ c k. true≢false (sym (rw e at k)))
 
 -- ---- the bytes of a word, one after the other: the first i of them
 
 pub word-none : {seen : List ℕ} {P : ℕ → Type 0} → SeenWord [] seen seen P
 unfolding has
-word-none = record { long = refl; word = λ c h. absurd (differ (sym h)); new = λ c e n. absurd (n e) }
+word-none = record { long = refl; word = λ c h. absurd (true≢false (sym h)); new = λ c e n. absurd (n e) }
 
 module _ (w : List ℕ) (i : ℕ) {seen seen′ : List ℕ} {P : ℕ → Type 0} (y : SeenWord (take i w) seen seen′ P) (h : i < length w) where
   -- one that was seen

@@ -8,12 +8,12 @@ use lib.Dec.{ltb, eqb}
 use lib.ListN.{getD}
 use borrow.Author.Count.{below-more}
 use borrow.Author.Tests.{ltb-true, ltb-false, eqb-true, eqb-false, eq-eqb, ne-eqb}
+use Rattle.tokens.proofs.Bools.{neither}
 use Rattle.meaning.specs.Bounds.{signalsMost, tablesMost}
 use Rattle.meaning.specs.Lists.{has, repeats}
 use Rattle.meaning.specs.Body.{Assigns, mark}
 use Rattle.meaning.specs.Data.{assigned}
 use Rattle.assigns.specs.Given.{charOf, chars}
-use Rattle.assigns.proofs.Table.{or-false}
 use Rattle.measures.specs.Uses.{Given}
 use Rattle.pins.specs.Shown.{tableOf}
 use Rattle.pins.proofs.Callers.{table-some, table-none}
@@ -114,14 +114,14 @@ module _ (i : ℕ) where
   pub unassigned-shown : (a : Assigns) (x : Shown) → has i (assigned a) ≡ false → shownBy a i x ≡ x
   unfolding shownBy shownOne assigned has
   unassigned-shown [] x h = refl
-  unassigned-shown (y ∷ a) x h = let n = or-false (eqb (y .0) i) (has i (assigned a)) h in rw (n .0, shownOne) (unassigned-shown a x (n .1))
+  unassigned-shown (y ∷ a) x h = let n = neither (eqb (y .0) i) (has i (assigned a)) h in rw (n .0, shownOne) (unassigned-shown a x (n .1))
 
   assigned-shown : (a : Assigns) (b : ℕ) → has 0 (chars a) ≡ false → repeats (assigned a) ≡ false → shownBy a i (shownOf b) ≡ shownOf (over (charOf i a) b)
   unfolding shownBy shownOne charOf chars assigned has repeats
   assigned-shown [] b r q = ap shownOf (sym (over-none 0 b refl))
   assigned-shown (y ∷ a) b r q =
-      let real = or-false (eqb (y .1) 0) (has 0 (chars a)) r in
-      let once = or-false (has (y .0) (assigned a)) (repeats (assigned a)) q in
+      let real = neither (eqb (y .1) 0) (has 0 (chars a)) r in
+      let once = neither (has (y .0) (assigned a)) (repeats (assigned a)) q in
       by (eqb (y .0) i) refl (eqb-false (y .1) 0 (real .0)) (once .0) (assigned-shown a b (real .1) (once .1))
     where
       by : (z : Bool) → eqb (y .0) i ≡ z → (y .1 ≡ 0 → ⊥) → has (y .0) (assigned a) ≡ false → shownBy a i (shownOf b) ≡ shownOf (over (charOf i a) b)

@@ -11,12 +11,12 @@ use borrow.Author.Tests.{eqb-true, eqb-false, leb-true, leb-false}
 use Rattle.tokens.specs.Refusals.{textMost}
 use Rattle.tokens.specs.Tokens.{faultOf}
 use Rattle.tokens.proofs.Faults.{fault-too-long}
+use Rattle.tokens.proofs.Bools.{both}
 use Rattle.meaning.specs.Bounds.{sizeMost, cyclesMost}
 use Rattle.meaning.specs.Body.{Body}
 use Rattle.meaning.specs.Run.{size, cycles}
 use Rattle.meaning.specs.Document.{Read}
 use Rattle.meaning.specs.Meaning.{Answer, given, refused, answering, fitting, tableAt}
-use Rattle.words.proofs.Loops.{both}
 use Rattle.signals.proofs.Tables.{names-length}
 use Rattle.timing.specs.Watch.{Watched}
 use Rattle.timing.specs.declared.Watch.{Watch}
@@ -34,7 +34,7 @@ use Rattle.texts.specs.declared.Verdict.{Verdict}
 use Rattle.texts.proofs.Sounds.{sound-fault, sound-refused, sound-runs}
 
 -- a text that 1 to 16 leave is not too long
-short-sound : (text : List ℕ) {x : Sound} → sound text ≡ given x → length text ≤ textMost
+pub short-sound : (text : List ℕ) {x : Sound} → sound text ≡ given x → length text ≤ textMost
 short-sound text e = by (leb (length text) textMost) refl
   where
     by : (b : Bool) → leb (length text) textMost ≡ b → length text ≤ textMost

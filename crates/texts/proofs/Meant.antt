@@ -1,4 +1,4 @@
--- The meaning of a text is what 1 to 16 leave of it, and then 17.
+-- The meaning of a text is what 1 to 16 leave of it, and then 17 and 25.
 use Prim.Native.Nat.{ℕ}
 use mathlib.Core.Path.{_≡_, refl}
 use mathlib.Core.Bool.{Bool, true, false}

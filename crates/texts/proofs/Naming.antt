@@ -1,7 +1,7 @@
 -- Each name of the patterns' name space once: behind PatternExec the tokens are the text's from some place on, so that the pass over the labels reads what the patterns' reader reads.
 use Prim.Native.Nat.{ℕ, _≤_}
 use mathlib.Core.Path.{_≡_, refl, sym, ap, _∙_, subst}
-use mathlib.Core.Bool.{Bool, true, false}
+use mathlib.Core.Bool.{Bool, true, false, true≢false}
 use mathlib.Core.List.{List}
 use lib.Dec.{ltb}
 use lib.ListN.{length}
@@ -18,7 +18,6 @@ use Rattle.words.proofs.Flow.{read, stream-on, stream-stop}
 use Rattle.labels.specs.Joined.{Joins}
 use Rattle.labels.proofs.Joining.{goes-once, once-kept}
 use Rattle.timing.specs.Watch.{Placed}
-use Rattle.arguments.proofs.Lists.{differ}
 use Rattle.heads.specs.declared.Known.{Known}
 use Rattle.heads.specs.Known.{Describes}
 use Rattle.texts.specs.Patterns.{inPatterns}
@@ -32,7 +31,7 @@ placed-behind {A} {text} {c} {r} {m} {a} h g = by (alive r) refl
     there false e b = absurd (subst (λ (ts : Toks). Behind (stream text r) ts) (stream-stop text c e) b)
 
     by : (x : Bool) → alive r ≡ x → Placed text r
-    by false e = record { from = 0; there = λ live. absurd (differ (sym live ∙ e)) }
+    by false e = record { from = 0; there = λ live. absurd (true≢false (sym live ∙ e)) }
     by true e =
         let s = there (ltb (c .at) (c .end)) refl (h .rest (stream text c) a (stream text r) (read g e .gave)) in
         record { from = s .0; there = λ live. s .1 }

@@ -9,7 +9,7 @@ use mathlib.Core.List.{List, [], _∷_}
 use lib.ListN.{length, getD, drop}
 use lib.Dec.{leb, ltb}
 use borrow.Author.Tests.{le-ltb, lt-ltb}
-use Rattle.tokens.specs.Tokens.{Tok, stop}
+use Rattle.tokens.specs.Tokens.{Tok}
 use Rattle.meaning.specs.Bounds.{sizeMost, cyclesMost}
 use Rattle.meaning.specs.Refusals.{notDefined}
 use Rattle.meaning.specs.Names.{find}
@@ -26,6 +26,7 @@ use Rattle.measures.proofs.Book.{listed-decl, part-listed}
 use Rattle.measures.proofs.Within.{size-test, cycles-test}
 use Rattle.measures.proofs.Joined.{joined-done, joined-inner}
 use Rattle.bursts.specs.Listed.{listedIn}
+use Rattle.heads.proofs.ByNumber.{nothing}
 
 -- ---- the list from number k on
 
@@ -93,9 +94,6 @@ module _ {ps : Decls} {all : List Tok} {x : Measure} (text list : List ℕ) (cou
     run-next {d} e f = record { front = joined (l .front) (entry d done); measured = f (l .front) (l .measured); same = next-same e }
 
 -- ---- a listed name among the patterns of the book
-
-nothing : Decl
-nothing = record { body = done; from = stop 0 0 }
 
 module _ (text book : List ℕ) (ps : Decls) (l : Listed (Entry text book) firstPattern ps) {part v w : List ℕ} {count : ℕ} (i : ℕ)
     (part-is : part ≡ drop (firstPattern * 2) book) (word-is : v ≡ w) (f : told (ltb i count) i ≡ find (names text part count) v)

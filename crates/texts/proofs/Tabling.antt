@@ -2,7 +2,7 @@
 use Prim.Native.Nat.{ℕ, _*_}
 use native.Mathlib.Omega.{arith}
 use mathlib.Core.Path.{_≡_, refl, sym, ap, _∙_, subst}
-use mathlib.Core.Bool.{Bool, true, false}
+use mathlib.Core.Bool.{Bool, true, false, true≢false}
 use mathlib.Core.List.{List, []}
 use lib.ListN.{length}
 use borrow.Author.Tests.{eq-eqb, ne-eqb}
@@ -27,7 +27,6 @@ use Rattle.timing.specs.Marks.{tableSize}
 use Rattle.timing.specs.Watch.{Watched}
 use Rattle.timing.specs.declared.Watch.{Watch}
 use Rattle.declared.specs.Declarations.{declarations, Declares}
-use Rattle.arguments.proofs.Lists.{differ}
 use Rattle.measures.specs.Book.{bookLength, rowsLength, Listed}
 use Rattle.bursts.proofs.Entries.{listed-length}
 use Rattle.noted.specs.Known.{AllNoted, Knows}
@@ -73,7 +72,7 @@ notes-from {text} {used} {r = r} {d = d} s g h =
 
 -- nothing was
 pub notes-stopped : {text used : List ℕ} {b : Cursor} {r : Parts} {k : Known} → r ≡ stoppedAt b k → alive b ≡ false → NotesRead text used r
-notes-stopped {b = b} e off = rw e (record { noted = λ z d us q. absurd (differ (sym (eq-eqb (b .no) 0 z) ∙ off)) })
+notes-stopped {b = b} e off = rw e (record { noted = λ z d us q. absurd (true≢false (sym (eq-eqb (b .no) 0 z) ∙ off)) })
 
 -- one that was not
 nothing : Read
@@ -81,7 +80,7 @@ nothing = record { signals = []; tables = []; listed = []; patterns = [] }
 
 refused-from : {text places lists tplaces waves book rows list : List ℕ} {w : Watch} {c b : Cursor} {r : Parts} {k : Known} → Stands text 0 c
     → Goes text c blocks b nothing → r ≡ stoppedAt b k → alive b ≡ false → Reads text w places lists tplaces waves book rows list r
-refused-from {b = b} {k = k} s g e off = rw e (reads-from {r = stoppedAt b k} s g (λ live. absurd (differ (sym live ∙ off))))
+refused-from {b = b} {k = k} s g e off = rw e (reads-from {r = stoppedAt b k} s g (λ live. absurd (true≢false (sym live ∙ off))))
 
 module _ {text places lists tplaces waves : List ℕ} {c a : Cursor} {signals names tables : ℕ} {w : Watch} {found : Bool} {place : ℕ} (s : Stands text 0 c)
     (d : Declares text c a places lists tplaces waves signals names tables w found place) where

@@ -10,7 +10,7 @@ use Rattle.meaning.specs.Reader.{Res, ok, refuse}
 use Rattle.meaning.specs.Body.{Body}
 use Rattle.meaning.specs.Run.{cyclesOf, cycles, size}
 use Rattle.meaning.specs.Document.{Read, document}
-use Rattle.meaning.specs.Meaning.{Answer, given, refused, answering, runOf, fitting, firstFailing, firsts, Meaning}
+use Rattle.meaning.specs.Meaning.{Answer, given, refused, answering, runOf, fitting, firstFailing, Meaning, ordered, meaningOf}
 use Rattle.meaning.specs.Services.{Counts}
 
 -- a text's parts and its run
@@ -41,10 +41,10 @@ countsOf x = record {
   size = size (x .run);
 }
 
--- and then 17: the meaning of the text
+-- and then 17 and 25: the meaning of the text
 unfoldable pub played : Sound → Answer Meaning
 played x =
     elim (firstFailing (x .read .tables) (cyclesOf (length (x .read .signals)) (x .run))) [
       | some p ↦ refused notPlayable p
-      | none ↦ given (record { signals = firsts (x .read .signals); tables = x .read .tables; listed = length (x .read .listed); run = x .run })
+      | none ↦ ordered (meaningOf (x .read) (x .run))
     ]

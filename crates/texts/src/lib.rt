@@ -24,29 +24,27 @@ ghost use Rattle.texts.specs.Patterns.{Patterned, Begun, ending as endin
 ghost use Rattle.texts.specs.Tables.{stoppedAt, Reads, NotesRead, Decides, NotesSound};
 ghost use Rattle.texts.specs.Run.{Refuses, Tells, soundOf, Recorded, ReadAs};
 ghost use Rattle.texts.specs.Told.{decidedOf, Packs};
-use bodies::TOO_MANY;
 use heads::Known;
-use heads::NOT_HERE;
 use measures::CYCLES_MOST;
 use measures::DEPTH;
 use measures::Measure;
 use measures::SIZE_MOST;
 use timing::Watch;
+use tokens::TEXT_MOST;
+use tokens::TOO_LONG;
 use words::Cursor;
+use words::NOT_HERE;
+use words::TOO_MANY;
 
-// Bounds: the patterns and the bytes of a text.
+// The most patterns of a text.
 pub const PATTERNS: usize = 16;
 
-pub const TEXT_MOST: usize = 65_536;
-
 // Refusals.
-pub const TOO_LONG: u8 = 1;
-
 const NOT_DEFINED: u8 = 15;
 
 const TOO_LARGE: u8 = 16;
 
-const NO_ROOM: usize = 19;
+const NO_ROOM: usize = words::NO_ROOM as usize;
 
 // The blocks of a text: the cursor behind them, how many there are of what they declare, and where the watched waveform is found.
 pub struct Parts {

@@ -3,20 +3,18 @@ use Prim.Native.Nat.{ℕ, _≤_, _<_, min}
 use native.Mathlib.Omega.{arith}
 use mathlib.Core.Path.{_≡_, refl, sym, ap, _∙_}
 use mathlib.Core.Bool.{Bool, true, false, not, _&&_}
-use mathlib.Core.Option.{Option, none, some}
 use mathlib.Core.List.{List}
 use lib.ListN.{length}
 use lib.Dec.{eqb, leb}
 use borrow.Author.Tests.{eqb-true, eqb-false, eq-eqb, ne-eqb, leb-true, leb-false, le-leb, lt-leb}
 use Rattle.tokens.specs.Tokens.{Toks, left}
-use Rattle.meaning.specs.Bounds.{entryMost, timeMost}
-use Rattle.meaning.specs.Refusals.{badNumber, tooMany, badWaveform}
+use Rattle.meaning.specs.Bounds.{entryMost}
+use Rattle.meaning.specs.Refusals.{tooMany, badWaveform}
 use Rattle.meaning.specs.Reader.{Res, Reader, ok, refuse, _>>=_, refuseIf, due, ahead}
-use Rattle.meaning.specs.Names.{within}
-use Rattle.meaning.specs.Timing.{Events, quoted, letters, spread, oneEvent, event}
+use Rattle.meaning.specs.Timing.{Events, quoted, Signed, plus, minus, countedMost, timeOf, signedQuoted, letters, spread, oneEvent, event}
 use Rattle.meaning.proofs.Takes.{Takes, Keeps}
-use Rattle.meaning.proofs.Taking.{takes-keeps, takes-due, takes-word, takes-bind, keeps-bind, keeps-if, keeps-known, keeps-give, keeps-within}
-use Rattle.meaning.proofs.Gives.{Gives, gives-bind, gives-after, gives-give}
+use Rattle.meaning.proofs.Taking.{takes-keeps, takes-due, takes-word, takes-bind, takes-ahead, keeps-bind, keeps-if, keeps-known, keeps-give, keeps-within}
+use Rattle.meaning.proofs.Signs.{gives-signed}
 use Rattle.words.specs.Cursor.{alive, stream, Goes, Checked}
 use Rattle.words.specs.declared.Cursor.{Cursor}
 use Rattle.words.proofs.Flow.{then, given, checked, passed, recast, stays, read, alive-before, refused-by, refused-no}
@@ -24,24 +22,6 @@ use Rattle.timing.specs.Makes.{Makes}
 use Rattle.timing.specs.Events.{allEvents, Lettered, Timed, Adding}
 use Rattle.timing.proofs.Making.{either, if-yes, if-no, known-by, made}
 use Rattle.timing.proofs.EventLetters.{takes-letters, gives-letters}
-
--- ---- a time in quotes lies within the bound
-
-gives-within : (a b : ℕ) (o : Option ℕ) (p : ℕ) → Gives (λ n. n ≤ b) (within a b o p)
-unfolding within
-gives-within a b none p = record { all = λ ts n us e. (let z : _≡_ {A = ℕ} 0 1 = cc in absurd (omega arith)) }
-gives-within a b (some m) p = record { all = λ ts n us e. by ts n us (leb a m) (leb m b) refl e }
-  where
-    by : (ts : Toks) (n : ℕ) (us : Toks) (x y : Bool) → leb m b ≡ y
-        → _≡_ {A = Res ℕ} (elim (x && y) [ true ↦ ok m ts | false ↦ refuse badNumber p ]) (ok n us) → n ≤ b
-    by ts n us true true h e = let q : m ≡ n = cc in omega (arith, leb-true m b h)
-    by ts n us true false h e = let z : _≡_ {A = ℕ} 0 1 = cc in absurd (omega arith)
-    by ts n us false y h e = let z : _≡_ {A = ℕ} 0 1 = cc in absurd (omega arith)
-
-gives-quoted : (a : ℕ) → Gives (λ n. n ≤ timeMost) (quoted a)
-unfolding quoted
-gives-quoted a =
-    gives-after _ _ _ λ p. gives-after _ _ _ λ t. gives-bind (λ n. n ≤ timeMost) _ _ _ (gives-within a timeMost _ _) λ n h. gives-after _ _ _ λ q. gives-give _ n h
 
 -- ---- the code's tests are the definition's
 
@@ -71,7 +51,7 @@ same-room p q {x} m {count} e h = ap (λ (b : Bool). b && leb entryMost count) e
 
 -- ---- `'T' E;`
 
-module _ {text : List ℕ} {c d₁ d₂ d₃ d₄ : Cursor} {t n m : ℕ} {l : List ℕ} (s : Events) (small : n ≤ entryMost) (time : Goes text c (quoted 0) d₁ t)
+module _ {text : List ℕ} {c d₁ d₂ d₃ d₄ : Cursor} {t n m : ℕ} {l : List ℕ} (s : Events) (small : n ≤ entryMost) (time : Goes text c signedQuoted d₁ t)
     (alts : Makes text d₁ letters d₂ (Lettered m l)) (end : Goes text d₂ (due ";") d₃ (d₂ .at))
     (many : Checked d₃ (not (eqb m 1) && not (eqb m n)) badWaveform (d₂ .at) d₄) where
   es : List ℕ
@@ -93,8 +73,8 @@ module _ {text : List ℕ} {c d₁ d₂ d₃ d₄ : Cursor} {t n m : ℕ} {l : L
     behind : alive d₃ ≡ true
     behind = alive-before counts on
 
-    pub event-time : t ≤ timeMost
-    event-time = gives-quoted 0 .all _ _ _ (read time (alive-before (alts .goes) (alive-before end behind)) .gave)
+    pub event-time : t ≤ countedMost
+    event-time = gives-signed .all _ _ _ (read time (alive-before (alts .goes) (alive-before end behind)) .gave)
 
     pub event-letters : Lettered m l (alts .it)
     event-letters = alts .held (alive-before end behind)
@@ -175,10 +155,21 @@ unfolding quoted
 takes-quoted a =
     takes-bind _ _ (takes-due _) λ p. keeps-bind _ _ (takes-keeps takes-word) λ t. keeps-bind _ _ (keeps-within _ _ _ _) λ n. keeps-bind _ _ (takes-keeps (takes-due _)) λ q. keeps-give _
 
+takes-time : (sign : ℕ → Signed) → Takes (timeOf sign)
+unfolding timeOf
+takes-time sign = takes-bind _ _ takes-word λ t. keeps-bind _ _ (keeps-within _ _ _ _) λ n. keeps-give _
+
+takes-signed : Takes signedQuoted
+unfolding signedQuoted
+takes-signed =
+    takes-bind _ _ (takes-due _) λ p.
+    keeps-bind _ _ (takes-keeps (takes-ahead "-" _ _ (takes-bind _ _ (takes-due _) λ q. takes-keeps (takes-time minus)) (takes-time plus))) λ t.
+    keeps-bind _ _ (takes-keeps (takes-due _)) λ q. keeps-give _
+
 takes-one : (n : ℕ) (s : Events) → Takes (oneEvent n s)
 unfolding oneEvent
 takes-one n s =
-    takes-bind _ _ (takes-quoted 0) λ t. keeps-bind _ _ (takes-keeps takes-letters) λ es. keeps-bind _ _ (takes-keeps (takes-due _)) λ q. keeps-bind _ _ (keeps-if _ _ _) λ u. keeps-bind _ _ (keeps-known _ _ _) λ cs. keeps-give _
+    takes-bind _ _ takes-signed λ t. keeps-bind _ _ (takes-keeps takes-letters) λ es. keeps-bind _ _ (takes-keeps (takes-due _)) λ q. keeps-bind _ _ (keeps-if _ _ _) λ u. keeps-bind _ _ (keeps-known _ _ _) λ cs. keeps-give _
 
 pub takes-event : (n : ℕ) (s : Events) → Takes (event n s)
 unfolding event

@@ -6,10 +6,10 @@ ghost use mathlib.Core.Bool.{Bool, true, false, cond, not, _&&_};
 ghost use mathlib.Core.List.{List, [], _∷_, _++_};
 ghost use lib.ListN.{length, getD};
 ghost use lib.Dec.{eqb};
-ghost use Rattle.meaning.specs.Bounds.{entryMost, timeMost, signalsMost, tablesMost};
+ghost use Rattle.meaning.specs.Bounds.{entryMost, signalsMost, tablesMost};
 ghost use Rattle.meaning.specs.Lists.{has, repeats as repeatsOf};
 ghost use Rattle.meaning.specs.Reader.{Reader};
-ghost use Rattle.meaning.specs.Timing.{drives as drivesOf, compares as comparesOf, eventLetter, letterDue, letters as lettersOf, spread, Events, Wave, Tables as TablesOf, oneEvent, event as eventOf, waveChar, allChars, blanks, entry as entryOf, waveforms as waveformsOf, table as tableOf, timing as timingOf};
+ghost use Rattle.meaning.specs.Timing.{drives as drivesOf, compares as comparesOf, eventLetter, letterDue, letters as lettersOf, spread, Events, Wave, Tables as TablesOf, countedMost, oneEvent, event as eventOf, waveChar, allChars, blanks, entry as entryOf, waveforms as waveformsOf, table as tableOf, timing as timingOf};
 ghost use Rattle.words.specs.Cursor.{Goes, alive};
 ghost use Rattle.words.specs.Values.{told};
 ghost use Rattle.signals.specs.Names.{listAt, namesOf, Chained, Sized, namesMost, rowLength};
@@ -22,13 +22,13 @@ ghost use Rattle.timing.specs.Watch.{Placed, looked, Noted, Kept};
 
 // ---- letters of events
 
-fn drives(e: u8) -> bool
+pub fn drives(e: u8) -> bool
     ensures { λ r. ⌜ r ≡ drivesOf e ⌝ }
 {
     (68 == e) | ((85 == e) | ((90 == e) | ((80 == e) | false)))
 }
 
-fn compares(e: u8) -> bool
+pub fn compares(e: u8) -> bool
     ensures { λ r. ⌜ r ≡ comparesOf e ⌝ }
 {
     (76 == e)
@@ -169,7 +169,7 @@ struct Added {
 
 // An event at time t behind the events of each of n characters.
 fn add(times: Times, t: u64, a: Alternatives, n: usize) -> Added
-    requires { ⌜ (n ≤ entryMost) × (t ≤ timeMost) ⌝ }
+    requires { ⌜ (n ≤ entryMost) × (t ≤ countedMost) ⌝ }
     ensures { λ r. ⌜ ((s : Events) (es : List ℕ) → Timed n (times .count) (times .least) s → Lettered (a .n) (a .l) es → (not (eqb (a .n) 1) && not (eqb (a .n) n)) ≡ false → allEvents es ≡ true → Adding n t (spread n es) s (r .right) (r .times .count) (r .times .least)) ⌝ }
 {
     let mut least = times.least;
@@ -201,7 +201,7 @@ fn one_event(text: &[u8], c: words::Cursor, n: usize, times: Times) -> TimesRead
     requires { ⌜ n ≤ entryMost ⌝ }
     ensures { λ r. ⌜ ((s : Events) → Timed n (times .count) (times .least) s → Makes (now (text .entry)) c (oneEvent n s) (r .cursor) (Timed n (r .times .count) (r .times .least))) ⌝ }
 {
-    let t = words::quoted(text, c, 0);
+    let t = words::signed_quoted(text, c);
     let l = letters(text, t.cursor);
     let behind = l.cursor;
     let a = l.a;

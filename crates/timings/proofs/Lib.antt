@@ -1,6 +1,4 @@
-mod Following
-mod Spotting
-mod Entering
+mod Telling
 mod Writing
 mod Tabling
-mod Accepting
+mod Flats

@@ -1,27 +1,24 @@
 -- The lines of Timing, put together from what was written.
 use Prim.Native.Nat.{ℕ, suc, _+_, _-_, _≤_, _<_}
 use native.Mathlib.Omega.{arith}
-use native.Mathlib.Numerals.{add-one}
 use mathlib.Core.Path.{_≡_, refl, sym, ap, ap₂, _∙_}
 use mathlib.Core.List.{List, [], _∷_, _++_, append-assoc, append-nil}
-use lib.ListN.{length, getD, take, drop, length-take, drop-of-length-le}
-use lib.Seq.{take-suc}
+use lib.ListN.{length, getD, take, drop, drop-of-length-le}
 use Rattle.tokens.specs.Written.{bytes}
-use Rattle.meaning.specs.Timing.{Event, Wave}
+use Rattle.meaning.specs.Timing.{Event, Wave, Signed, plus, minus, uncounted}
 use Rattle.meaning.specs.Bounds.{entryMost}
-use Rattle.meaning.specs.Services.{timesOf, lettersOf}
 use Rattle.waves.specs.Waves.{Reads}
-use Rattle.waves.proofs.Fronts.{times-front, letters-front}
-use Rattle.folded.specs.Pieces.{Piece, only, word, laid, each, lf, closing}
+use Rattle.folded.specs.Pieces.{Piece, only, word, laid, each, lf, quote, semicolon, closing}
 use Rattle.meaning.specs.Meaning.{firsts}
 use Rattle.words.specs.Table.{nameOf, namesFrom, names}
 use Rattle.folded.specs.Flat.{Entries, Chart, chart, chartsFrom, upFrom, characters, entriesOf}
-use Rattle.folded.specs.Layout.{timed, eventPut, entryPut, chartPut}
-use Rattle.pens.specs.Pens.{Writes}
+use Rattle.folded.specs.Layout.{timed, timePut, eventPut, entryPut, chartPut}
+use Rattle.pens.specs.Pens.{signedTimed, Writes}
 use Rattle.pens.proofs.Laws.{writes-both, writes-same}
 use Rattle.pens.specs.declared.Pen.{Pen}
 use Rattle.folds.proofs.Laws.{writes-nothing, laid-behind, laid-more}
-use Rattle.timings.specs.Spots.{bytesMost}
+use Rattle.spots.specs.Spots.{bytesMost}
+use Rattle.spots.proofs.Joined.{joined, joined-next, joined-read}
 use Rattle.timings.specs.Lines.{titled}
 
 -- ---- each thing's pieces are its own, and then those behind
@@ -34,9 +31,14 @@ module _ {X : Type 0} (put : X → List Piece → List Piece) (own : (x : X) (k 
       laid-behind put own xs (tail k) ∙ ap (λ (l : List ℕ). laid (each put xs []) ++ l) (h k) ∙ sym (append-assoc (laid (each put xs [])) (laid (tail [])) (laid k))
       ∙ ap (λ (l : List ℕ). l ++ laid k) (sym (laid-behind put own xs (tail [])))
 
+own-time : (s : Signed) (l : ℕ) (k : List Piece) → laid (timePut s (word (l ∷ []) semicolon ∷ k)) ≡ laid (timePut s (word (l ∷ []) semicolon ∷ [])) ++ laid k
+unfolding laid timePut
+own-time (plus n) l k = simp append-assoc
+own-time (minus n) l k = simp append-assoc
+
 own-event : (x : Event) (k : List Piece) → laid (eventPut x k) ≡ laid (eventPut x []) ++ laid k
 unfolding laid eventPut
-own-event x k = simp append-assoc
+own-event x k = ap (λ (l : List ℕ). quote ∷ l) (own-time (uncounted (x .time)) (x .letter) k)
 
 own-entry : (x : ℕ × List Event) (k : List Piece) → laid (entryPut x k) ≡ laid (entryPut x []) ++ laid k
 unfolding laid entryPut
@@ -50,29 +52,17 @@ own-chart x k =
 
 -- ---- 'T'E;
 
-pub event-writes : {a b d e : List ℕ} {p q s r : Pen} (t : ℕ) {l : ℕ} → Writes a p (39 ∷ []) b q → Writes b q (timed t) d s → Writes d s (39 ∷ l ∷ 59 ∷ []) e r
+event-line : (s : Signed) (l : ℕ) → ((39 ∷ []) ++ signedTimed s) ++ (39 ∷ l ∷ 59 ∷ []) ≡ quote ∷ laid (timePut s (word (l ∷ []) semicolon ∷ []))
+unfolding laid timePut signedTimed
+event-line (plus n) l = refl
+event-line (minus n) l = refl
+
+pub event-writes : {a b d e : List ℕ} {p q s r : Pen} (t : ℕ) {l : ℕ} → Writes a p (39 ∷ []) b q → Writes b q (signedTimed (uncounted t)) d s → Writes d s (39 ∷ l ∷ 59 ∷ []) e r
     → Writes a p (laid (eventPut (record { time = t; letter = l }) [])) e r
 unfolding laid eventPut
-event-writes t f g h = writes-both (writes-both f g) h
+event-writes t {l} f g h = writes-same (event-line (uncounted t) l) (writes-both (writes-both f g) h)
 
 -- ---- the first events, of times and letters in two arrays
-
-unfoldable pub joined : List ℕ → List ℕ → List Event
-joined [] ls = []
-joined (t ∷ ts) [] = []
-joined (t ∷ ts) (l ∷ ls) = record { time = t; letter = l } ∷ joined ts ls
-
-pub joined-all : (es : List Event) → joined (timesOf es) (lettersOf es) ≡ es
-unfolding joined timesOf lettersOf
-joined-all [] = refl
-joined-all (e ∷ es) = ap (λ (l : List Event). e ∷ l) (joined-all es)
-
-joined-more : (ts ls : List ℕ) (t l : ℕ) → length ts ≡ length ls → joined (ts ++ t ∷ []) (ls ++ l ∷ []) ≡ joined ts ls ++ record { time = t; letter = l } ∷ []
-unfolding joined
-joined-more [] [] t l h = refl
-joined-more [] (y ∷ ls) t l h = absurd (omega arith)
-joined-more (x ∷ ts) [] t l h = absurd (omega arith)
-joined-more (x ∷ ts) (y ∷ ls) t l h = ap (λ (k : List Event). record { time = x; letter = y } ∷ k) (joined-more ts ls t l (omega arith))
 
 -- those up to number i
 abbrev pub eventsTo : List ℕ → List ℕ → ℕ → List ℕ
@@ -82,9 +72,7 @@ module _ (ts ls : List ℕ) (i : ℕ) (h : i < length ts) (k : i < length ls) wh
   events-next : eventsTo ts ls i ++ laid (eventPut (record { time = getD ts i 0; letter = getD ls i 0 }) []) ≡ eventsTo ts ls (i + 1)
   events-next =
       sym (laid-more eventPut own-event (joined (take i ts) (take i ls)) (record { time = getD ts i 0; letter = getD ls i 0 }))
-      ∙ ap (λ (l : List Event). laid (each eventPut l []))
-      (sym (ap₂ joined (ap (λ (n : ℕ). take n ts) (add-one i) ∙ take-suc ts i 0 h) (ap (λ (n : ℕ). take n ls) (add-one i) ∙ take-suc ls i 0 k)
-      ∙ joined-more (take i ts) (take i ls) (getD ts i 0) (getD ls i 0) (omega (arith, length-take i ts, length-take i ls))))
+      ∙ ap (λ (l : List Event). laid (each eventPut l [])) (sym (joined-next ts ls i h k))
 
   pub events-more : {a b d : List ℕ} {p q r : Pen} → Writes a p (eventsTo ts ls i) b q
       → Writes b q (laid (eventPut (record { time = getD ts i 0; letter = getD ls i 0 }) [])) d r → Writes a p (eventsTo ts ls (i + 1)) d r
@@ -99,7 +87,7 @@ entry-line c es = sym (ap (λ (l : List ℕ). c ∷ 123 ∷ l) (laid-behind even
 pub entry-writes : {a b d e : List ℕ} {p q s r : Pen} {c n i : ℕ} {es : List Event} {ts₀ ts ls₀ ls : List ℕ} → Reads es n ts₀ ts ls₀ ls → length ts₀ ≡ entryMost → length ls₀ ≡ entryMost
     → i ≡ n → Writes a p (c ∷ 123 ∷ []) b q → Writes b q (eventsTo ts ls i) d s → Writes d s (125 ∷ []) e r → Writes a p (laid (entryPut (c, es) [])) e r
 entry-writes {c = c} {n = n} {i = i} {es = es} {ts = ts} {ls = ls} x h k z f g l =
-    let q : joined (take i ts) (take i ls) ≡ es = rw z (ap₂ joined (times-front x h) (letters-front x k) ∙ joined-all es) in
+    let q : joined (take i ts) (take i ls) ≡ es = rw z (joined-read x h k) in
     writes-same (entry-line c es) (writes-both (writes-both f (writes-same (ap (λ (l : List Event). laid (each eventPut l [])) q) g)) l)
 
 -- ---- NAME{CHARACTER{'T'E;..}..}

@@ -1,22 +1,17 @@
 -- Lines of Timing as the code writes them.
-use Prim.Native.Nat.{ℕ}
+use Prim.Native.Nat.{ℕ, _≤_, _<_}
 use mathlib.Core.Path.{_≡_}
 use mathlib.Core.List.{List, [], _∷_, _++_}
+use lib.ListN.{length, getD, drop}
 use Rattle.tokens.specs.Written.{bytes}
-use Rattle.tokens.specs.Tokens.{Tok, Toks, toks}
-use Rattle.meaning.specs.Reader.{ok, _>>_, due}
-use Rattle.meaning.specs.Timing.{Table, Tables}
-use Rattle.meaning.specs.Meaning.{firsts}
-use Rattle.words.specs.Table.{names}
+use Rattle.tokens.specs.Tokens.{Tok}
+use Rattle.meaning.specs.Timing.{Wave, Table, Tables}
 use Rattle.folded.specs.Pieces.{only, laid, each, lf, closing}
-use Rattle.folded.specs.Flat.{Chart, Sheet, chartsFrom, sheets}
+use Rattle.folded.specs.Flat.{Chart, Sheet, entriesOf, chartsFrom, sheets}
 use Rattle.folded.specs.Layout.{timed, chartPut, sheetPut}
 use Rattle.pens.specs.Pens.{Writes}
 use Rattle.pens.specs.declared.Pen.{Pen}
-
--- the signals of a text, of which the code has the names
-abbrev pub signalsIn : List ℕ → List ℕ → ℕ → List Tok
-signalsIn text places count = firsts (names text places count)
+use Rattle.spots.specs.Spots.{spotAt, Spots}
 
 -- the first line of a table
 unfoldable pub titled : List ℕ → ℕ → List ℕ
@@ -42,7 +37,9 @@ pub record MoreSheets (before : List ℕ) (pen : Pen) (signals : List Tok) (tabs
   pub is : it ≡ tabs ++ more
   pub writes : Writes before pen (laid (each sheetPut (sheets signals more) [])) after r
 
--- a text begins with `STIL 1.0;`, and then these
-pub record Opens (text : List ℕ) (ts : Toks) : Type 0 where
-  pub last : ℕ
-  pub read : (do due "STIL"; due "1.0"; due ";") (toks text 0) ≡ ok last ts
+-- r is the number of the first character from number i on that has a spot
+pub record Next (spots chars : List ℕ) (s i r : ℕ) : Type 0 where
+  pub on : i ≤ r
+  pub within : r ≤ length chars
+  pub here : r < length chars → spotAt spots s (getD chars r 0) ≡ 0 → ⊥
+  pub same : (text : List ℕ) (ws : List Wave) → Spots text spots ws → entriesOf s ws (drop i chars) ≡ entriesOf s ws (drop r chars)

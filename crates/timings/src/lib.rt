@@ -1,33 +1,25 @@
 // Timing of a folded text: the tables of an accepted text, read once more and written to a page, each signal's characters in the order of their bytes.
 ghost use mathlib.Core.Path.{_≡_};
-ghost use Prim.Native.Nat.{ℕ, _+_, _-_, _*_, _≤_, _<_, min};
-ghost use mathlib.Core.List.{List, [], _∷_};
+ghost use Prim.Native.Nat.{_≤_, _<_};
+ghost use mathlib.Core.List.{List, []};
 ghost use lib.ListN.{length};
 ghost use Rattle.tokens.specs.Tokens.{Toks};
-ghost use Rattle.meaning.specs.Bounds.{entryMost, signalsMost};
-ghost use Rattle.meaning.specs.Reader.{Reader, until as untilOf};
-ghost use Rattle.meaning.specs.Timing.{Event, Events, Wave, Tables, event as eventOf, entry as entryOf, waveforms as waveformsOf, table as tableOf, timing as timingOf};
+ghost use Rattle.meaning.specs.Bounds.{signalsMost};
+ghost use Rattle.meaning.specs.Reader.{until as untilOf};
+ghost use Rattle.meaning.specs.Timing.{Event, Wave, Tables, waveforms as waveformsOf, table as tableOf, timing as timingOf};
 ghost use Rattle.meaning.specs.Meaning.{given, Meaning, meaning};
-ghost use Rattle.sets.specs.Sets.{listOf};
 ghost use Rattle.signals.specs.Names.{namesOf};
-ghost use Rattle.timing.specs.Marks.{Below};
-ghost use Rattle.timing.specs.Parts.{headThen};
 ghost use Rattle.waves.specs.Waves.{EntryAt};
 ghost use Rattle.folded.specs.Pieces.{laid, each};
 ghost use Rattle.folded.specs.Flat.{characters, entriesOf, chart as chartOf, chartsFrom, sheets, flat};
 ghost use Rattle.folded.specs.Layout.{eventPut, entryPut, chartPut, timingPut};
 ghost use Rattle.pens.specs.Pens.{Writes};
-ghost use Rattle.timings.specs.Answers.{Answers, Behind};
-ghost use Rattle.timings.specs.Lines.{signalsIn, titled, charted, OneSheet, MoreSheets, Opens};
-ghost use Rattle.timings.specs.Spots.{bytesMost, spotsMost, Spots, Stored, Listed, Next};
+ghost use Rattle.spots.specs.Answers.{Answers, Behind};
+ghost use Rattle.spots.specs.Spots.{bytesMost, spotsMost, Spots, Listed, signalsIn};
+ghost use Rattle.timings.specs.Lines.{titled, charted, OneSheet, MoreSheets, Next};
 use pens::Pen;
-use sets::Set;
+use spots::BYTES;
 use words::Cursor;
-
-// Bytes that a character can be, and the spots of a table: a number for each signal and byte.
-const BYTES: usize = 256;
-
-const SPOTS: usize = sets::MOST * BYTES;
 
 // ---- writing
 
@@ -36,7 +28,7 @@ fn event(page: &mut [u8], pen: Pen, time: u64, letter: u8) -> Pen
     ensures { λ r. ⌜ Writes (now (page .entry)) pen (laid (eventPut (record { time = time; letter = letter }) [])) (now (page .exit)) r ⌝ }
 {
     let p = pens::add(page, pen, b"'");
-    let q = pens::add_time(page, p, time);
+    let q = pens::add_signed(page, p, time);
     let tail = [b'\'', letter, b';'];
     pens::add(page, q, &tail)
 }
@@ -138,132 +130,6 @@ fn title(page: &mut [u8], pen: Pen, name: &[u8], period: u64) -> Pen
     pens::add(page, t, b"';Waveforms{\n")
 }
 
-// ---- reading
-
-// Further events of an entry, up to its closing brace.
-fn events(text: &[u8], c: Cursor) -> Cursor
-    requires { ⌜ ((n : ℕ) × (s : Events) × (es : Events) × (us : Toks) × (0 < n) × (n ≤ entryMost) × (length (s .0) ≡ n) × Answers (now text) c (untilOf "}" (eventOf n) s) es us) ⌝ }
-    ensures { λ r. ⌜ ((n : ℕ) (s es : Events) (us : Toks) → 0 < n → n ≤ entryMost → length (s .0) ≡ n → Answers (now (text .entry)) c (untilOf "}" (eventOf n) s) es us → Behind (now (text .entry)) r us × (length (es .0) ≡ n)) ⌝ }
-{
-    let mut cursor = c;
-    while words::until(text, cursor, b"}") {
-        let e = waves::event(text, cursor, 0);
-        cursor = e.cursor;
-    }
-    words::due(text, cursor, b"}")
-}
-
-// v for signal s and each character of w.
-fn keep(spots: &mut [usize], s: u16, w: &[u8], v: usize)
-    requires { ⌜ (length (now spots) ≡ spotsMost) × (s < signalsMost) ⌝ }
-    ensures { λ r. ⌜ Stored (now (spots .entry)) (s ∷ []) (now (w .entry)) v (now (spots .exit)) ⌝ }
-{
-    let mut i = 0;
-    while i < w.len() {
-        let at = s as usize * BYTES + w[i] as usize;
-        spots[at] = v;
-        i += 1;
-    }
-}
-
-// At most as many as there may be.
-fn fewer(n: usize) -> usize
-    ensures { λ r. ⌜ r ≡ min n signalsMost ⌝ }
-{
-    if n < sets::MOST { n } else { sets::MOST }
-}
-
-// v for each signal of a set and each character of w.
-fn keep_all(spots: &mut [usize], set: Set, w: &[u8], v: usize)
-    requires { ⌜ (length (now spots) ≡ spotsMost) × Below (listOf set) ⌝ }
-    ensures { λ r. ⌜ Stored (now (spots .entry)) (listOf set) (now (w .entry)) v (now (spots .exit)) ⌝ }
-{
-    let most = fewer(set.n);
-    let mut i = 0;
-    while i < most {
-        keep(spots, set.v[i], w, v);
-        i += 1;
-    }
-}
-
-// The spots of an entry's CHARS, for the signals of a set.
-fn entry_spots(text: &[u8], c: Cursor, set: Set, spots: &mut [usize]) -> Cursor
-    requires { ⌜ (length (now spots) ≡ spotsMost) × Below (listOf set) ⌝ }
-    requires { ⌜ ((ws : List Wave) × (a : List Wave) × (us : Toks) × Spots (now text) (now spots) ws × Answers (now text) c (entryOf (listOf set) ws) a us) ⌝ }
-    ensures { λ r. ⌜ ((ws a : List Wave) (us : Toks) → Spots (now (text .entry)) (now (spots .entry)) ws → Answers (now (text .entry)) c (entryOf (listOf set) ws) a us → Behind (now (text .entry)) r us × Spots (now (text .entry)) (now (spots .exit)) a) ⌝ }
-{
-    let d = words::word(text, c);
-    let e = words::due(text, d, b"{");
-    let first = waves::event(text, e, 0);
-    keep_all(spots, set, words::bytes_of(text, c.at, c.end), c.at + 1);
-    events(text, first.cursor)
-}
-
-// Those of all entries of a name, up to its closing brace.
-fn entries_spots(text: &[u8], c: Cursor, set: Set, spots: &mut [usize]) -> Cursor
-    requires { ⌜ (length (now spots) ≡ spotsMost) × Below (listOf set) ⌝ }
-    requires { ⌜ ((ws : List Wave) × (a : List Wave) × (us : Toks) × Spots (now text) (now spots) ws × Answers (now text) c (untilOf "}" (entryOf (listOf set)) ws) a us) ⌝ }
-    ensures { λ r. ⌜ ((ws a : List Wave) (us : Toks) → Spots (now (text .entry)) (now (spots .entry)) ws → Answers (now (text .entry)) c (untilOf "}" (entryOf (listOf set)) ws) a us → Behind (now (text .entry)) r us × Spots (now (text .entry)) (now (spots .exit)) a) ⌝ }
-{
-    let mut cursor = c;
-    while words::until(text, cursor, b"}") {
-        cursor = entry_spots(text, cursor, set, spots);
-    }
-    words::due(text, cursor, b"}")
-}
-
-// Those of a name: a signal, or a group for each of its signals.
-fn name_spots<'a>(
-    text: &'a [u8],
-    c: Cursor,
-    places: &'a [usize],
-    lists: &[u16],
-    names: usize,
-    spots: &mut [usize],
-) -> Cursor
-    requires { ⌜ (length (now spots) ≡ spotsMost) × Listed (now lists) names ⌝ }
-    requires { ⌜ ((ws : List Wave) × (a : List Wave) × (us : Toks) × Spots (now text) (now spots) ws × Answers (now text) c (waveformsOf (namesOf (now text) (now places) (now lists) names) ws) a us) ⌝ }
-    ensures { λ r. ⌜ ((ws a : List Wave) (us : Toks) → Spots (now (text .entry)) (now (spots .entry)) ws → Answers (now (text .entry)) c (waveformsOf (namesOf (now (text .entry)) (now (places .entry)) (now (lists .entry)) names) ws) a us → Behind (now (text .entry)) r us × Spots (now (text .entry)) (now (spots .exit)) a) ⌝ }
-{
-    let old = words::old_name(text, c, places, names);
-    let d = words::due(text, old.cursor, b"{");
-    let set = signals::set_at(lists, old.number);
-    entries_spots(text, d, set, spots)
-}
-
-// Those of a whole table, up to the closing brace of its Waveforms.
-fn table_spots<'a>(
-    text: &'a [u8],
-    c: Cursor,
-    places: &'a [usize],
-    lists: &[u16],
-    names: usize,
-    spots: &mut [usize],
-) -> Cursor
-    requires { ⌜ (length (now spots) ≡ spotsMost) × Listed (now lists) names ⌝ }
-    requires { ⌜ ((ws : List Wave) × (a : List Wave) × (us : Toks) × Spots (now text) (now spots) ws × Answers (now text) c (untilOf "}" (waveformsOf (namesOf (now text) (now places) (now lists) names)) ws) a us) ⌝ }
-    ensures { λ r. ⌜ ((ws a : List Wave) (us : Toks) → Spots (now (text .entry)) (now (spots .entry)) ws → Answers (now (text .entry)) c (untilOf "}" (waveformsOf (namesOf (now (text .entry)) (now (places .entry)) (now (lists .entry)) names)) ws) a us → Behind (now (text .entry)) r us × Spots (now (text .entry)) (now (spots .exit)) a) ⌝ }
-{
-    let mut cursor = c;
-    while words::until(text, cursor, b"}") {
-        cursor = name_spots(text, cursor, places, lists, names, spots);
-    }
-    words::due(text, cursor, b"}")
-}
-
-// What stands between a table's name and its waveforms; its period.
-fn head(text: &[u8], c: Cursor) -> words::Numbered
-    ensures { λ r. ⌜ ((k : ℕ → Reader Tables) (it : Tables) (us : Toks) → Answers (now (text .entry)) c (headThen k) it us → Answers (now (text .entry)) (r .cursor) (k (r .n)) it us) ⌝ }
-{
-    let a = words::due(text, c, b"{");
-    let b = words::due(text, a, b"Period");
-    let t = words::quoted(text, b, 1);
-    let d = words::due(text, t.cursor, b";");
-    let e = words::due(text, d, b"Waveforms");
-    let cursor = words::due(text, e, b"{");
-    words::Numbered { cursor, n: t.n }
-}
-
 // ---- tables
 
 // Behind a table that was read and written.
@@ -287,8 +153,8 @@ fn waveforms<'a>(
     requires { ⌜ ((ws : List Wave) × (us : Toks) × Answers (now text) c (untilOf "}" (waveformsOf (namesOf (now text) (now places) (now lists) names)) []) ws us) ⌝ }
     ensures { λ r. ⌜ ((ws : List Wave) (us : Toks) → Answers (now (text .entry)) c (untilOf "}" (waveformsOf (namesOf (now (text .entry)) (now (places .entry)) (now (lists .entry)) names)) []) ws us → Behind (now (text .entry)) (r .cursor) us × Writes (now (page .entry)) pen (charted (chartsFrom 0 (signalsIn (now (text .entry)) (now (places .entry)) count) ws)) (now (page .exit)) (r .pen)) ⌝ }
 {
-    let mut spots = [0usize; SPOTS];
-    let cursor = table_spots(text, c, places, lists, names, &mut spots);
+    let mut spots = [0usize; spots::SPOTS];
+    let cursor = spots::table_spots(text, c, places, lists, names, &mut spots);
     let p = charts(
         page,
         pen,
@@ -319,7 +185,7 @@ fn table<'a>(
 {
     let a = words::due(text, c, b"WaveformTable");
     let d = words::name(text, a);
-    let h = head(text, d);
+    let h = spots::head(text, d);
     let p = title(page, pen, words::bytes_of(text, a.at, a.end), h.n);
     let x = waveforms(page, p, text, h.cursor, places, lists, names, count);
     let cursor = words::due(text, x.cursor, b"}");
@@ -375,24 +241,13 @@ pub fn tables<'a>(
     pens::add(page, q, b"}\n")
 }
 
-// The cursor behind `STIL 1.0;`.
-fn opening(text: &[u8]) -> Cursor
-    ensures { λ r. ⌜ ((ts : Toks) → Opens (now (text .entry)) ts → Behind (now (text .entry)) r ts) ⌝ }
-{
-    let c = words::cursor_at(text, 0);
-    let a = words::due(text, c, b"STIL");
-    let b = words::due(text, a, b"1.0");
-    words::due(text, b, b";")
-}
-
-// Timing of an accepted text, folded.
 pub fn timing(page: &mut [u8], pen: Pen, text: &[u8]) -> Pen
     requires { ⌜ ((m : Meaning) × (meaning (now text) ≡ given m)) ⌝ }
     ensures { λ r. ⌜ ((m : Meaning) → meaning (now (text .entry)) ≡ given m → Writes (now (page .entry)) pen (laid (timingPut (flat (now (text .entry)) m .tables) [])) (now (page .exit)) r) ⌝ }
 {
     let mut places = [0usize; signals::PLACES];
     let mut lists = [0u16; signals::LISTS];
-    let c = opening(text);
+    let c = spots::opening(text);
     let f = signals::front(text, c, &mut places, &mut lists);
     tables(
         page,

@@ -2,28 +2,17 @@
 use Prim.Native.Nat.{ℕ, _≤_, _<_}
 use native.Mathlib.Omega.{arith}
 use mathlib.Core.Path.{_≡_, refl, ap, _∙_}
-use mathlib.Core.Bool.{Bool, true, false, _&&_, _||_, and-false, or-false, false≢true}
+use mathlib.Core.Bool.{true, false, _&&_, _||_, and-false, or-false}
 use lib.Dec.{eqb, leb}
 use borrow.Author.Tests.{leb-true, le-leb, lt-leb, eqb-true, ne-eqb}
 use Rattle.tokens.specs.Bytes.{between, allowed, blank, letter, digit, wordy}
-
-either : {C : Type 0} (x y : Bool) → (x ≡ true → C) → (y ≡ true → C) → (x || y) ≡ true → C
-either true y f g h = f refl
-either false y f g h = g h
-
-on-right : (x y : Bool) → y ≡ true → (x || y) ≡ true
-on-right true y h = refl
-on-right false y h = h
-
-both : (x y : Bool) → (x && y) ≡ true → (x ≡ true) × (y ≡ true)
-both true y h = (refl, h)
-both false y h = absurd (false≢true h)
+use Rattle.tokens.proofs.Bools.{both, either, or-right}
 
 within : (b a z : ℕ) → 32 ≤ a → z ≤ 126 → between a z b ≡ true → allowed b ≡ true
 unfolding between allowed
 within b a z h k e =
     let r = both (leb a b) (leb b z) e in
-    on-right (blank b) _ (rw (le-leb 32 b (omega (arith, leb-true a b (r .0))), le-leb b 126 (omega (arith, leb-true b z (r .1)))))
+    or-right (blank b) _ (rw (le-leb 32 b (omega (arith, leb-true a b (r .0))), le-leb b 126 (omega (arith, leb-true b z (r .1)))))
 
 single : (b a : ℕ) → allowed a ≡ true → eqb b a ≡ true → allowed b ≡ true
 single b a h e = ap allowed (eqb-true b a e) ∙ h

@@ -6,7 +6,7 @@ use mathlib.Core.Option.{Option, none, some}
 use mathlib.Core.List.{List, [], _∷_}
 use lib.ListN.{length, getD, drop}
 use lib.Dec.{eqb, leb}
-use borrow.Author.Tests.{lt-leb}
+use borrow.Author.Tests.{lt-leb, le-leb}
 use Rattle.tokens.specs.Bytes.{allowed, blank, wordy}
 use Rattle.tokens.specs.Refusals.{textMost, tooLong, badByte, notHere}
 use Rattle.tokens.specs.Tokens.{Toks, stop, tok, plain, inword, ended, done, lex, toks, Next, found, nothing, refused, first, nextToken, faultIn, faultOf}
@@ -93,3 +93,8 @@ module _ (text : List ℕ) (i : ℕ) where
 
   pub fault-over : length text ≤ textMost → length text ≤ i → faultFrom text i ≡ none
   fault-over s h = fault-none text i (short-enough text i s ∙ over text i h)
+
+-- one that is not has those of its tokens
+pub short-clean : (text : List ℕ) → length text ≤ textMost → faultIn (toks text 0) ≡ none → faultOf text ≡ none
+unfolding faultOf
+short-clean text h e = rw (le-leb (length text) textMost h, faultOf) e

@@ -98,16 +98,16 @@ stands (suc k) (b ∷ text) h = omega (arith, stands k text h)
 abbrev pub from : List ℕ → Mode → ℕ → Toks
 from text m i = lex m i (drop i text)
 
-module _ (text : List ℕ) (i : ℕ) where
-  -- the text from the place on: its byte there, and the rest
-  cut : i < length text → drop i text ≡ getD text i 0 ∷ drop (i + 1) text
-  cut h = rw (add-one, drop-cons text i 0)
+-- the text from a place on: its byte there, and the rest
+pub cut : (t : List ℕ) (i : ℕ) → i < length t → drop i t ≡ getD t i 0 ∷ drop (i + 1) t
+cut t i h = rw (add-one, drop-cons t i 0)
 
+module _ (text : List ℕ) (i : ℕ) where
   -- one step: the byte b does a
   turn : (m : Mode) (b : ℕ) (a : Act) → i < length text → getD text i 0 ≡ b → act m i b (drop (i + 1) text) ≡ a
       → from text m i ≡ done a i (λ m′. from text m′ (i + 1))
   unfolding lex
-  turn m b a h e k = rw (cut h, e, k, add-one)
+  turn m b a h e k = rw (cut text i h, e, k, add-one)
 
   -- the byte behind is c, or another
   behind : (c : ℕ) → 0 < c → getD text (i + 1) 0 ≡ c → (i + 1 < length text) × (starts c (drop (i + 1) text) ≡ true)

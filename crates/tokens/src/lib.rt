@@ -8,6 +8,16 @@ ghost use Rattle.tokens.specs.Refusals.{textMost};
 ghost use Rattle.tokens.specs.Tokens.{run, line, block, lex, toks, found, first, nextToken, faultOf};
 ghost use Rattle.tokens.specs.Answers.{nextOf, faultTold, TokenAt, Leads};
 
+// The most bytes of a text.
+pub const TEXT_MOST: usize = 65_536;
+
+// Refusals: the text is too long; a byte is not allowed; a `/*` is not closed.
+pub const TOO_LONG: u8 = 1;
+
+pub const BAD_BYTE: u8 = 2;
+
+pub const OPEN_COMMENT: u8 = 3;
+
 pub enum Step {
     // its place in the whole text and its length
     Token(usize, usize),
@@ -83,7 +93,7 @@ fn behind_line(text: &[u8], at: usize) -> Lead
             return Lead::On(i + 1);
         }
         if !is_allowed(b) {
-            return Lead::To(Step::Refused(2, i));
+            return Lead::To(Step::Refused(BAD_BYTE, i));
         }
         i += 1;
     }
@@ -98,7 +108,7 @@ fn behind_block(text: &[u8], opening: usize, at: usize) -> Lead
     while i < text.len() {
         let b = text[i];
         if !is_allowed(b) {
-            return Lead::To(Step::Refused(2, i));
+            return Lead::To(Step::Refused(BAD_BYTE, i));
         }
         if b == 42 {
             if byte_at(text, i + 1) == 47 {
@@ -107,7 +117,7 @@ fn behind_block(text: &[u8], opening: usize, at: usize) -> Lead
         }
         i += 1;
     }
-    Lead::To(Step::Refused(3, opening))
+    Lead::To(Step::Refused(OPEN_COMMENT, opening))
 }
 
 // At a `/`: a comment, or a token alone.
@@ -158,7 +168,7 @@ fn past_comments(text: &[u8], at: usize) -> Step
         } else {
             if !is_blank(b) {
                 if !is_allowed(b) {
-                    return Step::Refused(2, i);
+                    return Step::Refused(BAD_BYTE, i);
                 }
                 return Step::Token(i, token_length(text, i, b));
             }
@@ -182,7 +192,7 @@ pub fn first_from(text: &[u8], at: usize) -> Step
                 return step;
             }
             if !is_allowed(b) {
-                return Step::Refused(2, i);
+                return Step::Refused(BAD_BYTE, i);
             }
             return Step::Token(i, token_length(text, i, b));
         }
@@ -194,7 +204,7 @@ pub fn first_from(text: &[u8], at: usize) -> Step
 fn is_too_long(text: &[u8]) -> bool
     ensures { λ r. ⌜ r ≡ ltb textMost (length (now (text .entry))) ⌝ }
 {
-    65536 < text.len()
+    TEXT_MOST < text.len()
 }
 
 // The next token from a place on, as if reading began there.
@@ -202,7 +212,7 @@ pub fn next_token(text: &[u8], at: usize) -> Step
     ensures { λ r. ⌜ nextOf r ≡ nextToken (now (text .entry)) at ⌝ }
 {
     if is_too_long(text) {
-        return Step::Refused(1, 0);
+        return Step::Refused(TOO_LONG, 0);
     }
     first_from(text, at)
 }
@@ -212,13 +222,13 @@ pub fn fault_in(text: &[u8]) -> Fault
     ensures { λ r. ⌜ faultTold r ≡ faultOf (now (text .entry)) ⌝ }
 {
     if is_too_long(text) {
-        return Fault::Faulty(1, 0);
+        return Fault::Faulty(TOO_LONG, 0);
     }
     let mut i = 0;
     while i < text.len() {
         let b = text[i];
         if !is_allowed(b) {
-            return Fault::Faulty(2, i);
+            return Fault::Faulty(BAD_BYTE, i);
         }
         if b == 47 {
             match past_comments(text, i) {

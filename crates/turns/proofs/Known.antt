@@ -6,6 +6,7 @@ use native.Mathlib.Omega.{arith}
 use mathlib.Core.Bool.{Bool, true, false, _&&_}
 use mathlib.Core.Option.{Option, none, some}
 use mathlib.Core.List.{List, [], _∷_, _++_}
+use Rattle.tokens.proofs.Bools.{both}
 use Rattle.meaning.proofs.Turns.{later, orElse}
 
 pub record Known : Type 0 where
@@ -40,10 +41,6 @@ from e T i p q = T i (later (e .pins i) p) (later (e .table) q)
 unfoldable pub every : ℕ → ℕ → (ℕ → Bool) → Bool
 every i zero f = true
 every i (suc m) f = f i && every (suc i) m f
-
-both : (a b : Bool) → a && b ≡ true → (a ≡ true) × (b ≡ true)
-both true b h = (refl, h)
-both false b h = let z : _≡_ {A = ℕ} 0 1 = cc in absurd (omega arith)
 
 every-alike : (f g h : ℕ → Bool) → ((i : ℕ) → f i ≡ true → g i ≡ h i) → (i m : ℕ) → every i m f ≡ true → every i m g ≡ every i m h
 unfolding every

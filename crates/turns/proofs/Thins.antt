@@ -10,6 +10,7 @@ use mathlib.Core.List.{List, _++_}
 use lib.Dec.{leb}
 use borrow.Author.Tests.{le-leb, leb-true}
 use Rattle.meaning.proofs.Turns.{later, orElse}
+use Rattle.meaning.proofs.Options.{or-both, or-alike}
 use Rattle.turns.specs.Few.{openMost}
 use Rattle.turns.proofs.Known.{Known, Met, behind, Test, from, first, first-++, first-behind, first-alike}
 
@@ -64,20 +65,10 @@ forgives-from k T e h i p q m = h i _ _ (omega (arith, known-later (e .pins i) p
 
 -- ---- the first failing of rows one behind the other
 
-or-both : (x y : Option ℕ) → orElse x y ≡ none → (x ≡ none) × (y ≡ none)
-unfolding orElse
-or-both none y h = (refl, h)
-or-both (some a) y h = let z : _≡_ {A = ℕ} 0 1 = cc in absurd (omega arith)
-
 pub or-first : (x y : Option ℕ) → (x ≡ none → y ≡ none) → orElse x y ≡ x
 unfolding orElse
 or-first none y h = h refl
 or-first (some a) y h = refl
-
-or-alike : (x y z : Option ℕ) → (x ≡ none → y ≡ z) → orElse x y ≡ orElse x z
-unfolding orElse
-or-alike none y z h = h refl
-or-alike (some a) y z h = refl
 
 -- two turns of a Loop, the second with one less open
 unfoldable pub secondFew : Known → (ℕ → List Met) → ℕ → List Met

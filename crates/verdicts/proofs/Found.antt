@@ -2,11 +2,14 @@
 use Prim.Native.Nat.{ℕ}
 use mathlib.Core.Path.{_≡_, refl, sym, ap, _∙_}
 use mathlib.Core.Bool.{Bool, true, false}
+use mathlib.Core.Option.{Option}
 use mathlib.Core.List.{List}
 use lib.ListN.{length}
-use Rattle.meaning.specs.Refusals.{notPlayable}
-use Rattle.meaning.specs.Meaning.{Answer, given, refused, answering, firsts, Meaning, meaning}
+use Rattle.meaning.specs.Refusals.{notPlayable, acrossEdge}
+use Rattle.meaning.specs.Edges.{firstInRun}
+use Rattle.meaning.specs.Meaning.{Answer, given, refused, answering, firsts, ordered, meaning}
 use Rattle.meaning.specs.Services.{Counts, counts, namesOf}
+use Rattle.meaning.proofs.Listed.{length-firsts}
 use Rattle.words.specs.Table.{names}
 use Rattle.signals.specs.Names.{listAt}
 use Rattle.timing.specs.declared.Watch.{Watch}
@@ -20,18 +23,14 @@ use Rattle.texts.proofs.Deciding.{counted}
 use Rattle.plays.specs.Run.{Runs}
 use Rattle.plays.specs.declared.Failing.{Failing}
 use Rattle.verdicts.specs.Judged.{whichOf}
-use Rattle.verdicts.specs.Found.{Plays}
+use Rattle.verdicts.specs.Found.{meantBy, Unplayable, Crosses}
 use Rattle.verdicts.specs.Judged.{numbered}
-use Rattle.verdicts.proofs.Naming.{firsts-named}
+use Rattle.words.proofs.Names.{firsts-named}
 
 -- 1 to 16 are the meaning's
 pub meaning-refused : (text : List ℕ) {n p : ℕ} → sound text ≡ refused n p → meaning text ≡ refused n p
 unfolding answering
 meaning-refused text e = meant text ∙ ap (λ (a : Answer Sound). answering a played) e
-
--- an accepted text
-abbrev pub meantBy : Sound → Meaning
-meantBy x = record { signals = firsts (x .read .signals); tables = x .read .tables; listed = length (x .read .listed); run = x .run }
 
 module _ {w : Watch} {text places lists tplaces waves book rows list : List ℕ} {v : Verdict} (f : Found text w places lists tplaces waves book rows list v) where
   abbrev tabled : Tabled text places lists tplaces waves book rows list (v .parts) (f .it .read)
@@ -40,20 +39,29 @@ module _ {w : Watch} {text places lists tplaces waves book rows list : List ℕ}
   pub runs : Runs text places lists tplaces waves book rows list (v .parts .known) (v .parts .signals) (v .parts .listed) (v .parts .patterns) (v .parts) (f .it .read) (f .it .run)
   runs = record { tabled = tabled; known-is = refl; signals-is = refl; listed-is = refl; patterns-is = refl; run-is = sound-runs text (f .is) .run-is }
 
-  -- ---- 17
+  -- ---- 17 and 25
 
   meant-by : meaning text ≡ played (f .it)
   unfolding answering
   meant-by = meant text ∙ ap (λ (a : Answer Sound). answering a played) (f .is)
 
-  module _ {a : Failing} (p : Plays text places lists tplaces waves book rows list v a) where
-    pub meaning-failing : a .failed ≡ true → meaning text ≡ refused notPlayable (a .place)
-    unfolding played
-    meaning-failing h = meant-by ∙ rw (p .decides f .fails h, played)
+  pub meaning-failing : {a : Failing} → Unplayable text places lists tplaces waves book rows list v a → a .failed ≡ true → meaning text ≡ refused notPlayable (a .place)
+  unfolding played
+  meaning-failing p h = meant-by ∙ rw (p .decides f .fails h, played)
 
-    pub meaning-given : a .failed ≡ false → meaning text ≡ given (meantBy (f .it))
-    unfolding played
-    meaning-given h = meant-by ∙ rw (p .decides f .sound h, played)
+  module _ {a b : Failing} (p : Unplayable text places lists tplaces waves book rows list v a) (on : a .failed ≡ false) (q : Crosses text places lists tplaces waves book rows list v b) where
+    -- the signals by their names alone are as many
+    as-many : {o : Option ℕ} → firstInRun (f .it .read .tables) (length (f .it .read .signals)) (f .it .run) ≡ o
+        → firstInRun (f .it .read .tables) (length (firsts (f .it .read .signals))) (f .it .run) ≡ o
+    as-many e = ap (λ (n : ℕ). firstInRun (f .it .read .tables) n (f .it .run)) (length-firsts (f .it .read .signals)) ∙ e
+
+    pub meaning-crossing : b .failed ≡ true → meaning text ≡ refused acrossEdge (b .place)
+    unfolding played ordered
+    meaning-crossing h = meant-by ∙ rw (p .decides f .sound on, as-many (q .decides f .fails h), played, ordered)
+
+    pub meaning-given : b .failed ≡ false → meaning text ≡ given (meantBy (f .it))
+    unfolding played ordered
+    meaning-given h = meant-by ∙ rw (p .decides f .sound on, as-many (q .decides f .sound h), played, ordered)
 
   -- ---- the counts and the names
 

@@ -3,13 +3,13 @@ use Prim.Native.Nat.{ℕ, zero, suc, _+_, _*_, _≤_, _<_}
 use native.Mathlib.Omega.{arith}
 use native.Mathlib.Nat.{add-zero}
 use mathlib.Core.Path.{_≡_, refl, sym, ap, _∙_}
-use mathlib.Core.List.{List, [], _∷_}
+use mathlib.Core.List.{List}
 use lib.ListN.{length, getD}
 use Rattle.tokens.specs.Tokens.{Tok}
 use Rattle.meaning.specs.Refusals.{noSuch}
 use Rattle.meaning.specs.Meaning.{Answer, given, refused, firsts}
 use Rattle.meaning.specs.Services.{nameAt}
-use Rattle.words.specs.Table.{nameOf, namesFrom, names, named}
+use Rattle.words.specs.Table.{nameOf, namesFrom, names}
 
 -- what is told of a name
 abbrev told : Tok → Answer (ℕ × ℕ)
@@ -37,9 +37,3 @@ module _ (text places : List ℕ) where
 
     pub name-missing : count ≤ n → nameAt (firsts (names text places count)) n ≡ refused noSuch 0
     name-missing h = past-from 0 count n h
-
--- names are the same, whatever they stand for
-pub firsts-named : {A B : Type 0} (f : A → B) (xs : List (Tok × A)) → firsts (named f xs) ≡ firsts xs
-unfolding firsts named
-firsts-named f [] = refl
-firsts-named f (x ∷ xs) = ap (λ (l : List Tok). x .0 ∷ l) (firsts-named f xs)

@@ -1,4 +1,4 @@
-// Any text, judged once: its refusal by 1 to 17, or its counts, a name by its number and where a waveform stands.
+// Any text, judged once: its refusal by 1 to 17 and 25, or its counts, a name by its number and where a waveform stands.
 ghost use mathlib.Core.Path.{_≡_};
 ghost use mathlib.Core.Bool.{false};
 ghost use Prim.Native.Nat.{_≤_};
@@ -11,15 +11,14 @@ ghost use Rattle.timing.specs.Marks.{tableSize};
 ghost use Rattle.timing.specs.declared.Watch.{Watch};
 ghost use Rattle.texts.specs.Tables.{Found, NotesSound};
 ghost use Rattle.verdicts.specs.Judged.{namedOf, numbered, Judges, Copies};
-ghost use Rattle.verdicts.specs.Found.{noWaveform, SomeFound, Plays};
+ghost use Rattle.verdicts.specs.Found.{noWaveform, SomeFound, Unplayable, Crosses, Plays};
 use plays::Failing;
 use texts::Verdict;
 use timing::Watch;
 
-// Refusals that more than one service has.
-pub const NOT_PLAYABLE: u8 = 17;
+const NOT_PLAYABLE: u8 = 17;
 
-pub const NO_ROOM: u8 = 19;
+const ACROSS_EDGE: u8 = 25;
 
 // What is wanted of a text beside its counts: a name by its number, and where a waveform stands.
 pub struct Wanted {
@@ -48,6 +47,12 @@ pub struct Judged {
     pub name: Named,
     pub found: bool,
     pub entry: usize,
+}
+
+// Is the run of a text refused, 17 or 25 (0: it is not), and where does the V stand?
+pub struct Unfit {
+    pub no: u8,
+    pub place: usize,
 }
 
 // ---- a name by its number
@@ -97,7 +102,7 @@ fn name_of<'a>(
     name_at(text, places, signals, number)
 }
 
-// ---- any text, judged once: 1 to 17
+// ---- any text, judged once: 1 to 17, and 25
 
 fn refused(no: u8, place: usize) -> Judged
     ensures { λ r. ⌜ (r .no ≡ no) × (r .place ≡ place) ⌝ }
@@ -168,7 +173,7 @@ fn summed<'a>(
     v: Verdict,
 ) -> Failing
     requires { ⌜ ((w : Watch) × Found (now text) w (now places) (now lists) (now tplaces) (now waves) (now book) (now rows) (now list) v) ⌝ }
-    ensures { λ r. ⌜ Plays (now (text .entry)) (now (places .entry)) (now (lists .entry)) (now (tplaces .entry)) (now (waves .entry)) (now (book .entry)) (now (rows .entry)) (now (list .entry)) v r ⌝ }
+    ensures { λ r. ⌜ Unplayable (now (text .entry)) (now (places .entry)) (now (lists .entry)) (now (tplaces .entry)) (now (waves .entry)) (now (book .entry)) (now (rows .entry)) (now (list .entry)) v r ⌝ }
 {
     let parts = v.parts;
     let known = parts.known;
@@ -215,7 +220,7 @@ fn summed<'a>(
 }
 
 // The first cycle of a text's run that fails, where 1 to 16 leave the text. Most texts are plain, and none of theirs does.
-pub fn failing<'a>(
+fn unplayable<'a>(
     text: &'a [u8],
     places: &'a [usize],
     lists: &'a [u16],
@@ -228,7 +233,7 @@ pub fn failing<'a>(
     v: Verdict,
 ) -> Failing
     requires { ⌜ SomeFound (now text) (now places) (now lists) (now tplaces) (now waves) (now book) (now rows) (now list) (now used) v ⌝ }
-    ensures { λ r. ⌜ Plays (now (text .entry)) (now (places .entry)) (now (lists .entry)) (now (tplaces .entry)) (now (waves .entry)) (now (book .entry)) (now (rows .entry)) (now (list .entry)) v r ⌝ }
+    ensures { λ r. ⌜ Unplayable (now (text .entry)) (now (places .entry)) (now (lists .entry)) (now (tplaces .entry)) (now (waves .entry)) (now (book .entry)) (now (rows .entry)) (now (list .entry)) v r ⌝ }
 {
     let parts = v.parts;
     if !grants::plain(
@@ -249,7 +254,114 @@ pub fn failing<'a>(
     }
 }
 
-// A text that 1 to 16 leave: 17, or what is wanted of it.
+// The first pair of neighbouring cycles of a text's run that is not in order, searched for by playing it.
+fn crossing<'a>(
+    text: &'a [u8],
+    places: &'a [usize],
+    lists: &'a [u16],
+    tplaces: &'a [usize],
+    waves: &'a [u8],
+    book: &'a [usize],
+    rows: &'a [u16],
+    list: &'a [usize],
+    v: Verdict,
+) -> Failing
+    requires { ⌜ ((w : Watch) × Found (now text) w (now places) (now lists) (now tplaces) (now waves) (now book) (now rows) (now list) v) ⌝ }
+    ensures { λ r. ⌜ Crosses (now (text .entry)) (now (places .entry)) (now (lists .entry)) (now (tplaces .entry)) (now (waves .entry)) (now (book .entry)) (now (rows .entry)) (now (list .entry)) v r ⌝ }
+{
+    let parts = v.parts;
+    let mut firsts = [0u32; spans::TIMES];
+    let mut lasts = [0u32; spans::TIMES];
+    let mut periods = [0u64; spans::PERIODS];
+    spans::of_text(text, &mut firsts, &mut lasts, &mut periods);
+    crossings::first_failing_pair(
+        text,
+        places,
+        lists,
+        tplaces,
+        book,
+        rows,
+        waves,
+        list,
+        parts.known,
+        parts.signals,
+        parts.listed,
+        parts.patterns,
+        &firsts,
+        &lasts,
+        &periods,
+    )
+}
+
+// The same, where 1 to 16 leave the text. In most texts every event lies within its own cycle, and nothing is played.
+fn across<'a>(
+    text: &'a [u8],
+    places: &'a [usize],
+    lists: &'a [u16],
+    tplaces: &'a [usize],
+    waves: &'a [u8],
+    book: &'a [usize],
+    rows: &'a [u16],
+    list: &'a [usize],
+    v: Verdict,
+) -> Failing
+    requires { ⌜ ((w : Watch) × Found (now text) w (now places) (now lists) (now tplaces) (now waves) (now book) (now rows) (now list) v) ⌝ }
+    ensures { λ r. ⌜ Crosses (now (text .entry)) (now (places .entry)) (now (lists .entry)) (now (tplaces .entry)) (now (waves .entry)) (now (book .entry)) (now (rows .entry)) (now (list .entry)) v r ⌝ }
+{
+    if !quiet::is_quiet(text) {
+        return crossing(text, places, lists, tplaces, waves, book, rows, list, v);
+    }
+    Failing {
+        failed: false,
+        place: 0,
+    }
+}
+
+// What 17 and 25 say of a text's run, where 1 to 16 leave the text.
+pub fn failing<'a>(
+    text: &'a [u8],
+    places: &'a [usize],
+    lists: &'a [u16],
+    tplaces: &'a [usize],
+    waves: &'a [u8],
+    book: &'a [usize],
+    rows: &'a [u16],
+    list: &'a [usize],
+    used: &'a [u8],
+    v: Verdict,
+) -> Unfit
+    requires { ⌜ SomeFound (now text) (now places) (now lists) (now tplaces) (now waves) (now book) (now rows) (now list) (now used) v ⌝ }
+    ensures { λ r. ⌜ Plays (now (text .entry)) (now (places .entry)) (now (lists .entry)) (now (tplaces .entry)) (now (waves .entry)) (now (book .entry)) (now (rows .entry)) (now (list .entry)) v r ⌝ }
+{
+    let f = unplayable(
+        text,
+        places,
+        lists,
+        tplaces,
+        waves,
+        book,
+        rows,
+        list,
+        used,
+        v,
+    );
+    if f.failed {
+        return Unfit {
+            no: NOT_PLAYABLE,
+            place: f.place,
+        };
+    }
+    let x = across(text, places, lists, tplaces, waves, book, rows, list, v);
+    if x.failed {
+        return Unfit {
+            no: ACROSS_EDGE,
+            place: x.place,
+        };
+    }
+    Unfit { no: 0, place: 0 }
+}
+
+// A text that 1 to 16 leave: 17, 25, or what is wanted of it.
 fn play<'a>(
     text: &'a [u8],
     places: &'a [usize],
@@ -278,13 +390,13 @@ fn play<'a>(
         used,
         v,
     );
-    if f.failed {
-        return refused(NOT_PLAYABLE, f.place);
+    if f.no != 0 {
+        return refused(f.no, f.place);
     }
     told(text, places, tplaces, v, wanted)
 }
 
-// A whole text: refused by 1 to 17, or what is wanted of it.
+// A whole text: refused by 1 to 17 or 25, or what is wanted of it.
 pub fn judge(text: &[u8], wanted: Wanted) -> Judged
     ensures { λ r. ⌜ Judges (now (text .entry)) wanted r ⌝ }
 {

@@ -8,14 +8,13 @@ use mathlib.Core.List.{List, _++_}
 use lib.Dec.{leb, ltb}
 use lib.ListN.{length, drop}
 use borrow.Author.Tests.{leb-true, ltb-false}
+use Rattle.tokens.proofs.Bools.{both, neither}
 use Rattle.meaning.specs.Bounds.{signalsMost, sizeMost, cyclesMost}
 use Rattle.meaning.specs.Refusals.{badData, noRoom}
 use Rattle.meaning.specs.Run.{size, cycles, visits}
 use Rattle.meaning.specs.Meaning.{Answer, given, refused, answering, fitting, Meaning, meaning}
 use Rattle.meaning.specs.Services.{Counts, counts, badMark, rows, rowWidth, Window, rowsDue, widthOf, windowRows, rowsOut, windowOf, window}
 use Rattle.timing.specs.declared.Watch.{Watch}
-use Rattle.arguments.proofs.Lists.{both}
-use Rattle.assigns.proofs.Table.{or-false}
 use Rattle.texts.specs.Tables.{Found}
 use Rattle.texts.specs.declared.Verdict.{Verdict}
 use Rattle.texts.proofs.Sounds.{sound-runs}
@@ -23,7 +22,8 @@ use Rattle.windows.specs.Run.{Accepts, Windows}
 use Rattle.verdicts.specs.Buffers.{afterwards, spared}
 use Rattle.views.specs.Views.{Views}
 use Rattle.views.specs.declared.Shown.the-variants.{Rows, Refused}
-use Rattle.verdicts.proofs.Found.{meantBy, runs, signals-counted, counts-met}
+use Rattle.verdicts.specs.Found.{meantBy}
+use Rattle.verdicts.proofs.Found.{runs, signals-counted, counts-met}
 use Rattle.verdicts.proofs.Sparing.{room, spared-room}
 
 -- ---- as the service answers it
@@ -114,7 +114,7 @@ module _ {w : Watch} {text places lists tplaces waves book marks list : List ℕ
         meant = a;
         size-is = ap (λ (c : Counts). c .size) (counts-met f);
         due-there = omega (arith, cycles-are);
-        room = ltb-false (length buffer) (due * (v .parts .signals + 2)) (or-false (not spare) _ (e ∙ z) .1);
+        room = ltb-false (length buffer) (due * (v .parts .signals + 2)) (neither (not spare) _ (e ∙ z) .1);
       }
 
       pub view-given : {r : ℕ} {after : List ℕ} → y ≡ false → Windows (v .parts .signals) first due mark buffer it r after

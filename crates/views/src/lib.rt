@@ -5,12 +5,9 @@ ghost use Rattle.meaning.specs.Services.{badMark, window as windowOf};
 ghost use Rattle.verdicts.specs.Found.{SomeFound};
 ghost use Rattle.verdicts.specs.Buffers.{spared};
 ghost use Rattle.views.specs.Views.{Views};
+use assigns::BAD_DATA;
 use texts::Verdict;
-use verdicts::NO_ROOM;
-use verdicts::NOT_PLAYABLE;
-
-// A letter, a digit or LF as the mark.
-const BAD_MARK: u8 = 12;
+use words::NO_ROOM;
 
 pub enum Shown {
     // how many rows were written, and the visits
@@ -74,11 +71,11 @@ fn view<'a>(
         used,
         v,
     );
-    if f.failed {
-        return Shown::Refused(NOT_PLAYABLE, f.place);
+    if f.no != 0 {
+        return Shown::Refused(f.no, f.place);
     }
     if is_no_mark(mark) {
-        return Shown::Refused(BAD_MARK, 0);
+        return Shown::Refused(BAD_DATA, 0);
     }
     let due = rows_due(total.cycles, first, wanted);
     if !spare | (buffer.len() < due * (parts.signals + 2)) {

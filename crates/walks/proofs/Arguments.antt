@@ -9,18 +9,15 @@ use lib.ListN.{drop}
 use lib.Seq.{drop-drop, drop-nil}
 use lib.Dec.{eqb}
 use borrow.Author.Tests.{eqb-true, eqb-false}
+use Rattle.tokens.proofs.Bools.{neither}
 use Rattle.meaning.specs.Lists.{has, repeats}
 use Rattle.meaning.specs.Body.{Args, argOf, supplied}
 use Rattle.meaning.specs.Run.{behind, taken}
 use Rattle.walks.specs.Turns.{lost, lostAll}
 
-pub or-false : (a b : Bool) → a || b ≡ false → (a ≡ false) × (b ≡ false)
-or-false false b h = (refl, h)
-or-false true b h = let z : _≡_ {A = ℕ} 0 1 = cc in absurd (omega arith)
-
 -- ---- one after the other
 
-behind-one : (cs : List ℕ) → behind cs ≡ drop 1 cs
+pub behind-one : (cs : List ℕ) → behind cs ≡ drop 1 cs
 unfolding behind
 behind-one [] = refl
 behind-one (c ∷ cs) = refl
@@ -122,19 +119,19 @@ pub arg-kept : (i s : ℕ) (ss : List ℕ) (A : Args) → has s ss ≡ false →
 unfolding lostAll has
 arg-kept i s [] A h = refl
 arg-kept i s (u ∷ ss) A h =
-    let e = or-false (eqb u s) (has s ss) h in
+    let e = neither (eqb u s) (has s ss) h in
     arg-kept i s ss (lost i u A) (e .1) ∙ arg-other i s u A (eqb-false u s (e .0))
 
 -- one with it, once
 pub arg-skipped : (i s : ℕ) (ss : List ℕ) (A : Args) → repeats ss ≡ false → has s ss ≡ true → argOf s (lostAll i ss A) ≡ drop i (argOf s A)
 unfolding lostAll has repeats
 arg-skipped i s [] A g h = let z : _≡_ {A = ℕ} 0 1 = cc in absurd (omega arith)
-arg-skipped i s (u ∷ ss) A g h = by (eqb u s) refl h (arg-skipped i s ss (lost i u A) (or-false (has u ss) (repeats ss) g .1))
+arg-skipped i s (u ∷ ss) A g h = by (eqb u s) refl h (arg-skipped i s ss (lost i u A) (neither (has u ss) (repeats ss) g .1))
   where
     by : (p : Bool) → eqb u s ≡ p → p || has s ss ≡ true → (has s ss ≡ true → argOf s (lostAll i ss (lost i u A)) ≡ drop i (argOf s (lost i u A)))
         → argOf s (lostAll i ss (lost i u A)) ≡ drop i (argOf s A)
     by true e h ih =
         let q : u ≡ s = eqb-true u s e in
-        arg-kept i s ss (lost i u A) (subst (λ (k : ℕ). has k ss ≡ false) q (or-false (has u ss) (repeats ss) g .0))
+        arg-kept i s ss (lost i u A) (subst (λ (k : ℕ). has k ss ≡ false) q (neither (has u ss) (repeats ss) g .0))
         ∙ ap (λ (k : ℕ). argOf s (lost i k A)) q ∙ arg-lost i s A
     by false e h ih = ih h ∙ ap (drop i) (arg-other i s u A (eqb-false u s e))

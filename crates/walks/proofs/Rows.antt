@@ -1,7 +1,7 @@
 -- Rows written one behind the other: row k goes to the part of the buffer that begins at k times the row width. The rows of all that is seen are what the window gives.
 use mathlib.Core.Path.{_≡_, sym, ap, ap₂, _∙_, subst}
-use Prim.Native.Nat.{ℕ, zero, suc, _+_, _*_, _-_, _≤_, _<_, min}
-use native.Mathlib.Nat.{zero-mul, one-mul, add-mul, suc-mul, mul-le-mul-right}
+use Prim.Native.Nat.{ℕ, zero, suc, _+_, _*_, _-_, _≤_, min}
+use native.Mathlib.Nat.{zero-mul, one-mul, add-mul}
 use native.Mathlib.Omega.{arith}
 use mathlib.Core.Bool.{false}
 use mathlib.Core.List.{List, [], _∷_, _++_, append-assoc, append-nil}
@@ -14,6 +14,7 @@ use Rattle.meaning.specs.Services.{badMark, row, rows, rowWidth, window, window
 use Rattle.meaning.proofs.Rows.{row-width, rows-are-cycles}
 use Rattle.meaning.proofs.Turns.{copies}
 use Rattle.meaning.proofs.Windows.{rows-++, take-min, window-rows}
+pub use Rattle.meaning.proofs.Windows.{row-room}
 use Rattle.walks.specs.Seen.{seen}
 use Rattle.walks.specs.Written.{Even, Written}
 use Rattle.walks.proofs.Seen.{length-seen, seen-++}
@@ -54,10 +55,6 @@ even-copies mark signals zero l h = even-none mark signals
 even-copies mark signals (suc k) l h = even-both mark signals l (copies k l) h (even-copies mark signals k l h)
 
 -- ---- a buffer
-
--- row k lies within, where k of the rows due are written
-pub row-room : (k due w long : ℕ) → k < due → due * w ≤ long → k * w + w ≤ long
-row-room k due w long h g = omega (arith, mul-le-mul-right {m = suc k} {n = due} w h, suc-mul k w)
 
 pub written-none : (mark signals : ℕ) (entry : List ℕ) → Written mark signals entry entry []
 unfolding rows

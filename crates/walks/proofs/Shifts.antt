@@ -10,16 +10,18 @@ use lib.ListN.{length, getD, set, drop, length-set}
 use lib.Seq.{getD-set-same, getD-set-other, ext-getD}
 use lib.Dec.{eqb}
 use borrow.Author.Tests.{ne-eqb, eqb-false}
+use Rattle.tokens.proofs.Bools.{neither}
 use Rattle.meaning.specs.Lists.{has, repeats}
 use Rattle.meaning.specs.Body.{Assigns, Args, mark, argOf, supplied, marked, shifted, done, vec}
 use Rattle.meaning.specs.Data.{assigned}
 use Rattle.meaning.specs.Run.{State, Cycle, Played, next, put, puts, cycleAt, follow, again, playing, play}
-use Rattle.meaning.proofs.Rows.{length-again}
+use Rattle.meaning.proofs.Rows.{length-again, puts-table}
+use Rattle.meaning.proofs.Lists.{marked-not}
 use Rattle.walks.specs.Seen.{seen, Through}
 use Rattle.walks.specs.Statement.{playedIn}
 use Rattle.walks.specs.Turns.{vector, lostAll, skipped}
 use Rattle.walks.proofs.Loops.{again-add, turns-passed}
-use Rattle.walks.proofs.Arguments.{or-false, taken-lost, all-both, all-none, arg-skipped, arg-kept, supplied-lost}
+use Rattle.walks.proofs.Arguments.{taken-lost, all-both, all-none, arg-skipped, arg-kept, supplied-lost}
 
 -- ---- what assignments do to arguments and table, whatever the pins
 
@@ -31,15 +33,6 @@ put-is x s = by (eqb (x .1) mark) refl
     by : (w : Bool) → eqb (x .1) mark ≡ w → (c : ℕ) × (put x s .pins ≡ set (s .pins) (x .0) c)
     by true e = (next (argOf (x .0) (s .args)), rw (e, put))
     by false e = (x .1, rw (e, put))
-
-pub puts-table : (a : Assigns) (s : State) → puts a s .table ≡ s .table
-unfolding puts put
-puts-table [] s = refl
-puts-table (x ∷ a) s = puts-table a (put x s) ∙ by (eqb (x .1) mark) refl
-  where
-    by : (w : Bool) → eqb (x .1) mark ≡ w → put x s .table ≡ s .table
-    by true e = rw (e, put)
-    by false e = rw (e, put)
 
 pub puts-args : (a : Assigns) (s : State) → puts a s .args ≡ lostAll 1 (marked a) (s .args)
 unfolding puts put marked lostAll
@@ -90,7 +83,7 @@ puts-apart (x ∷ a) s =
     let l : length (put x s .pins) ≡ length (s .pins) = ap length (p .1) ∙ length-set (s .pins) (x .0) (p .0) in (
       h .0 ∙ l,
       λ i g o.
-          let e = or-false (eqb (x .0) i) (has i (assigned a)) o in
+          let e = neither (eqb (x .0) i) (has i (assigned a)) o in
           h .1 i g (e .1) ∙ ap (λ (v : List ℕ). getD v i 0) (p .1)
           ∙ getD-set-other (s .pins) (x .0) i (p .0) 0 (λ r. eqb-false (x .0) i (e .0) (sym r)),
     )
@@ -157,23 +150,12 @@ shift-turns t p a s = refl
 
 -- ---- its arguments, for whoever holds them signal by signal
 
-marked-assigned : (s : ℕ) (a : Assigns) → has s (assigned a) ≡ false → has s (marked a) ≡ false
-unfolding assigned marked has
-marked-assigned s [] h = refl
-marked-assigned s (x ∷ a) h =
-    let e = or-false (eqb (x .0) s) (has s (assigned a)) h in
-    by (eqb (x .1) mark) (e .0) (marked-assigned s a (e .1))
-  where
-    by : (w : Bool) → eqb (x .0) s ≡ false → has s (marked a) ≡ false → has s (elim w [ true ↦ x .0 ∷ marked a | false ↦ marked a ]) ≡ false
-    by true e ih = rw e ih
-    by false e ih = ih
-
 pub marked-once : (a : Assigns) → repeats (assigned a) ≡ false → repeats (marked a) ≡ false
 unfolding assigned marked repeats
 marked-once [] h = refl
 marked-once (x ∷ a) h =
-    let e = or-false (has (x .0) (assigned a)) (repeats (assigned a)) h in
-    by (eqb (x .1) mark) (marked-assigned (x .0) a (e .0)) (marked-once a (e .1))
+    let e = neither (has (x .0) (assigned a)) (repeats (assigned a)) h in
+    by (eqb (x .1) mark) (marked-not (x .0) a (e .0)) (marked-once a (e .1))
   where
     by : (w : Bool) → has (x .0) (marked a) ≡ false → repeats (marked a) ≡ false → repeats (elim w [ true ↦ x .0 ∷ marked a | false ↦ marked a ]) ≡ false
     by true e ih = rw e ih

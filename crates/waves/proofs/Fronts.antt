@@ -6,10 +6,10 @@ use mathlib.Core.List.{List, [], _∷_, _++_}
 use lib.ListN.{length, take, set, length-append}
 use Rattle.meaning.specs.Bounds.{entryMost}
 use Rattle.meaning.specs.Timing.{Event}
-use Rattle.meaning.specs.Services.{timesOf, lettersOf}
+use Rattle.meaning.specs.Services.{lettersOf}
 use Rattle.data.specs.Filled.{over}
 use Rattle.data.proofs.Over.{over-set, over-length, over-front}
-use Rattle.waves.specs.Waves.{Reads}
+use Rattle.waves.specs.Waves.{countsOf, Reads}
 
 -- ---- a number of each event
 
@@ -38,18 +38,18 @@ module _ (f : List Event → List ℕ) (g : Event → ℕ) (none′ : f [] ≡ [
 -- ---- the events
 
 pub reads-none : (times letters : List ℕ) → Reads [] 0 times times letters letters
-unfolding timesOf lettersOf over
+unfolding countsOf lettersOf over
 reads-none times letters = record { count = refl; few = omega arith; times-are = refl; letters-are = refl }
 
 pub reads-more : {es : List Event} {n : ℕ} {times times′ letters letters′ : List ℕ} (x : Event) → n < entryMost → Reads es n times times′ letters letters′
     → Reads (es ++ x ∷ []) (n + 1) times (set times′ n (x .time)) letters (set letters′ n (x .letter))
-unfolding timesOf lettersOf
+unfolding countsOf lettersOf
 reads-more {es} {n} {times} {times′} {letters} x h r =
     let l : n + 1 ≡ length (es ++ x ∷ []) = omega (arith, r .count, length-append es (x ∷ [])) in
     record {
       count = l;
       few = omega arith;
-      times-are = front-more timesOf (λ e. e .time) refl (λ e es. refl) es times x (r .times-are) (r .count);
+      times-are = front-more countsOf (λ e. e .time) refl (λ e es. refl) es times x (r .times-are) (r .count);
       letters-are = front-more lettersOf (λ e. e .letter) refl (λ e es. refl) es letters x (r .letters-are) (r .count);
     }
 
@@ -57,15 +57,15 @@ reads-more {es} {n} {times} {times′} {letters} x h r =
 
 module _ {es : List Event} {n : ℕ} {times times′ letters letters′ : List ℕ} (r : Reads es n times times′ letters letters′) where
   pub times-kept : length times′ ≡ length times
-  times-kept = ap length (r .times-are) ∙ over-length (timesOf es) times
+  times-kept = ap length (r .times-are) ∙ over-length (countsOf es) times
 
   pub letters-kept : length letters′ ≡ length letters
   letters-kept = ap length (r .letters-are) ∙ over-length (lettersOf es) letters
 
   -- the events, in arrays that have room for an entry's
-  pub times-front : length times ≡ entryMost → take n times′ ≡ timesOf es
-  unfolding timesOf
-  times-front h = front-is timesOf (λ e. e .time) refl (λ e es. refl) es times (r .times-are) (r .count) (omega (arith, r .few))
+  pub times-front : length times ≡ entryMost → take n times′ ≡ countsOf es
+  unfolding countsOf
+  times-front h = front-is countsOf (λ e. e .time) refl (λ e es. refl) es times (r .times-are) (r .count) (omega (arith, r .few))
 
   pub letters-front : length letters ≡ entryMost → take n letters′ ≡ lettersOf es
   unfolding lettersOf

@@ -15,7 +15,7 @@ use Rattle.meaning.specs.Bounds.{entryMost}
 use Rattle.meaning.specs.Refusals.{tooMany}
 use Rattle.meaning.specs.Reader.{Res, Reader, ok, refuse, after, _>>=_, give, refuseIf, any, aheadOf, ahead, dueOf, due}
 use Rattle.meaning.specs.Names.{known}
-use Rattle.meaning.specs.Timing.{Event, Events, quoted, letters, spread, rises, addEvents, oneEvent, event}
+use Rattle.meaning.specs.Timing.{Event, Events, signedQuoted, letters, spread, rises, addEvents, oneEvent, event}
 use Rattle.meaning.proofs.Gives.{bind-ok, give-ok, if-ok, gives-if, known-ok}
 use Rattle.words.specs.Cursor.{alive, stream, Goes}
 use Rattle.words.specs.declared.Cursor.{Cursor}
@@ -90,7 +90,7 @@ pub record Line (n : ℕ) (s : Events) (ts : Toks) (s′ : Events) (us : Toks) :
   pub vs : Toks
   pub ws : Toks
   pub q : ℕ
-  pub timed : quoted 0 ts ≡ ok t vs
+  pub timed : signedQuoted ts ≡ ok t vs
   pub lettered : letters vs ≡ ok es ws
   pub ended : due ";" ws ≡ ok q us
   pub counts : (not (eqb (length es) 1) && not (eqb (length es) n)) ≡ false
@@ -106,7 +106,7 @@ known-rest (some x) n p ts e = cc
 
 -- one too many would be refused
 pub line : (n : ℕ) (s : Events) (ts : Toks) {s′ : Events} {us : Toks} → event n s ts ≡ ok s′ us → Line n s ts s′ us
-unfolding event oneEvent quoted
+unfolding event oneEvent signedQuoted
 line n s ts {s′} {us} e =
     let once = by (ahead "'" ts && leb entryMost (s .1)) refl e in
     let timed = bind-ok _ _ ts s′ us (once .0) in
@@ -159,7 +159,7 @@ went {A} {text} {c} {r} {m} {a} {b} {us} g h e = by (alive r) refl
         let z : _≡_ {A = ℕ} 0 1 = cc in
         absurd (omega arith)
 
-pub event-adds : {text : List ℕ} {c d e r : Cursor} {t m i x p : ℕ} {l : List ℕ} → Goes text c (quoted 0) d t → Makes text d letters e (Lettered m l)
+pub event-adds : {text : List ℕ} {c d e r : Cursor} {t m i x p : ℕ} {l : List ℕ} → Goes text c signedQuoted d t → Makes text d letters e (Lettered m l)
     → Goes text e (due ";") r p
     → ((n : ℕ) (es : List ℕ) → n ≤ entryMost → Lettered m l es → (not (eqb m 1) && not (eqb m n)) ≡ false → i < n → x ≡ getD (spread n es) i 0)
     → OneEvent text c i (record { cursor = r; time = t; letter = x })

@@ -9,7 +9,7 @@ use Rattle.meaning.specs.Bounds.{entryMost}
 use Rattle.meaning.specs.Lists.{has}
 use Rattle.meaning.specs.Reader.{ok}
 use Rattle.meaning.specs.Timing.{Event, Events, event}
-use Rattle.meaning.specs.Services.{timesOf, lettersOf}
+use Rattle.meaning.specs.Services.{lettersOf}
 use Rattle.words.specs.Cursor.{alive, stream}
 use Rattle.words.specs.declared.Cursor.{Cursor}
 use Rattle.data.specs.Filled.{over}
@@ -26,11 +26,16 @@ pub record EntryAt (text : List ℕ) (place b : ℕ) (es : List Event) : Type 0 
   pub among : has b chars ≡ true
   pub is : es ≡ getD (events .0) (numberOf b chars) []
 
+-- their times, as they are counted
+unfoldable pub countsOf : List Event → List ℕ
+countsOf [] = []
+countsOf (e ∷ es) = e .time ∷ countsOf es
+
 -- THE PROMISE: they stand at the front of two arrays, times and letters, which have room for all that an entry may have
 pub record Reads (es : List Event) (n : ℕ) (times times′ letters letters′ : List ℕ) : Type 0 where
   pub count : n ≡ length es
   pub few : length es ≤ entryMost
-  pub times-are : times′ ≡ over (timesOf es) times
+  pub times-are : times′ ≡ over (countsOf es) times
   pub letters-are : letters′ ≡ over (lettersOf es) letters
 
 -- ---- one event

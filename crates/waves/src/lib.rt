@@ -26,7 +26,7 @@ fn number_of(w: &[u8], b: u8) -> usize
     w.len()
 }
 
-// An event that was read: its time in ps and the letter of one character, and the cursor behind it.
+// An event that was read: its time in ps, counted from the earliest that there may be, and the letter of one character, and the cursor behind it.
 pub struct EventRead {
     pub cursor: Cursor,
     pub time: u64,
@@ -38,7 +38,7 @@ pub fn event(text: &[u8], c: Cursor, i: usize) -> EventRead
     requires { ⌜ i < entryMost ⌝ }
     ensures { λ r. ⌜ OneEvent (now (text .entry)) c i r ⌝ }
 {
-    let t = words::quoted(text, c, 0);
+    let t = words::signed_quoted(text, c);
     let l = timing::letters(text, t.cursor);
     let cursor = words::due(text, l.cursor, b";");
     let letter = timing::letter_at(l.a, i);

@@ -10,6 +10,7 @@ use lib.ListN.{length, drop, replicate}
 use lib.Dec.{leb}
 use borrow.Author.Tests.{leb-true}
 use Rattle.tokens.specs.Tokens.{Tok, Toks, toks}
+use Rattle.tokens.proofs.Bools.{both}
 use Rattle.meaning.specs.Bounds.{signalsMost, listMost, sizeMost, cyclesMost}
 use Rattle.meaning.specs.Timing.{Tables}
 use Rattle.meaning.specs.Body.{listed}
@@ -34,7 +35,6 @@ use Rattle.texts.specs.declared.Parts.{Parts}
 use Rattle.texts.proofs.Runs.{listFrom, list-cut, list-end}
 use Rattle.plays.specs.Plays.{Ground, ground, Arrays, arrays, Sized}
 use Rattle.plays.specs.Run.{ListedAt}
-use Rattle.plays.proofs.Fitting.{both}
 use Rattle.plays.proofs.Running.{opening-long}
 use Rattle.plays.proofs.Texts.{listed-at, opening-sized}
 use Rattle.rows.specs.declared.Walk.{Walk}

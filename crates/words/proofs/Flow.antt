@@ -1,14 +1,14 @@
 -- How the promises of readers join. A refused cursor stays as it is, so that readers stand one behind the other without a test between them.
-use Prim.Native.Nat.{ℕ}
+use Prim.Native.Nat.{ℕ, suc, _<_}
 use native.Mathlib.Omega.{arith}
 use mathlib.Core.Path.{_≡_, refl, sym, ap, _∙_}
 use mathlib.Core.Bool.{Bool, true, false, cond, not, _&&_}
 use mathlib.Core.Option.{Option, none, some}
 use mathlib.Core.List.{List}
 use lib.Dec.{eqb, ltb}
-use borrow.Author.Tests.{eq-eqb, ne-eqb}
+use borrow.Author.Tests.{eq-eqb, ne-eqb, lt-ltb}
 use Rattle.tokens.specs.Refusals.{notHere}
-use Rattle.tokens.specs.Tokens.{Tok, Toks, stop, tok, toks}
+use Rattle.tokens.specs.Tokens.{Tok, Toks, stop, tok, toks, left}
 use Rattle.meaning.specs.Reader.{Res, Reader, ok, refuse, after, _>>=_, give, refuseIf, any}
 use Rattle.meaning.specs.Names.{isSome, known}
 use Rattle.words.specs.Cursor.{ahead, stopNo, stream, Stands, alive, from, Goes, Checked, taking}
@@ -100,6 +100,28 @@ read {A} {text} {c} {r} {m} {a} g h = by (alive c) refl
 pub alive-before : {A : Type 0} {text : List ℕ} {c r : Cursor} {m : Reader A} {a : A} → Goes text c m r a → alive r ≡ true → alive c ≡ true
 alive-before g h = read g h .on
 
+-- a reader that answers leaves a cursor that goes on, behind what it took
+pub record Went {A : Type 0} (text : List ℕ) (r : Cursor) (a b : A) (us : Toks) : Type 0 where
+  pub on : alive r ≡ true
+  pub is : a ≡ b
+  pub behind : stream text r ≡ us
+
+pub went : {A : Type 0} {text : List ℕ} {c r : Cursor} {m : Reader A} {a b : A} {us : Toks} → Goes text c m r a → alive c ≡ true
+    → m (stream text c) ≡ ok b us → Went text r a b us
+unfolding give
+went {A} {text} {c} {r} {m} {a} {b} {us} g h e = by (alive r) refl
+  where
+    by : (x : Bool) → alive r ≡ x → Went text r a b us
+    by true k =
+        let q = sym (read g k .gave) ∙ e in
+        let o : a ≡ b = cc in
+        let p : stream text r ≡ us = cc in
+        record { on = k; is = o; behind = p }
+    by false k =
+        let q = sym (from-stop text r (give a) k) ∙ g .same ∙ from-on text c m h ∙ e in
+        let z : _≡_ {A = ℕ} 0 1 = cc in
+        absurd (omega arith)
+
 -- ---- tests that refuse
 
 pub checked : {text : List ℕ} {c r : Cursor} {b q : Bool} {n p : ℕ} → Checked c b n p r → b ≡ q → eqb n 0 ≡ false
@@ -169,6 +191,15 @@ stream-on text c e = rw (e, stream)
 pub stream-stop : (text : List ℕ) (c : Cursor) → ltb (c .at) (c .end) ≡ false → stream text c ≡ stop (stopNo c) (c .at)
 unfolding stream
 stream-stop text c e = rw (e, stream)
+
+module _ (text : List ℕ) (c : Cursor) (h : c .at < c .end) where
+  pub token-here : stream text c ≡ tok (ahead text c) (toks text (c .end))
+  token-here = stream-on text c (lt-ltb (c .at) (c .end) h)
+
+  -- behind it one less is left
+  pub fewer : {d : Cursor} → Stands text (c .end) d → suc (left (stream text d)) ≡ left (stream text c)
+  unfolding left
+  fewer {d} s = ap (λ (ts : Toks). suc (left ts)) (s .there) ∙ sym (ap left token-here)
 
 -- it is taken
 pub taken : {text : List ℕ} {c r : Cursor} → alive c ≡ true → ltb (c .at) (c .end) ≡ true → Stands text (c .end) r → Goes text c any r (ahead text c)

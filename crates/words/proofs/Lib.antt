@@ -3,8 +3,9 @@ mod Ahead
 pub mod Choice
 pub mod Loops
 pub mod Words
-mod Numbers
+pub mod Numbers
 mod Tables
 mod Packed
 pub mod Names
 mod Chains
+mod Signs

@@ -9,6 +9,7 @@ use lib.Dec.{ltb}
 use lib.ListN.{length}
 use Rattle.tokens.specs.Tokens.{Toks, left}
 use Rattle.tokens.proofs.Laws.{left-most}
+pub use Rattle.tokens.proofs.Bools.{both}
 use Rattle.meaning.specs.Reader.{Reader, _>>=_, give, ahead, due, while, closed, until}
 use Rattle.meaning.proofs.Takes.{Takes, Keeps, while-done, while-on}
 use Rattle.words.specs.Cursor.{stream, alive, from, Goes}
@@ -57,10 +58,6 @@ module _ {A : Type 0} {text : List ℕ} {c r : Cursor} {m : Reader A} {a : A} wh
       by false h = omega (arith, room-stop text r h)
 
 -- ---- the loop's test
-
-pub both : (x y : Bool) → (x && y) ≡ true → (x ≡ true) × (y ≡ true)
-both true y h = (refl, h)
-both false y h = let z : _≡_ {A = ℕ} 0 1 = cc in absurd (omega arith)
 
 -- it holds: reading goes on
 pub on : (x y : Bool) {b : Bool} → b ≡ (x && y) → b ≡ true → x ≡ true

@@ -21,6 +21,11 @@ use Rattle.words.proofs.Flow.{then, given, alike}
 
 -- ---- the same names, which stand for something else
 
+pub firsts-named : {A B : Type 0} (f : A → B) (xs : List (Tok × A)) → firsts (named f xs) ≡ firsts xs
+unfolding firsts named
+firsts-named f [] = refl
+firsts-named f (x ∷ xs) = ap (λ (l : List Tok). x .0 ∷ l) (firsts-named f xs)
+
 module _ {A B : Type 0} (f : A → B) where
   abbrev pub over : Option A → Option B
   over none = none

@@ -14,10 +14,11 @@ use Rattle.meaning.specs.Refusals.{badNumber}
 use Rattle.meaning.specs.Reader.{ok, refuse, after, _>>=_, give, refuseIf}
 use Rattle.meaning.specs.Names.{value, number, within}
 use Rattle.meaning.specs.Timing.{unit, picoseconds}
+use Rattle.meaning.proofs.Others.{same-eq}
 use Rattle.words.specs.Cursor.{Goes, Checked}
 use Rattle.words.specs.Values.{most, capped, told}
 use Rattle.words.specs.declared.Cursor.{Cursor}
-use Rattle.words.proofs.Words.{cut, rest, same-eq}
+use Rattle.words.proofs.Words.{cut, rest}
 use Rattle.words.proofs.Flow.{then, given, valued, checked, refused-by}
 
 pub digit-bounds : (b : ℕ) → digit b ≡ true → (48 ≤ b) × (b ≤ 57)

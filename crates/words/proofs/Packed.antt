@@ -8,12 +8,13 @@ use native.Mathlib.Nat.{eq-or-lt-of-le}
 use lib.Dec.{eqb, ltb}
 use borrow.Author.Tests.{eqb-true, eqb-false, ltb-true, ltb-false}
 use mathlib.Core.Bool.{Bool, true, false}
-use mathlib.Core.List.{List, [], _∷_}
-use lib.ListN.{length, getD}
+use mathlib.Core.List.{List}
+use lib.ListN.{length, getD, List·getD-eq-default}
 use lib.Seq.{ext-getD}
 use Rattle.tokens.specs.Written.{same}
+use Rattle.meaning.proofs.Others.{same-eq}
 use Rattle.words.specs.Packed.{packed, ZerosFrom}
-use Rattle.words.proofs.Words.{same-eq, same-self}
+use Rattle.words.proofs.Words.{same-self}
 
 -- ---- numbers of two, four and eight bytes
 
@@ -66,13 +67,8 @@ packed-zeros w (suc n) i e k l m =
     (λ q. packed-zeros w n (suc i) (omega arith) k (omega arith) (omega arith))
     (eq-or-lt-of-le l)
 
-past-end : (w : List ℕ) (i : ℕ) → length w ≤ i → getD w i 0 ≡ 0
-past-end [] i h = refl
-past-end (x ∷ w) zero h = absurd (omega arith)
-past-end (x ∷ w) (suc i) h = past-end w i (omega arith)
-
 pub zeros-none : (w : List ℕ) → ZerosFrom w (length w)
-zeros-none w = record { within = omega arith; none = past-end w }
+zeros-none w = record { within = omega arith; none = λ i h. List·getD-eq-default w 0 h }
 
 pub zeros-more : {w : List ℕ} {n : ℕ} → ZerosFrom w n → (m : ℕ) → n ≡ m + 8 → packed w m 8 ≡ 0 → ZerosFrom w m
 zeros-more {w} {n} x m p e = record { within = omega (arith, x .within); none = λ i h. by i h (ltb i n) refl }

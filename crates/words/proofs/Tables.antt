@@ -15,6 +15,7 @@ use Rattle.words.specs.Table.{nameOf, namesFrom, names}
 use Rattle.words.specs.Values.{told}
 use Rattle.words.specs.declared.Cursor.{Cursor}
 use Rattle.words.proofs.Flow.{passed, known-or}
+use Rattle.words.proofs.Words.{told-some}
 
 module _ (text places w : List ℕ) (count i : ℕ) where
   -- what is found among the names from number i on
@@ -43,11 +44,6 @@ module _ (text places w : List ℕ) (count i : ℕ) (h : i < count) where
 pub found-nowhere : (text places w : List ℕ) (count i : ℕ) → count ≤ i → foundFrom text places w count i ≡ none
 unfolding find namesFrom
 found-nowhere text places w count i h = let e : count - i ≡ 0 = omega arith in rw e
-
-pub told-some : (b : Bool) (n : ℕ) → isSome (told b n) ≡ b
-unfolding isSome
-told-some true n = refl
-told-some false n = refl
 
 not-below : (a b : ℕ) → leb a b ≡ not (ltb b a)
 not-below a b = by (ltb b a) refl

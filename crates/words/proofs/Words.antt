@@ -7,22 +7,23 @@ use native.Mathlib.Nat.{add-zero}
 use native.Mathlib.Numerals.{add-one}
 use mathlib.Core.Bool.{Bool, true, false, not, _&&_, _||_, and-true, and-false, and-assoc, or-false}
 use mathlib.Core.List.{List, [], _∷_}
-use borrow.Author.Tests.{eq-eqb, ne-eqb, eqb-true, eqb-false, ltb-true, ltb-false, le-leb, lt-leb, leb-true}
+use borrow.Author.Tests.{eq-eqb, ne-eqb, eqb-false, ltb-true, ltb-false, le-leb, lt-leb, leb-true}
 use lib.Dec.{leb, ltb, eqb}
-use lib.Seq.{drop-cons, take-all, getD-drop, getD-take}
-use lib.ListN.{length, getD, take, drop, length-take, length-drop, drop-of-length-le}
+use lib.Seq.{take-all, getD-drop, getD-take}
+use lib.ListN.{length, getD, take, drop, length-take, length-drop, drop-of-length-le, replicate}
 use Rattle.tokens.specs.Written.{bytes, same}
 use Rattle.tokens.specs.Bytes.{between, wordy, digit}
+pub use Rattle.tokens.proofs.Reading.{cut}
+pub use Rattle.tokens.proofs.Bools.{neither}
 use Rattle.meaning.specs.Bounds.{nameMost}
 use Rattle.meaning.specs.Reader.{isWord}
 use Rattle.meaning.specs.Lists.{has}
-use Rattle.meaning.specs.Names.{reserved, among, isName}
+use Rattle.meaning.specs.Names.{reserved, among, isName, isSome}
 use Rattle.meaning.specs.Timing.{waveChar, allChars}
+pub use Rattle.meaning.proofs.Others.{same-eq}
 use Rattle.words.specs.Cursor.{span}
 use Rattle.words.specs.Packed.{capital, EndsWith}
-
-pub cut : (t : List ℕ) (i : ℕ) → i < length t → drop i t ≡ getD t i 0 ∷ drop (i + 1) t
-cut t i h = rw (add-one, drop-cons t i 0)
+use Rattle.words.specs.Values.{told}
 
 -- what is left of a word from a place on, as the code takes it
 pub rest : (w : List ℕ) (i : ℕ) → take (length w - i) (drop i w) ≡ drop i w
@@ -30,6 +31,20 @@ rest w i = take-all (length w - i) (drop i w) (omega (arith, length-drop i w))
 
 pub rest-first : (w : List ℕ) (i : ℕ) → getD (take (length w - i) (drop i w)) 0 0 ≡ getD w i 0
 rest-first w i = ap (λ (u : List ℕ). getD u 0 0) (rest w i) ∙ getD-drop i w 0 0 ∙ ap (λ (k : ℕ). getD w k 0) (add-zero i)
+
+-- a blank list has zeros everywhere
+pub zeros : (n i : ℕ) → _≡_ {A = ℕ} (getD (replicate n 0) i 0) 0
+zeros zero i = refl
+zeros (suc n) zero = refl
+zeros (suc n) (suc i) = zeros n i
+
+pub span-none : (text : List ℕ) (at end : ℕ) → end ≤ at → span text at end ≡ []
+span-none text at end h = let e : end - at ≡ 0 = omega arith in rw e
+
+pub told-some : (b : Bool) (n : ℕ) → isSome (told b n) ≡ b
+unfolding isSome
+told-some true n = refl
+told-some false n = refl
 
 -- ---- equal words
 
@@ -66,17 +81,6 @@ same-none w v (suc i) h = absurd (omega arith)
 -- all of them
 pub same-all : (w v : List ℕ) (n : ℕ) → length w ≤ n → length v ≤ n → same w v ≡ same (take n w) (take n v)
 same-all w v n h k = rw (take-all n w h, take-all n v k)
-
-pub same-eq : (w v : List ℕ) → same w v ≡ true → w ≡ v
-unfolding same
-same-eq [] [] h = refl
-same-eq [] (b ∷ v) h = let z : _≡_ {A = ℕ} 0 1 = cc in absurd (omega arith)
-same-eq (a ∷ w) [] h = let z : _≡_ {A = ℕ} 0 1 = cc in absurd (omega arith)
-same-eq (a ∷ w) (b ∷ v) h = by (eqb a b) refl h (same-eq w v)
-  where
-    by : (x : Bool) → eqb a b ≡ x → (x && same w v) ≡ true → (same w v ≡ true → w ≡ v) → a ∷ w ≡ b ∷ v
-    by true e h ih = rw (eqb-true a b e, ih h)
-    by false e h ih = let z : _≡_ {A = ℕ} 0 1 = cc in absurd (omega arith)
 
 pub same-self : (w : List ℕ) → same w w ≡ true
 unfolding same
@@ -137,10 +141,6 @@ pub word-none : (w : List ℕ) → length w ≤ 0 → isWord w ≡ false
 unfolding isWord
 word-none [] h = refl
 word-none (b ∷ s) h = absurd (omega arith)
-
-pub neither : (x y : Bool) → (x || y) ≡ false → (x ≡ false) × (y ≡ false)
-neither false y e = (refl, e)
-neither true y e = let z : _≡_ {A = ℕ} 0 1 = cc in absurd (omega arith)
 
 -- ---- reserved words
 

@@ -3,3 +3,4 @@ pub mod Values
 pub mod Table
 pub mod Packed
 pub mod Chains
+pub mod Signs

@@ -12,12 +12,29 @@ ghost use Rattle.tokens.specs.Tokens.{Tok};
 ghost use Rattle.meaning.specs.Reader.{any, aheadOf, dueOf, isWord, word as wordDue};
 ghost use Rattle.meaning.specs.Lists.{has};
 ghost use Rattle.meaning.specs.Names.{reserved as reservedWords, among, isName, name as nameDue, find as findOf, newName, oldName, number as numberOf, within as withinDue, numberIn};
-ghost use Rattle.meaning.specs.Timing.{waveChar, allChars, unit as unitOf, picoseconds, quoted as quotedDue};
+ghost use Rattle.meaning.specs.Timing.{waveChar, allChars, unit as unitOf, picoseconds, quoted as quotedDue, counted as countedOf, timeOf, signedQuoted};
+ghost use Rattle.meaning.specs.Bounds.{timeMost};
 ghost use Rattle.words.specs.Cursor.{span, ahead as aheadTok, stream, alive, Stands, Goes, Checked, taking};
 ghost use Rattle.words.specs.Values.{most, told, capped, valueOf, Longer};
+ghost use Rattle.words.specs.Signs.{signOf, signedDue, Counts};
 ghost use Rattle.words.specs.Table.{nameOf, names};
 ghost use Rattle.words.specs.Packed.{packed, capital, EndsWith, ZerosFrom};
 ghost use Rattle.words.specs.Chains.{mixedOf, chainOf, InChain};
+
+// Refusals: the token is not allowed here; no name; a name that is unknown; one that is used; one too many; a bad number; no room for what is due.
+pub const NOT_HERE: u8 = 4;
+
+const NO_NAME: u8 = 5;
+
+pub const UNKNOWN: u8 = 6;
+
+pub const USED: u8 = 7;
+
+pub const TOO_MANY: u8 = 8;
+
+pub const BAD_NUMBER: u8 = 9;
+
+pub const NO_ROOM: u8 = 19;
 
 // How many chains there are.
 pub const CHAINS: usize = 509;
@@ -136,7 +153,7 @@ pub fn expect(text: &[u8], c: Cursor, right: bool) -> Cursor
     ensures { λ r. ⌜ Goes (now (text .entry)) c (taking right) r (aheadTok (now (text .entry)) c) ⌝ }
 {
     let r = step(text, c);
-    refuse_if(r, !right, 4, c.at)
+    refuse_if(r, !right, NOT_HERE, c.at)
 }
 
 // ---- tokens that are due
@@ -328,7 +345,7 @@ pub fn name(text: &[u8], c: Cursor) -> Cursor
     ensures { λ r. ⌜ Goes (now (text .entry)) c nameDue r (aheadTok (now (text .entry)) c) ⌝ }
 {
     let r = word(text, c);
-    refuse_if(r, !is_name(bytes_of(text, c.at, c.end)), 5, c.at)
+    refuse_if(r, !is_name(bytes_of(text, c.at, c.end)), NO_NAME, c.at)
 }
 
 // ---- names in their name space
@@ -496,7 +513,7 @@ pub fn unused_name(text: &[u8], c: Cursor, number: usize, count: usize) -> Curso
     ensures { λ r. ⌜ ((ns : List (Tok × ℕ)) → told (ltb number count) number ≡ findOf ns (aheadTok (now (text .entry)) c .word) → Goes (now (text .entry)) c (newName ns) r (aheadTok (now (text .entry)) c)) ⌝ }
 {
     let r = name(text, c);
-    refuse_if(r, number < count, 7, c.at)
+    refuse_if(r, number < count, USED, c.at)
 }
 
 // A name that none of `count` names is.
@@ -514,8 +531,8 @@ pub fn known_name(text: &[u8], c: Cursor, number: usize, count: usize) -> Named
     let at = c.at;
     let right = is_name(bytes_of(text, at, c.end));
     let d = word(text, c);
-    let r = refuse_if(d, !right, 5, at);
-    let cursor = refuse_if(r, count <= number, 6, at);
+    let r = refuse_if(d, !right, NO_NAME, at);
+    let cursor = refuse_if(r, count <= number, UNKNOWN, at);
     Named { cursor, number }
 }
 
@@ -625,7 +642,7 @@ pub fn within(c: Cursor, v: Value, lo: u32, hi: u32, p: usize) -> Cursor
 {
     let n = v.n;
     let right = v.right & (lo as u64 <= n) & (n <= hi as u64);
-    refuse_if(c, !right, 9, p)
+    refuse_if(c, !right, BAD_NUMBER, p)
 }
 
 // A number from lo to hi is due.
@@ -638,6 +655,12 @@ pub fn number_in(text: &[u8], c: Cursor, lo: u32, hi: u32) -> Numbered
     Numbered { cursor, n: v.n }
 }
 
+// The largest time, in ps.
+const TIME_MOST: u32 = 1_000_000_000;
+
+// A cycle's start, where times are counted from the earliest that there may be.
+pub const START: u64 = TIME_MOST as u64;
+
 // A time in quotes, from lo on, is due.
 pub fn quoted(text: &[u8], c: Cursor, lo: u32) -> Numbered
     ensures { λ r. ⌜ Goes (now (text .entry)) c (quotedDue lo) (r .cursor) (r .n) ⌝ }
@@ -645,7 +668,56 @@ pub fn quoted(text: &[u8], c: Cursor, lo: u32) -> Numbered
     let d = due(text, c, b"'");
     let e = word(text, d);
     let v = time(bytes_of(text, d.at, d.end));
-    let f = within(e, v, lo, 1_000_000_000, d.at);
+    let f = within(e, v, lo, TIME_MOST, d.at);
     let cursor = due(text, f, b"'");
     Numbered { cursor, n: v.n }
+}
+
+// ---- times with a sign, counted from the earliest that there may be
+
+// A time behind the cycle's start, or before it (`minus`).
+fn counted(n: u64, minus: bool) -> u64
+    ensures { λ r. ⌜ (n ≤ timeMost → r ≡ countedOf (signOf minus n)) ⌝ }
+{
+    if START < n {
+        return START;
+    }
+    if minus {
+        return START - n;
+    }
+    START + n
+}
+
+// The word of a time is due, behind its sign.
+fn time_of(text: &[u8], c: Cursor, minus: bool) -> Numbered
+    ensures { λ r. ⌜ Counts (now (text .entry)) c (timeOf (signOf minus)) (r .cursor) (r .n) ⌝ }
+{
+    let d = word(text, c);
+    let v = time(bytes_of(text, c.at, c.end));
+    let cursor = within(d, v, 0, TIME_MOST, c.at);
+    let n = counted(v.n, minus);
+    Numbered { cursor, n }
+}
+
+// The same, with a `-` before it or without.
+fn signed(text: &[u8], c: Cursor) -> Numbered
+    ensures { λ r. ⌜ Counts (now (text .entry)) c signedDue (r .cursor) (r .n) ⌝ }
+{
+    if is(text, c, b"-") {
+        let d = due(text, c, b"-");
+        let t = time_of(text, d, true);
+        return t;
+    }
+    let t = time_of(text, c, false);
+    return t;
+}
+
+// An event's time in quotes is due.
+pub fn signed_quoted(text: &[u8], c: Cursor) -> Numbered
+    ensures { λ r. ⌜ Goes (now (text .entry)) c signedQuoted (r .cursor) (r .n) ⌝ }
+{
+    let d = due(text, c, b"'");
+    let t = signed(text, d);
+    let cursor = due(text, t.cursor, b"'");
+    Numbered { cursor, n: t.n }
 }

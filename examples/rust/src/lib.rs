@@ -29,10 +29,10 @@ pub struct Window {
     pub visits: u64,
 }
 
-/// An event of a waveform; its time is in ps.
+/// An event of a waveform; its time is in ps, negative before the cycle's start.
 #[derive(Clone, Copy, Debug, PartialEq, Eq)]
 pub struct Event {
-    pub time: u64,
+    pub time: i64,
     pub letter: u8,
 }
 

@@ -27,7 +27,7 @@ extern "C" {
         table: u64,
         signal: u64,
         character: u8,
-        times: *mut u64,
+        times: *mut i64,
         times_room: usize,
         letters: *mut u8,
         letters_room: usize,

@@ -1,9 +1,9 @@
-//! Writes generated texts: `generate SEED`, `generate nested SEED`, `generate hurt SEED`, `generate flat SEED`, `generate crossing SEED`, `generate hexed SEED`, `generate marked SEED` and `generate report SEED` for it, `generate DIR FIRST COUNT`, `generate big KIND`, `generate big KIND BYTES SIGNALS`,
-//! `generate run KIND SIGNALS`, `generate contrived KIND SIGNALS`.
+//! Writes generated texts: `generate SEED`, `generate KIND SEED` for one of `SEEDED`, `generate report SEED` for the text of `generate marked SEED`,
+//! `generate DIR FIRST COUNT`, `generate big KIND`, `generate big KIND BYTES SIGNALS`, `generate run KIND SIGNALS`, `generate contrived KIND SIGNALS`.
 
 use second::generate::random::Random;
 use second::generate::{
-    contrived, crossing, flat, hexed, hurt, large, marked, nested, report, run, sized, text, CONTRIVED_KINDS,
+    contrived, crossing, early, flat, hexed, hurt, large, marked, nested, report, run, sized, text, CONTRIVED_KINDS,
     LARGE_KINDS, RUN_KINDS, SIZED_KINDS,
 };
 use second::Document;
@@ -23,9 +23,22 @@ fn main() -> ExitCode {
     }
 }
 
+/// A text of a seed, of each kind that has seeds.
+type Seeded = fn(u64) -> Vec<u8>;
+
+const SEEDED: [(&str, Seeded); 7] = [
+    ("nested", nested),
+    ("hurt", hurt),
+    ("flat", flat),
+    ("crossing", crossing),
+    ("early", early),
+    ("hexed", hexed),
+    ("marked", marked),
+];
+
 const USAGE: &str =
-    "generate SEED | generate nested SEED | generate hurt SEED | generate flat SEED | generate crossing SEED | generate hexed SEED | generate marked SEED | generate report SEED | generate DIR FIRST COUNT | generate big KIND
-generate big KIND BYTES SIGNALS | generate run KIND SIGNALS | generate contrived KIND SIGNALS";
+    "generate SEED | generate nested|hurt|flat|crossing|early|hexed|marked|report SEED | generate DIR FIRST COUNT
+generate big KIND | generate big KIND BYTES SIGNALS | generate run KIND SIGNALS | generate contrived KIND SIGNALS";
 
 fn answer(words: &[&str]) -> Result<(), String> {
     match *words {
@@ -44,10 +57,6 @@ fn answer(words: &[&str]) -> Result<(), String> {
             let made = run(kind, number(signals)? as usize);
             write_out(&made.ok_or_else(|| format!("no such kind: {kind}; there are {}", RUN_KINDS.join(" ")))?)
         }
-        ["crossing", seed] => write_out(&crossing(number(seed)?)),
-        ["hexed", seed] => write_out(&hexed(number(seed)?)),
-        ["flat", seed] => write_out(&flat(number(seed)?)),
-        ["hurt", seed] => write_out(&hurt(number(seed)?)),
         ["contrived", kind, signals] => {
             let made = contrived(kind, number(signals)? as usize);
             write_out(&made.ok_or_else(|| {
@@ -57,11 +66,13 @@ fn answer(words: &[&str]) -> Result<(), String> {
                 )
             })?)
         }
-        ["nested", seed] => write_out(&nested(number(seed)?)),
-        ["marked", seed] => write_out(&marked(number(seed)?)),
         ["report", seed] => {
             let text = marked(number(seed)?);
             write_out(&report(Document::read(&text).ok().as_ref(), &mut Random::new(number(seed)?)))
+        }
+        [kind, seed] => {
+            let (_, seeded) = SEEDED.iter().find(|(name, _)| *name == kind).ok_or(USAGE)?;
+            write_out(&seeded(number(seed)?))
         }
         [seed] => write_out(&text(number(seed)?)),
         [dir, first, count] => write_files(Path::new(dir), number(first)?, number(count)?),

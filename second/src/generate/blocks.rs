@@ -1,7 +1,27 @@
 //! All blocks but the statements in them.
 
-use super::plan::Slip;
+use super::plan::{Slip, EARLIEST};
 use super::{Group, Writer};
+
+/// Event times with a sign that is none, too many, or at a number that is refused.
+const WRONG_SIGNS: [&str; 16] = [
+    "- - 5ns",
+    "+ 5ns",
+    "+ 0ps",
+    "- + 5ns",
+    "+ - 5ns",
+    "5ns -",
+    "- 5ns -",
+    "5ns - 3ns",
+    "-",
+    "- 5",
+    "- 5 ns",
+    "- ns",
+    "- 1.5ns",
+    "- 1000000001ps",
+    "- 1000001ns",
+    "- 99999999999999999999999ns",
+];
 
 impl Writer {
     pub(super) fn blocks(&mut self) {
@@ -109,7 +129,9 @@ impl Writer {
             self.out.word(name.clone());
             self.out.put("{ Period");
             let period = self.plan.period.take().unwrap_or(1000 * self.random.between(1, 400) as u64);
-            self.time(period);
+            // A period has no sign.
+            let sign = if self.plan.early && self.random.percent(2) { "-" } else { "" };
+            self.time(sign, period);
             self.out.put("; Waveforms {");
             self.waveforms();
             self.out.put("} }");
@@ -118,10 +140,20 @@ impl Writer {
         self.out.put("}");
     }
 
-    fn time(&mut self, ps: u64) {
+    fn time(&mut self, sign: &str, ps: u64) {
         let whole = ps % 1000 == 0 && self.random.percent(80);
         let digits = self.digits(if whole { ps / 1000 } else { ps });
-        self.out.time(format!("{digits}{}", if whole { "ns" } else { "ps" }));
+        self.out.time(sign, format!("{digits}{}", if whole { "ns" } else { "ps" }));
+    }
+
+    fn event_time(&mut self, ps: i64) {
+        if self.slips(Slip::Sign) {
+            let wrong = self.random.pick(&WRONG_SIGNS);
+            return self.out.put(&format!("' {wrong} '"));
+        }
+        // Zero has a sign or none.
+        let before = ps < 0 || (ps == 0 && self.plan.early && self.random.percent(40));
+        self.time(if before { "-" } else { "" }, ps.unsigned_abs());
     }
 
     /// Every signal gets its characters, alone or with a group.
@@ -189,15 +221,17 @@ impl Writer {
     }
 
     /// Drive and compare events each rise; only events of one category may share a time with the other.
-    fn event(&mut self, chars: usize, last: &mut [Option<u64>; 2]) {
+    fn event(&mut self, chars: usize, last: &mut [Option<i64>; 2]) {
         let category = self.random.below(2);
         let letters = [["D", "U", "Z", "P"], ["L", "H", "X", "l"]][category];
-        let step = 1 + 500 * self.random.below(40) as u64;
-        let rising = last[category].map_or(step - 1, |last| last + step);
-        let slips = last[category].is_some() && self.slips(Slip::TimeNotRising);
-        let time = if slips { last[category].unwrap_or(0) } else { self.plan.time.take().unwrap_or(rising) };
+        let step = 1 + 500 * self.random.below(40) as i64;
+        let rising = last[category].map_or_else(|| self.first_time(step), |last| last + step);
+        let time = match last[category] {
+            Some(last) if self.slips(Slip::TimeNotRising) => self.no_later(last, step),
+            _ => self.plan.time.take().unwrap_or(rising),
+        };
         last[category] = Some(time);
-        self.time(time);
+        self.event_time(time);
         let mut count = if self.random.percent(60) { 1 } else { chars };
         if self.slips(Slip::Alternatives) {
             count = chars + 1;
@@ -208,6 +242,21 @@ impl Writer {
             self.out.put(letter);
         }
         self.out.put(";");
+    }
+
+    fn first_time(&mut self, step: i64) -> i64 {
+        if !self.plan.early {
+            return step - 1;
+        }
+        [step - 1, 0, -1, -step, -step, -1000 * step, EARLIEST, EARLIEST + step][self.random.below(8)]
+    }
+
+    /// The same time, or one that is earlier though its amount is as large or larger.
+    fn no_later(&mut self, time: i64, step: i64) -> i64 {
+        if !self.plan.early {
+            return time;
+        }
+        [time, time - step, -time.abs()][self.random.below(3)]
     }
 
     fn run_blocks(&mut self) {

@@ -1,9 +1,8 @@
 //! Waveforms that reach across the cycle's edge, here and there into the next one's: made for refusal 25.
 
 use super::random::Random;
-use crate::requests::EDGES;
 
-/// The text of one seed; times before the cycle stand in it where they are read.
+/// The text of one seed.
 pub fn crossing(seed: u64) -> Vec<u8> {
     let mut crossing = Crossing { random: Random::new(seed), odd: 0 };
     crossing.odd = [0, 0, 10, 30][crossing.random.below(4)];
@@ -13,7 +12,7 @@ pub fn crossing(seed: u64) -> Vec<u8> {
         _ => crossing.mixed(),
     };
     let slip = crossing.random.below(100);
-    match SIGNS.get(slip).filter(|_| EDGES) {
+    match SIGNS.get(slip) {
         Some(sign) => text.replacen("'0ps'", sign, 1),
         None => text,
     }
@@ -162,9 +161,6 @@ PatternBurst b {{ PatList {{ {list}}} }} PatternExec {{ PatternBurst b; }} {patt
         let mut times = vec![odd[self.random.below(odd.len())]];
         for _ in 0..self.random.below(3) {
             times.push([0, period / 2, period - 1, period, -1, 3 * period][self.random.below(6)]);
-        }
-        if !EDGES {
-            times.iter_mut().for_each(|time| *time = time.abs());
         }
         times.sort_unstable();
         times.dedup();

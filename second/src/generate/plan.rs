@@ -30,8 +30,10 @@ pub enum Slip {
     LoopsTooLong,
     NoTable,
     NoWaveform,
+    Sign,
 }
 
+/// Those of any text: a slip in a sign stands only where times are before the cycle's start.
 pub const SLIPS: [Slip; 24] = [
     Slip::ReservedName,
     Slip::UnknownName,
@@ -59,6 +61,8 @@ pub const SLIPS: [Slip; 24] = [
     Slip::NoWaveform,
 ];
 
+pub const EARLIEST: i64 = -(MAX_TIME as i64);
+
 pub struct Plan {
     pub signals: usize,
     pub groups: usize,
@@ -75,10 +79,12 @@ pub struct Plan {
     pub argument: usize,
     pub turns: Option<u64>,
     pub period: Option<u64>,
-    pub time: Option<u64>,
+    pub time: Option<i64>,
     pub size: Option<u64>,
     pub cycles: Option<u64>,
     pub length: Option<usize>,
+    /// Event times may be before the cycle's start.
+    pub early: bool,
     pub slip: Option<Slip>,
     pub token_damage: usize,
     pub byte_damage: usize,
@@ -107,6 +113,7 @@ impl Plan {
             size: None,
             cycles: None,
             length: None,
+            early: false,
             slip: None,
             token_damage: 0,
             byte_damage: 0,
@@ -121,6 +128,20 @@ impl Plan {
             38..=75 => plan.slip = Some(SLIPS[random.below(SLIPS.len())]),
             76..=87 => plan.token_damage = random.between(1, 2),
             _ => plan.byte_damage = random.between(1, 2),
+        }
+        plan
+    }
+
+    /// Event times before the cycle's start: at the bound, past it, or with a slip in them.
+    pub fn early(random: &mut Random) -> Plan {
+        let mut plan = Plan { early: true, ..Plan::plain(random) };
+        match random.below(10) {
+            0..=3 => {}
+            4 => plan.time = Some(EARLIEST - random.below(2) as i64),
+            5 => plan.events = MAX_EVENTS + random.below(2),
+            6 | 7 => plan.slip = Some(Slip::Sign),
+            8 => plan.slip = Some(Slip::TimeNotRising),
+            _ => plan.token_damage = random.between(1, 2),
         }
         plan
     }
@@ -145,7 +166,7 @@ impl Plan {
             12 => (self.argument, self.bodies) = (MAX_ARGUMENT as usize + over, 2),
             13 => self.turns = Some(MAX_TURNS + over as u64),
             14 => self.period = Some([1, 0, MAX_PERIOD, MAX_PERIOD + 1][random.below(4)]),
-            15 => self.time = Some(MAX_TIME + over as u64),
+            15 => self.time = Some((MAX_TIME as usize + over) as i64),
             16 => self.size = Some(MAX_SIZE + over as u64),
             17 => self.cycles = Some(MAX_CYCLES + over as u64),
             _ => self.length = Some(MAX_TEXT + over),

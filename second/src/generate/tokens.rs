@@ -15,8 +15,9 @@ impl Tokens {
         self.0.push(word.into());
     }
 
-    pub fn time(&mut self, word: impl Into<String>) {
+    pub fn time(&mut self, sign: &str, word: impl Into<String>) {
         self.put("'");
+        self.put(sign);
         self.word(word);
         self.put("'");
     }

@@ -5,7 +5,7 @@ use mathlib.Core.Path.{_≡_}
 use mathlib.Core.Bool.{false}
 use borrow.Author.Needs.{needs}
 use borrow.Author.Tests.{eqb-true, not-true, not-false}
-use Rattle.words.proofs.Words.{neither}
+use Rattle.tokens.proofs.Bools.{neither}
 use Rattle.arguments.specs.Supplied.{blockSize, Idle}
 use Rattle.arguments.proofs.Blocks.{idle-none, idle-more, idle-less}
 use Rattle.arguments.proofs.idle.Statement.{statement}

@@ -7,8 +7,8 @@ use lib.ListN.{getD}
 use borrow.Author.Count.{below-more}
 use borrow.Author.Needs.{needs}
 use borrow.Author.Tests.{eqb-true, not-true, not-false}
+use Rattle.tokens.proofs.Bools.{neither}
 use Rattle.meaning.specs.Bounds.{signalsMost}
-use Rattle.words.proofs.Words.{neither}
 use Rattle.arguments.proofs.unshifted.Statement.{statement}
 use Rattle.arguments.proofs.unshifted.Tie as tie
 

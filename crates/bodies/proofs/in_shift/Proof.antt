@@ -1,10 +1,9 @@
 -- `in_shift` meets its contract: where nothing was refused, the signals with `#` are marked in the row, and what the V gives is noted.
-use mathlib.Core.Path.{sym, _∙_}
 use borrow.Author.Tests.{ne-eqb}
 use Rattle.tokens.specs.Written.{bytes}
+use Rattle.tokens.proofs.Bools.{true-false}
 use Rattle.assigns.proofs.Table.{gave-zeros}
 use Rattle.noted.proofs.Marking.{grows-none}
-use Rattle.bodies.proofs.Stating.{differ}
 use Rattle.bodies.proofs.Shifting.{in-shift}
 use borrow.Author.Needs.{needs}
 use Rattle.bodies.proofs.in_shift.Statement.{statement}
@@ -49,7 +48,7 @@ returns c =
     let has-mark′ = c .before .before .before .has-mark in
     let refuse-if′ = c .before .before .refuse-if in (
       in-shift (pre′ .0 .usable .tidy) (due′ .ensures) (assigns′ .ensures) (due2′ .ensures) (has-mark′ .ensures) (refuse-if′ .ensures)
-          (λ live. differ (sym live ∙ ne-eqb _ _ (c .if1 .taken))) (λ live. differ (sym live ∙ ne-eqb _ _ (c .if1 .taken))),
+          (λ live. true-false live (ne-eqb _ _ (c .if1 .taken))) (λ live. true-false live (ne-eqb _ _ (c .if1 .taken))),
       grows-none,
     )
 

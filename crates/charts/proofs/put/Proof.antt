@@ -1,12 +1,15 @@
--- `put` meets its contract. The invariant: the first i of both arrays stand at the front of both buffers.
+-- `put` meets its contract. The invariant: the first i of both arrays stand at the front of both buffers, the times as they are told.
 use Prim.Native.Nat.{_-_, _≤_}
 use native.Mathlib.Omega.{arith}
+use Rattle.charts.specs.Serving.{toldAll}
 use Rattle.charts.proofs.Fronts.{Fronted, fronted-none, fronted-more, fronted-length, fronted-all}
+use Rattle.charts.proofs.Telling.{told-more, told-all}
+use borrow.Author.Needs.{needs}
 use Rattle.charts.proofs.put.Statement.{statement}
 use Rattle.charts.proofs.put.Tie as tie
 
 abbrev Inv-loop : tie.InvT-loop
-Inv-loop ts ls n times₀ letters₀ i₀ times letters i = (i ≤ n) × Fronted ts times₀ i times × Fronted ls letters₀ i letters
+Inv-loop ts ls n times₀ letters₀ i₀ times letters i = (i ≤ n) × Fronted (toldAll ts) times₀ i times × Fronted ls letters₀ i letters
 
 abbrev μ-loop : tie.MeasureT-loop
 μ-loop ts ls n times₀ letters₀ i₀ times letters i = n - i
@@ -14,23 +17,26 @@ abbrev μ-loop : tie.MeasureT-loop
 loop-holds : tie.Need-loop-holds Inv-loop μ-loop
 loop-holds c = (omega arith, fronted-none, fronted-none)
 
+mul-told : tie.Need-mul-told Inv-loop μ-loop
+mul-told c = omega arith
+
+shared-slice-read-told : tie.Need-shared-slice-read-told Inv-loop μ-loop
+shared-slice-read-told c = omega arith
+
+told-requires : tie.Need-told-requires Inv-loop μ-loop
+told-requires c κs = search needs
+
 mul-times : tie.Need-mul-times Inv-loop μ-loop
 mul-times c = omega arith
 
-shared-slice-read-times : tie.Need-shared-slice-read-times Inv-loop μ-loop
-shared-slice-read-times c = omega arith
-
-mul-times-2 : tie.Need-mul-times-2 Inv-loop μ-loop
-mul-times-2 c = omega arith
-
 slice-write-times : tie.Need-slice-write-times Inv-loop μ-loop
-slice-write-times c = omega (arith, fronted-length (c .before .before .loop .inv .1))
+slice-write-times c = omega (arith, fronted-length (c .before .before .before .loop .inv .1))
 
 shared-slice-read-letters : tie.Need-shared-slice-read-letters Inv-loop μ-loop
 shared-slice-read-letters c = omega arith
 
 slice-write-letters : tie.Need-slice-write-letters Inv-loop μ-loop
-slice-write-letters c = omega (arith, fronted-length (c .before .before .before .loop .inv .2))
+slice-write-letters c = omega (arith, fronted-length (c .before .before .before .before .loop .inv .2))
 
 add-i : tie.Need-add-i Inv-loop μ-loop
 add-i c = omega arith
@@ -40,8 +46,9 @@ loop-less c = omega arith
 
 loop-again : tie.Need-loop-again Inv-loop μ-loop
 loop-again c =
-    let inv = c .before .before .before .loop .inv in
-    (omega arith, fronted-more (inv .1) (omega arith), fronted-more (inv .2) (omega arith))
+    let inv = c .before .before .before .before .loop .inv in
+    let ts = c .before .before .before .before .before .before .before .before .before .args .ts .now in
+    (omega arith, told-more ts (inv .1) (omega arith) (c .before .told .ensures), fronted-more (inv .2) (omega arith))
 
 same-length : tie.Need-same-length Inv-loop μ-loop
 same-length c = fronted-length (c .before .loop .inv .1)
@@ -52,8 +59,9 @@ same-length-2 c = fronted-length (c .before .loop .inv .2)
 returns : tie.Need-returns Inv-loop μ-loop
 returns c =
     let inv = c .before .loop .inv in
-    let n = c .before .before .args .n in
-    (fronted-all (inv .1) n (omega arith) (omega arith) (omega arith), fronted-all (inv .2) n (omega arith) (omega arith) (omega arith))
+    let n = c .before .before .before .before .before .before .args .n in
+    let ts = c .before .before .before .before .before .before .args .ts .now in
+    (told-all ts (inv .1) n (omega arith) (omega arith) (omega arith), fronted-all (inv .2) n (omega arith) (omega arith) (omega arith))
 
 pub put-spec : {M : Type 1} → statement M
 put-spec =
@@ -62,9 +70,10 @@ put-spec =
     Inv-loop
     μ-loop
     loop-holds
+    mul-told
+    shared-slice-read-told
+    told-requires
     mul-times
-    shared-slice-read-times
-    mul-times-2
     slice-write-times
     shared-slice-read-letters
     slice-write-letters

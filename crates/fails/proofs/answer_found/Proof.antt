@@ -1,9 +1,10 @@
--- `answer_found` meets its contract: 17; the report's own faults; 24 for a pattern that isn't listed once; or what is answered to its records.
+-- `answer_found` meets its contract: 17 or 25; the report's own faults; 24 for a pattern that isn't listed once; or what is answered to its records.
 use mathlib.Core.Path.{subst}
 use Rattle.reports.specs.Read.{Decides}
 use Rattle.words.specs.Table.{names}
-use Rattle.fails.proofs.Reporting.{lists-are, often-at, fails-failing, fails-faulty, fails-unlisted, listed-pattern, fails-listed}
+use Rattle.fails.proofs.Reporting.{often-at, fails-failing, fails-faulty, fails-unlisted, listed-pattern, fails-listed}
 use borrow.Author.Needs.{needs}
+use Rattle.index.proofs.Lists.{lists-are}
 use Rattle.fails.proofs.answer_found.Statement.{statement}
 use Rattle.fails.proofs.answer_found.Tie as tie
 
@@ -11,7 +12,7 @@ failing-requires : tie.Need-failing-requires
 failing-requires c κs = c .before .before .before .before .before .before .before .before .before .before .before .before .before .before .pre
 
 returns : tie.Need-returns
-returns c = fails-failing (c .before .before .before .before .before .before .before .before .before .before .before .before .before .before .before .before .pre .found) (c .before .failing .ensures) _ _ _ _ _ (c .if1 .taken)
+returns c = fails-failing (c .before .before .before .before .before .before .before .before .before .before .before .before .before .before .before .before .before .pre .found) (c .before .before .failing .ensures) _ _ _ _ _ (c .if1 .taken)
 
 reported-requires : tie.Need-reported-requires
 reported-requires c κs = search needs
@@ -26,10 +27,10 @@ bytes-of-requires : tie.Need-bytes-of-requires
 bytes-of-requires c κs = search needs
 
 times-listed-requires : tie.Need-times-listed-requires
-times-listed-requires c κs = record { decls = _; run = _; lists = lists-are (c .before .before .before .before .before .before .before .before .before .before .before .before .before .before .before .before .before .before .before .before .before .pre .found) }
+times-listed-requires c κs = record { decls = _; run = _; lists = lists-are (c .before .before .before .before .before .before .before .before .before .before .before .before .before .before .before .before .before .before .before .before .before .before .pre .found) }
 
 returns-2 : tie.Need-returns-2
-returns-2 c = fails-unlisted (c .before .before .before .before .before .before .before .before .before .before .before .before .before .before .before .before .before .before .before .before .before .before .before .before .pre .found) (c .before .before .before .before .before .before .before .before .before .failing .ensures) _ _ _ _ _ (c .before .before .before .before .before .before .before .before .if1 .left) (subst (Decides _ _) (c .before .before .before .before .before .at .given .1) (c .before .before .before .before .before .before .before .reported .ensures)) (often-at _ (c .before .before .before .bytes-of .ensures) (c .before .before .times-listed .ensures _ _ (lists-are (c .before .before .before .before .before .before .before .before .before .before .before .before .before .before .before .before .before .before .before .before .before .before .before .before .pre .found)))) (c .if2 .taken)
+returns-2 c = fails-unlisted (c .before .before .before .before .before .before .before .before .before .before .before .before .before .before .before .before .before .before .before .before .before .before .before .before .before .pre .found) (c .before .before .before .before .before .before .before .before .before .before .failing .ensures) _ _ _ _ _ (c .before .before .before .before .before .before .before .before .if1 .left) (subst (Decides _ _) (c .before .before .before .before .before .at .given .1) (c .before .before .before .before .before .before .before .reported .ensures)) (often-at _ (c .before .before .before .bytes-of .ensures) (c .before .before .times-listed .ensures _ _ (lists-are (c .before .before .before .before .before .before .before .before .before .before .before .before .before .before .before .before .before .before .before .before .before .before .before .before .before .pre .found)))) (c .if2 .taken)
 
 answer-requires : tie.Need-answer-requires
 answer-requires c κs =
@@ -37,11 +38,11 @@ answer-requires c κs =
       env = _;
       decls = _;
       decl = _;
-      pattern = listed-pattern (c .before .before .before .before .before .before .before .before .before .before .before .before .before .before .before .before .before .before .before .before .before .before .before .before .before .before .before .pre .found) (c .before .before .before .before .before .before .before .before .before .before .before .before .failing .ensures) (c .before .before .before .before .before .before .before .before .before .before .before .before .before .before .before .before .before .before .before .before .before .before .before .before .before .before .before .args .report .now) (c .before .before .before .before .before .before .before .before .before .before .before .before .before .before .before .before .before .before .before .before .before .before .before .before .before .before .before .args .spare) (c .before .before .before .before .before .before .before .before .before .before .before .before .before .before .before .before .before .before .before .before .before .before .before .before .before .before .before .args .cycles .now) (c .before .before .before .before .before .before .before .before .before .before .before .before .before .before .before .before .before .before .before .before .before .before .before .before .before .before .before .args .signals .now) (c .before .before .before .before .before .before .before .before .before .before .before .before .before .before .before .before .before .before .before .before .before .before .before .before .before .before .before .args .letters .now) (c .before .before .before .before .before .before .before .before .before .before .before .if1 .left) (subst (Decides _ _) (c .before .before .before .before .before .before .before .before .at .given .1) (c .before .before .before .before .before .before .before .before .before .before .reported .ensures)) (often-at _ (c .before .before .before .before .before .before .bytes-of .ensures) (c .before .before .before .before .before .times-listed .ensures _ _ (lists-are (c .before .before .before .before .before .before .before .before .before .before .before .before .before .before .before .before .before .before .before .before .before .before .before .before .before .before .before .pre .found)))) (c .before .before .before .if2 .left);
+      pattern = listed-pattern (c .before .before .before .before .before .before .before .before .before .before .before .before .before .before .before .before .before .before .before .before .before .before .before .before .before .before .before .before .pre .found) (c .before .before .before .before .before .before .before .before .before .before .before .before .before .failing .ensures) (c .before .before .before .before .before .before .before .before .before .before .before .before .before .before .before .before .before .before .before .before .before .before .before .before .before .before .before .before .args .report .now) (c .before .before .before .before .before .before .before .before .before .before .before .before .before .before .before .before .before .before .before .before .before .before .before .before .before .before .before .before .args .spare) (c .before .before .before .before .before .before .before .before .before .before .before .before .before .before .before .before .before .before .before .before .before .before .before .before .before .before .before .before .args .cycles .now) (c .before .before .before .before .before .before .before .before .before .before .before .before .before .before .before .before .before .before .before .before .before .before .before .before .before .before .before .before .args .signals .now) (c .before .before .before .before .before .before .before .before .before .before .before .before .before .before .before .before .before .before .before .before .before .before .before .before .before .before .before .before .args .letters .now) (c .before .before .before .before .before .before .before .before .before .before .before .if1 .left) (subst (Decides _ _) (c .before .before .before .before .before .before .before .before .at .given .1) (c .before .before .before .before .before .before .before .before .before .before .reported .ensures)) (often-at _ (c .before .before .before .before .before .before .bytes-of .ensures) (c .before .before .before .before .before .times-listed .ensures _ _ (lists-are (c .before .before .before .before .before .before .before .before .before .before .before .before .before .before .before .before .before .before .before .before .before .before .before .before .before .before .before .before .pre .found)))) (c .before .before .before .if2 .left);
     }
 
 returns-3 : tie.Need-returns-3
-returns-3 c = fails-faulty (c .before .before .before .before .before .before .before .before .before .before .before .before .before .before .before .before .before .before .before .before .pre .found) (c .before .before .before .before .before .failing .ensures) _ _ _ _ _ (c .before .before .before .before .if1 .left) (subst (Decides _ _) (c .before .n .given .1) (c .before .before .before .reported .ensures))
+returns-3 c = fails-faulty (c .before .before .before .before .before .before .before .before .before .before .before .before .before .before .before .before .before .before .before .before .before .pre .found) (c .before .before .before .before .before .before .failing .ensures) _ _ _ _ _ (c .before .before .before .before .if1 .left) (subst (Decides _ _) (c .before .n .given .1) (c .before .before .before .reported .ensures))
 
 same-length : tie.Need-same-length
 same-length c = search needs
@@ -53,7 +54,7 @@ same-length-3 : tie.Need-same-length-3
 same-length-3 c = search needs
 
 returns-4 : tie.Need-returns-4
-returns-4 c = fails-listed (c .before .before .before .before .before .before .before .before .before .before .before .before .before .before .before .before .before .before .before .before .before .before .before .before .before .before .before .before .before .before .before .before .before .before .pre .found) (c .before .before .before .before .before .before .before .before .before .before .before .before .before .before .before .before .before .before .before .failing .ensures) _ _ _ _ _ (c .before .before .before .before .before .before .before .before .before .before .before .before .before .before .before .before .before .before .if1 .left) (subst (Decides _ _) (c .before .before .before .before .before .before .before .before .before .before .before .before .before .before .before .at .given .1) (c .before .before .before .before .before .before .before .before .before .before .before .before .before .before .before .before .before .reported .ensures)) (often-at _ (c .before .before .before .before .before .before .before .before .before .before .before .before .before .bytes-of .ensures) (c .before .before .before .before .before .before .before .before .before .before .before .before .times-listed .ensures _ _ (lists-are (c .before .before .before .before .before .before .before .before .before .before .before .before .before .before .before .before .before .before .before .before .before .before .before .before .before .before .before .before .before .before .before .before .before .before .pre .found)))) (c .before .before .before .before .before .before .before .before .before .before .if2 .left) (c .before .before .before .before .before .before .answer .ensures)
+returns-4 c = fails-listed (c .before .before .before .before .before .before .before .before .before .before .before .before .before .before .before .before .before .before .before .before .before .before .before .before .before .before .before .before .before .before .before .before .before .before .before .pre .found) (c .before .before .before .before .before .before .before .before .before .before .before .before .before .before .before .before .before .before .before .before .failing .ensures) _ _ _ _ _ (c .before .before .before .before .before .before .before .before .before .before .before .before .before .before .before .before .before .before .if1 .left) (subst (Decides _ _) (c .before .before .before .before .before .before .before .before .before .before .before .before .before .before .before .at .given .1) (c .before .before .before .before .before .before .before .before .before .before .before .before .before .before .before .before .before .reported .ensures)) (often-at _ (c .before .before .before .before .before .before .before .before .before .before .before .before .before .bytes-of .ensures) (c .before .before .before .before .before .before .before .before .before .before .before .before .times-listed .ensures _ _ (lists-are (c .before .before .before .before .before .before .before .before .before .before .before .before .before .before .before .before .before .before .before .before .before .before .before .before .before .before .before .before .before .before .before .before .before .before .before .pre .found)))) (c .before .before .before .before .before .before .before .before .before .before .if2 .left) (c .before .before .before .before .before .before .answer .ensures)
 
 pub answer-found-spec : {M : Type 1} → statement M
 answer-found-spec =

@@ -2,9 +2,9 @@
 use native.Mathlib.Omega.{arith}
 use lib.Dec.{leb}
 use borrow.Author.Tests.{leb-true}
-use Rattle.words.proofs.Loops.{both}
 use Rattle.fails.proofs.Judging.{none-left}
 use borrow.Author.Needs.{needs}
+use Rattle.tokens.proofs.Bools.{both}
 use Rattle.fails.proofs.left_behind.Statement.{statement}
 use Rattle.fails.proofs.left_behind.Tie as tie
 use Rattle.fails.proofs.left_behind.Reads as reads

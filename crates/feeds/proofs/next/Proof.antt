@@ -1,6 +1,7 @@
 -- The first byte of the word; without one there is no character.
-use Rattle.feeds.proofs.Passing.{both-below, takes-one, takes-none}
+use Rattle.feeds.proofs.Passing.{takes-one, takes-none}
 use borrow.Author.Needs.{needs}
+use Rattle.tokens.proofs.Bools.{both-below}
 use Rattle.feeds.proofs.next.Statement.{statement}
 use Rattle.feeds.proofs.next.Tie as tie
 

@@ -2,10 +2,10 @@
 use Prim.Native.Nat.{_*_}
 use native.Mathlib.Omega.{arith}
 use mathlib.Core.Path.{sym, _∙_}
+use mathlib.Core.Bool.{true≢false}
 use Rattle.tokens.specs.Written.{bytes}
 use Rattle.words.proofs.Words.{rest}
 use Rattle.measures.specs.Book.{firstPattern}
-use Rattle.arguments.proofs.Lists.{differ}
 use Rattle.grants.proofs.Chosen.{listed-first}
 use borrow.Author.Needs.{needs}
 use Rattle.grants.proofs.chooses.Statement.{statement}
@@ -33,7 +33,7 @@ find-requires : tie.Need-find-requires
 find-requires c κs = search needs
 
 returns : tie.Need-returns
-returns c = λ e. absurd (differ (sym e))
+returns c = λ e. absurd (true≢false (sym e))
 
 add-start-at : tie.Need-add-start-at
 add-start-at c = search needs

@@ -2,9 +2,9 @@
 use Prim.Native.Nat.{_*_}
 use native.Mathlib.Omega.{arith}
 use mathlib.Core.Path.{sym, _∙_}
+use mathlib.Core.Bool.{true≢false}
 use Rattle.words.proofs.Words.{rest}
 use Rattle.measures.specs.Book.{firstPattern}
-use Rattle.arguments.proofs.Lists.{differ}
 use Rattle.plays.proofs.Running.{found-at}
 use Rattle.grants.proofs.Bodies.{stands-on}
 use Rattle.grants.proofs.Listing.{pattern-sized, pattern-standing, pattern-summed, pattern-cleared}
@@ -90,7 +90,7 @@ returns c =
           let x = found-at n (find′ .result) (rest (args′ .book .now) (firstPattern * 2)) name (find′ .ensures) in
           let at = begins (omega (arith, x .0, n .few)) in
           pattern-summed n (o .0) (o .1) (p .gone E (d .body) (n .stands .0) (pattern-standing n (find′ .result) (x .2) there at)) u);
-      cleared = λ e. absurd (differ (sym e));
+      cleared = λ e. absurd (true≢false (sym e));
     }
 
 grants-requires : tie.Need-grants-requires

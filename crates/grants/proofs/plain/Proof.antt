@@ -2,10 +2,10 @@
 use Prim.Native.Nat.{ℕ, _-_, _<_}
 use native.Mathlib.Omega.{arith}
 use mathlib.Core.Path.{sym}
+use mathlib.Core.Bool.{true≢false}
 use borrow.Author.Count.{below-more}
 use borrow.Author.Needs.{needs}
 use borrow.Author.Tests.{not-false}
-use Rattle.arguments.proofs.Lists.{differ}
 use Rattle.grants.specs.Grants.{ListedFirst}
 use Rattle.grants.proofs.Chosen.{plain-sound}
 use Rattle.grants.proofs.plain.Statement.{statement}
@@ -21,7 +21,7 @@ fine-requires : tie.Need-fine-requires Inv-loop μ-loop
 fine-requires c κs = search needs
 
 returns : tie.Need-returns Inv-loop μ-loop
-returns c = λ e. absurd (differ (sym e))
+returns c = λ e. absurd (true≢false (sym e))
 
 loop-holds : tie.Need-loop-holds Inv-loop μ-loop
 loop-holds c = λ j h. absurd (omega arith)
@@ -30,7 +30,7 @@ chooses-requires : tie.Need-chooses-requires Inv-loop μ-loop
 chooses-requires c κs = search needs
 
 returns-2 : tie.Need-returns-2 Inv-loop μ-loop
-returns-2 c = λ e. absurd (differ (sym e))
+returns-2 c = λ e. absurd (true≢false (sym e))
 
 add-k : tie.Need-add-k Inv-loop μ-loop
 add-k c = search needs

@@ -5,10 +5,10 @@ use lib.ListN.{length-replicate}
 use Rattle.meaning.specs.Bounds.{signalsMost}
 use Rattle.meaning.specs.Body.{argOf}
 use Rattle.tallies.proofs.Stored.{only-then}
-use Rattle.tallies.proofs.Grown.{carried}
 use Rattle.grants.proofs.Same.{other-sum}
 use Rattle.grants.proofs.Entering.{no-arguments, looped-once, looped-twice}
 use borrow.Author.Needs.{needs}
+use Rattle.tokens.proofs.Bools.{contra}
 use Rattle.grants.proofs.turns.Statement.{statement}
 use Rattle.grants.proofs.turns.Tie as tie
 
@@ -56,7 +56,7 @@ returns-2 c =
     let two = c .before .before .in-place2 in (
       only-then (one .ensures .0) (two .ensures .0),
       λ tabs m e.
-          looped-twice (other-sum (one .ensures .0) _ (p .2)) (omega (arith, c .before .before .before .before .before .before .if1 .left)) (one .ensures .2 _ (no-arguments _) tabs m (carried _ _ (two .ensures .1) e))
+          looped-twice (other-sum (one .ensures .0) _ (p .2)) (omega (arith, c .before .before .before .before .before .before .if1 .left)) (one .ensures .2 _ (no-arguments _) tabs m (contra _ _ (two .ensures .1) e))
           (two .ensures .2 _ (no-arguments _) tabs m e),
     )
 

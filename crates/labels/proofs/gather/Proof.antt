@@ -3,7 +3,8 @@ use native.Mathlib.Omega.{arith}
 use borrow.Author.Needs.{needs}
 use Rattle.tokens.specs.Tokens.{left}
 use Rattle.words.specs.Cursor.{stream}
-use Rattle.labels.proofs.Scanning.{fewer, Scans, scans-start, scans-room, scans-within, scans-on, gathers-again, gathers-end}
+use Rattle.words.proofs.Flow.{fewer}
+use Rattle.labels.proofs.Scanning.{Scans, scans-start, scans-room, scans-within, scans-on, gathers-again, gathers-end}
 use Rattle.labels.proofs.gather.Statement.{statement}
 use Rattle.labels.proofs.gather.Tie as tie
 

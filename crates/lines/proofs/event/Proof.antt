@@ -6,11 +6,8 @@ use borrow.Author.Needs.{needs}
 use Rattle.lines.proofs.event.Statement.{statement}
 use Rattle.lines.proofs.event.Tie as tie
 
-slice-aggregate-with-number : tie.Need-slice-aggregate-with-number
-slice-aggregate-with-number c = search needs
-
-with-number-requires : tie.Need-with-number-requires
-with-number-requires c κs = search needs
+signed-requires : tie.Need-signed-requires
+signed-requires c κs = search needs
 
 slice-aggregate-put : tie.Need-slice-aggregate-put
 slice-aggregate-put c = search needs
@@ -22,18 +19,13 @@ same-length : tie.Need-same-length
 same-length c = search needs
 
 returns : tie.Need-returns
-returns c =
-    let a = c .before .before .before .before .before .before .before .before .before .before .before .args in
-    adds-whole
-    (adds-both (c .before .before .before .before .before .before .before .with-number .ensures) (word-adds (c .before .before .put .ensures)))
-    (event-is (a .time) (a .letter)) (omega arith)
+returns c = adds-whole (adds-both (c .before .before .before .before .before .before .before .signed .ensures) (word-adds (c .before .before .put .ensures))) (event-is _ _) (omega arith)
 
 pub event-spec : {M : Type 1} → statement M
 event-spec =
     tie.close
     (tie.spec
-    slice-aggregate-with-number
-    with-number-requires
+    signed-requires
     slice-aggregate-put
     put-requires
     same-length

@@ -1,8 +1,8 @@
 -- The row stands behind what is tracked.
 use Prim.Native.Nat.{ℕ, _+_, _*_}
 use native.Mathlib.Omega.{arith}
+use native.Mathlib.Nat.{pos-of-ne-zero}
 use Rattle.memos.proofs.Rows.{writes-none}
-use Rattle.memos.proofs.Marking.{positive}
 use borrow.Author.Needs.{needs}
 use Rattle.memos.proofs.again.Statement.{statement}
 use Rattle.memos.proofs.again.Tie as tie
@@ -22,7 +22,7 @@ add-merge-2 c =
 
 merge-requires : tie.Need-merge-requires
 merge-requires c κs =
-    (positive (c .before .before .before .args .level) (c .before .if1 .left), c .before .before .before .pre .0, c .before .before .before .pre .1, omega (arith, c .before .before .before .pre), omega (arith, c .before .before .before .pre))
+    (pos-of-ne-zero (c .before .if1 .left), c .before .before .before .pre .0, c .before .before .before .pre .1, omega (arith, c .before .before .before .pre), omega (arith, c .before .before .before .pre))
 
 same-length : tie.Need-same-length
 same-length c = search needs

@@ -3,12 +3,12 @@ use native.Mathlib.Omega.{arith}
 use mathlib.Core.Path.{sym, _∙_}
 use Rattle.memos.proofs.Rows.{finds-none}
 use borrow.Author.Tests.{not-false, eqb-true}
-use Rattle.words.proofs.Words.{neither}
 use borrow.Author.Tests.{ltb-false, leb-false}
 use lib.ListN.{length}
 use lib.Dec.{leb, ltb}
 use Rattle.memos.specs.Tracks.{tracksLength}
 use borrow.Author.Needs.{needs}
+use Rattle.tokens.proofs.Bools.{neither}
 use Rattle.memos.proofs.find.Statement.{statement}
 use Rattle.memos.proofs.find.Tie as tie
 use Rattle.memos.proofs.is_noted.Reads as is-noted-reads

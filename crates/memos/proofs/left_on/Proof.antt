@@ -3,8 +3,8 @@ use native.Mathlib.Omega.{arith}
 use Prim.Native.Nat.{ℕ}
 use mathlib.Core.Path.{_≡_, sym, refl, _∙_}
 use mathlib.Core.Bool.{true, false}
-use Rattle.memos.proofs.Marking.{true-false}
 use borrow.Author.Needs.{needs}
+use Rattle.tokens.proofs.Bools.{true-false}
 use Rattle.memos.proofs.left_on.Statement.{statement}
 use Rattle.memos.proofs.left_on.Tie as tie
 use Rattle.memos.proofs.is_marked.Reads as is-marked-reads

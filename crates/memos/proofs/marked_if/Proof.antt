@@ -1,8 +1,8 @@
 -- One test.
 use native.Mathlib.Omega.{arith}
 use mathlib.Core.Path.{refl}
-use Rattle.memos.proofs.Marking.{true-false}
 use borrow.Author.Needs.{needs}
+use Rattle.tokens.proofs.Bools.{true-false}
 use Rattle.memos.proofs.marked_if.Statement.{statement}
 use Rattle.memos.proofs.marked_if.Tie as tie
 use Rattle.memos.proofs.with_mark.Reads as with-mark-reads

@@ -1,9 +1,10 @@
 -- Place and table, modulo the number of rows.
 use Prim.Native.Nat.{_+_, _*_, _%_, _-_}
 use native.Mathlib.Omega.{arith}
+use native.Mathlib.Nat.{pos-of-ne-zero}
 use mathlib.Core.Path.{refl}
 use Rattle.memos.specs.Tracks.{tracksLength}
-use Rattle.memos.proofs.Rows.{some, row-within}
+use Rattle.memos.proofs.Rows.{row-within}
 use borrow.Author.Needs.{needs}
 use Rattle.memos.proofs.memo_row.Statement.{statement}
 use Rattle.memos.proofs.memo_row.Tie as tie
@@ -26,15 +27,15 @@ rem-result c = search needs
 
 mul-result : tie.Need-mul-result
 mul-result c =
-    omega (arith, row-within (c .before .args .long - tracksLength) (c .before .args .at % 65_536 * 9 + c .before .args .table % 9) (some _ (c .if1 .left)))
+    omega (arith, row-within (c .before .args .long - tracksLength) (c .before .args .at % 65_536 * 9 + c .before .args .table % 9) (pos-of-ne-zero (c .if1 .left)))
 
 add-result : tie.Need-add-result
 add-result c =
-    omega (arith, row-within (c .before .args .long - tracksLength) (c .before .args .at % 65_536 * 9 + c .before .args .table % 9) (some _ (c .if1 .left)))
+    omega (arith, row-within (c .before .args .long - tracksLength) (c .before .args .at % 65_536 * 9 + c .before .args .table % 9) (pos-of-ne-zero (c .if1 .left)))
 
 returns-2 : tie.Need-returns-2
 returns-2 c =
-    (_, refl, omega (arith, row-within (c .before .args .long - tracksLength) (c .before .args .at % 65_536 * 9 + c .before .args .table % 9) (some _ (c .if1 .left)), c .before .pre))
+    (_, refl, omega (arith, row-within (c .before .args .long - tracksLength) (c .before .args .at % 65_536 * 9 + c .before .args .table % 9) (pos-of-ne-zero (c .if1 .left)), c .before .pre))
 
 pub memo-row-spec : {M : Type 1} → statement M
 memo-row-spec =

@@ -1,9 +1,10 @@
 -- The row of the next level stands behind.
 use Prim.Native.Nat.{ℕ, _+_, _*_}
 use native.Mathlib.Omega.{arith}
+use native.Mathlib.Nat.{pos-of-ne-zero}
 use lib.ListN.{length}
 use Rattle.memos.proofs.Rows.{writes-none}
-use Rattle.memos.proofs.Marking.{untracked, tracked-room, positive}
+use Rattle.memos.proofs.Marking.{untracked, tracked-room}
 use borrow.Author.Needs.{needs}
 use Rattle.memos.proofs.rise.Statement.{statement}
 use Rattle.memos.proofs.rise.Tie as tie
@@ -24,7 +25,7 @@ mul-merge c =
 merge-requires : tie.Need-merge-requires
 merge-requires c κs =
     let r = tracked-room (c .before .before .before .args .level) (length (c .before .before .before .args .memo .now)) (c .before .if1 .left) in
-    (positive (c .before .before .before .args .level) (r .0), omega (arith, c .before .before .before .pre .0), omega (arith, c .before .before .before .pre .1), omega arith, omega (arith, r .1, c .before .before .before .pre))
+    (pos-of-ne-zero (r .0), omega (arith, c .before .before .before .pre .0), omega (arith, c .before .before .before .pre .1), omega arith, omega (arith, r .1, c .before .before .before .pre))
 
 same-length : tie.Need-same-length
 same-length c = search needs

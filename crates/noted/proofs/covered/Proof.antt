@@ -5,8 +5,8 @@ use mathlib.Core.Path.{_≡_, refl}
 use mathlib.Core.Bool.{false}
 use borrow.Author.Needs.{needs}
 use borrow.Author.Tests.{not-true}
+use Rattle.tokens.proofs.Bools.{neither}
 use Rattle.timing.specs.Marks.{tableSize}
-use Rattle.words.proofs.Words.{neither}
 use Rattle.noted.specs.Noted.{Covered}
 use Rattle.noted.proofs.Covering.{covered-none, covered-more}
 use Rattle.noted.proofs.covered.Statement.{statement}

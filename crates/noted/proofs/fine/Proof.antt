@@ -2,11 +2,11 @@
 use Prim.Native.Nat.{ℕ, _-_, _<_}
 use native.Mathlib.Omega.{arith}
 use mathlib.Core.Path.{sym}
+use mathlib.Core.Bool.{true≢false}
 use borrow.Author.Count.{below-more}
 use borrow.Author.Needs.{needs}
 use borrow.Author.Tests.{not-false}
 use Rattle.timing.specs.Marks.{tableSize}
-use Rattle.arguments.proofs.Lists.{differ}
 use Rattle.noted.specs.Noted.{Covered}
 use Rattle.noted.proofs.Covering.{fine-all}
 use Rattle.noted.proofs.fine.Statement.{statement}
@@ -25,7 +25,7 @@ covered-requires : tie.Need-covered-requires Inv-loop μ-loop
 covered-requires c κs = search needs
 
 returns : tie.Need-returns Inv-loop μ-loop
-returns c = λ e. absurd (differ (sym e))
+returns c = λ e. absurd (true≢false (sym e))
 
 add-k : tie.Need-add-k Inv-loop μ-loop
 add-k c = search needs

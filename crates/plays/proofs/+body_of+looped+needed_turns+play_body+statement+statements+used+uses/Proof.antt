@@ -8,6 +8,7 @@ use mathlib.Core.List.{[]}
 use borrow.Author.Needs.{needs}
 use borrow.Author.Tests.{eq-eqb}
 use Rattle.tokens.specs.Tokens.{left}
+use Rattle.tokens.proofs.Bools.{true-false}
 use Rattle.meaning.specs.Run.{bare}
 use Rattle.turns.specs.Few.{playFew}
 use Rattle.words.specs.Cursor.{stream}
@@ -16,7 +17,6 @@ use Rattle.plays.specs.Plays.{ground, arrays, nestOf}
 use Rattle.plays.proofs.Fitting.{fits-some}
 use Rattle.plays.proofs.Following.{failing-plays, sound-plays}
 use Rattle.memos.proofs.Rows.{recalled-row}
-use Rattle.memos.proofs.Marking.{true-false}
 use Rattle.memos.proofs.Tracking.{tracking-same, tracking-then, tracking-joined, tracked-body}
 use Rattle.plays.proofs.Tracks.{pins-roomy, nest-fits, nest-less, nest-next, nest-some, nest-deep, invoked-next, as-long, few-below, roomy-values, macro-tracked, procedure-tracked}
 use Rattle.plays.proofs.Heading.{begins-within}
@@ -74,12 +74,8 @@ use Rattle.plays.proofs.repeated.Reads as repeated-reads
 use Rattle.plays.proofs.shift_on.Reads as shift-on-reads
 use Rattle.plays.proofs.use_at.Reads as use-at-reads
 use Rattle.words.proofs.cursor_at.Reads as cursor-at-reads
-use Rattle.plays.proofs.+body_of+looped+needed_turns+play_body+statement+statements+used+uses.{
-  statement,
-}
-use Rattle.plays.proofs.+body_of+looped+needed_turns+play_body+statement+statements+used+uses.Tie.{
-  close,
-}
+use Rattle.plays.proofs.+body_of+looped+needed_turns+play_body+statement+statements+used+uses.{statement}
+use Rattle.plays.proofs.+body_of+looped+needed_turns+play_body+statement+statements+used+uses.Tie.{close}
 
 abbrev μ-body-of : Measures 5 body-of-kinds.ps ℕ
 μ-body-of κs a = 8 * a .1 .1 .1 .1 .1 .1 .1 .1 .1 .1 .1 .1 .0 .depth + 6

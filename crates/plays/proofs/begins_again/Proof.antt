@@ -2,9 +2,9 @@
 use Prim.Native.Nat.{_*_}
 use native.Mathlib.Omega.{arith}
 use mathlib.Core.Path.{refl}
-use Rattle.memos.proofs.Marking.{true-false}
 use Rattle.plays.proofs.Marks.{asked-on}
 use borrow.Author.Needs.{needs}
+use Rattle.tokens.proofs.Bools.{true-false}
 use Rattle.plays.proofs.begins_again.Statement.{statement}
 use Rattle.plays.proofs.begins_again.Tie as tie
 use Rattle.memos.proofs.tracks.Reads as tracks-reads

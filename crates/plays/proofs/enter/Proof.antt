@@ -1,6 +1,6 @@
 -- Where nothing is remembered, the body is played.
 use borrow.Author.Needs.{needs}
-use Rattle.memos.proofs.Rows.{zeros}
+use Rattle.words.proofs.Words.{zeros}
 use Rattle.plays.proofs.Recalling.{heads-none, entered-all}
 use Rattle.plays.proofs.enter.Statement.{statement}
 use Rattle.plays.proofs.enter.Tie as tie

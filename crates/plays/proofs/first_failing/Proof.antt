@@ -4,9 +4,9 @@ use native.Mathlib.Omega.{arith}
 use mathlib.Core.Path.{_≡_, sym, _∙_}
 use lib.ListN.{length, length-replicate}
 use borrow.Author.Needs.{needs}
+use Rattle.words.proofs.Words.{zeros}
 use Rattle.memos.specs.Memo.{memoLength}
 use Rattle.plays.specs.Plays.{arrays}
-use Rattle.memos.proofs.Rows.{zeros}
 use Rattle.plays.proofs.Texts.{decides-failing, decides-sound, listed-any, run-fails, run-learnt, run-left, run-sound, Unplayed, unplayed}
 use Rattle.plays.proofs.first_failing.Statement.{statement}
 use Rattle.plays.proofs.first_failing.Tie as tie

@@ -2,8 +2,8 @@
 use native.Mathlib.Omega.{arith}
 use mathlib.Core.Path.{sym, _∙_}
 use borrow.Author.Tests.{not-true}
-use Rattle.memos.proofs.Marking.{true-false}
 use borrow.Author.Needs.{needs}
+use Rattle.tokens.proofs.Bools.{true-false}
 use Rattle.plays.proofs.mark_granted.Statement.{statement}
 use Rattle.plays.proofs.mark_granted.Tie as tie
 use Rattle.memos.proofs.is_marked.Reads as is-marked-reads

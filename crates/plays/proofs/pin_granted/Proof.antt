@@ -8,12 +8,13 @@ use mathlib.Core.Bool.{Bool, true, false, _||_}
 use mathlib.Core.List.{List}
 use lib.Dec.{ltb, eqb}
 use borrow.Author.Tests.{not-false, eq-eqb, ltb-true, ltb-false}
+use Rattle.tokens.proofs.Bools.{true-false}
 use Rattle.meaning.specs.Bounds.{tablesMost}
 use Rattle.meaning.specs.Timing.{Tables}
 use Rattle.meaning.specs.Run.{unassigned}
 use Rattle.meaning.specs.Meaning.{hasWave, tableAt}
 use Rattle.memos.specs.Tracks.{isMarked, marksMost, Granted}
-use Rattle.memos.proofs.Marking.{true-false, unmarked-behind, some-mark, marked-shifted}
+use Rattle.memos.proofs.Marking.{unmarked-behind, some-mark, marked-shifted}
 use Rattle.plays.proofs.Marks.{GrantedTo, granted-none, granted-next, granted-all}
 use Rattle.plays.proofs.pin_granted.Statement.{statement}
 use Rattle.plays.proofs.pin_granted.Tie as tie

@@ -4,10 +4,10 @@ use native.Mathlib.Omega.{arith}
 use mathlib.Core.Path.{refl}
 use lib.ListN.{getD}
 use borrow.Author.Tests.{not-false}
+use Rattle.tokens.proofs.Bools.{true-false}
 use Rattle.meaning.specs.Timing.{Tables}
 use Rattle.tallies.specs.Rows.{Marked}
 use Rattle.memos.specs.Tracks.{marksFrom, Granted}
-use Rattle.memos.proofs.Marking.{true-false}
 use Rattle.plays.proofs.Marks.{GrantedPins, pins-none, pins-next}
 use Rattle.plays.proofs.pins_granted.Statement.{statement}
 use Rattle.plays.proofs.pins_granted.Tie as tie

@@ -4,8 +4,8 @@ use native.Mathlib.Omega.{arith}
 use mathlib.Core.Path.{_≡_}
 use Rattle.memos.specs.Memo.{beforeAt}
 use borrow.Author.Tests.{not-false, not-true}
-use Rattle.memos.proofs.Marking.{true-false}
 use borrow.Author.Needs.{needs}
+use Rattle.tokens.proofs.Bools.{true-false}
 use Rattle.plays.proofs.recall.Statement.{statement}
 use Rattle.plays.proofs.recall.Tie as tie
 use Rattle.memos.proofs.find.Reads as find-reads

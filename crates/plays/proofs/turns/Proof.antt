@@ -1,7 +1,7 @@
 -- No turn is left out, whatever the body, and nothing is remembered.
 use native.Mathlib.Omega.{arith}
 use borrow.Author.Needs.{needs}
-use Rattle.memos.proofs.Rows.{zeros}
+use Rattle.words.proofs.Words.{zeros}
 use Rattle.plays.proofs.Recalling.{heads-none, promised-all}
 use Rattle.plays.proofs.turns.Statement.{statement}
 use Rattle.plays.proofs.turns.Tie as tie

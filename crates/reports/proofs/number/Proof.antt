@@ -7,8 +7,9 @@ use lib.ListN.{length, drop}
 use Rattle.meaning.specs.Bounds.{cyclesMost}
 use Rattle.meaning.specs.Names.{value}
 use Rattle.reports.specs.Read.{bounded}
-use Rattle.reports.proofs.Laws.{too-large, value-next, value-none, value-end, number-some, number-all}
+use Rattle.reports.proofs.Laws.{too-large, value-next, value-none, value-end, number-all}
 use borrow.Author.Needs.{needs}
+use Rattle.words.proofs.Numbers.{number-some}
 use Rattle.reports.proofs.number.Statement.{statement}
 use Rattle.reports.proofs.number.Tie as tie
 

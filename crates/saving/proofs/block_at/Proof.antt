@@ -2,7 +2,8 @@
 use native.Mathlib.Omega.{arith}
 use Rattle.tokens.specs.Tokens.{left}
 use Rattle.words.specs.Cursor.{stream}
-use Rattle.saving.proofs.Scanning.{token-inside, fewer, Looks, looks-start, looks-room, looks-found, looks-on, looks-end}
+use Rattle.words.proofs.Flow.{fewer}
+use Rattle.saving.proofs.Scanning.{token-inside, Looks, looks-start, looks-room, looks-found, looks-on, looks-end}
 use borrow.Author.Needs.{needs}
 use Rattle.saving.proofs.block_at.Statement.{statement}
 use Rattle.saving.proofs.block_at.Tie as tie

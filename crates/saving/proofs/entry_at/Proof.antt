@@ -3,9 +3,10 @@ use native.Mathlib.Omega.{arith}
 use mathlib.Core.Path.{_≡_, refl, sym, ap, _∙_}
 use Rattle.tokens.specs.Tokens.{toks, left}
 use Rattle.words.specs.Cursor.{stream}
+use Rattle.words.proofs.Flow.{fewer}
 use Rattle.saving.specs.Saving.{upTo, semicolon, entry}
 use Rattle.saving.specs.Found.{hurtOf}
-use Rattle.saving.proofs.Scanning.{Among, among, token-inside, fewer, semicolon-here, semicolon-later, semicolon-none, entry-none, entry-upto, upto-found, upto-none, nothing-found}
+use Rattle.saving.proofs.Scanning.{Among, among, token-inside, semicolon-here, semicolon-later, semicolon-none, entry-none, entry-upto, upto-found, upto-none, nothing-found}
 use borrow.Author.Needs.{needs}
 use Rattle.saving.proofs.entry_at.Statement.{statement}
 use Rattle.saving.proofs.entry_at.Tie as tie

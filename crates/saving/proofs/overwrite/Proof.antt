@@ -6,8 +6,9 @@ use mathlib.Core.Path.{_≡_, refl, sym, ap, _∙_}
 use mathlib.Core.List.{List}
 use lib.ListN.{length, set, length-set}
 use Rattle.saving.specs.Saving.{spaced}
-use Rattle.saving.proofs.Spaces.{spaced-step, spaced-end, both-below}
+use Rattle.saving.proofs.Spaces.{spaced-step, spaced-end}
 use borrow.Author.Needs.{needs}
+use Rattle.tokens.proofs.Bools.{both-below}
 use Rattle.saving.proofs.overwrite.Statement.{statement}
 use Rattle.saving.proofs.overwrite.Tie as tie
 

@@ -3,8 +3,9 @@ use Prim.Native.Nat.{_+_, _*_, _-_, _≤_}
 use native.Mathlib.Omega.{arith}
 use mathlib.Core.Path.{_≡_, refl, sym, ap, _∙_}
 use lib.ListN.{length}
+use Rattle.meaning.proofs.Windows.{row-room}
 use Rattle.stretches.specs.Rows.{rowsIn, wordsIn}
-use Rattle.stretches.proofs.Laws.{row-room, part-is, part-long, row-next, rows-end, rows-long}
+use Rattle.stretches.proofs.Laws.{part-is, part-long, row-next, rows-end, rows-long}
 use Rattle.stretches.proofs.Taking.{Amid, amid-all, amid-next, amid-none}
 use Rattle.stretches.proofs.rows.Statement.{statement}
 use Rattle.stretches.proofs.rows.Tie as tie

@@ -6,9 +6,9 @@ use mathlib.Core.Bool.{false}
 use borrow.Author.Count.{below-more}
 use borrow.Author.Tests.{eqb-true, not-false}
 use Rattle.meaning.specs.Bounds.{tablesMost}
-use Rattle.assigns.proofs.Table.{or-false}
 use Rattle.tallies.specs.Rows.{byteAt}
 use borrow.Author.Needs.{needs}
+use Rattle.tokens.proofs.Bools.{neither}
 use Rattle.tallies.proofs.any_table.Statement.{statement}
 use Rattle.tallies.proofs.any_table.Tie as tie
 
@@ -36,7 +36,7 @@ loop-less c = search needs
 loop-again : tie.Need-loop-again Inv-loop μ-loop
 loop-again c = (
   omega arith,
-  λ e. let n = or-false _ _ e in
+  λ e. let n = neither _ _ e in
       below-more _ _ (c .before .before .loop .inv .1 (n .0)) (sym (c .byte .ensures) ∙ eqb-true _ 0 (not-false _ (n .1))),
 )
 

@@ -1,6 +1,6 @@
 -- A body that may fail spoils the row.
 use mathlib.Core.Path.{sym, _∙_}
-use Rattle.arguments.proofs.Lists.{differ}
+use mathlib.Core.Bool.{true≢false}
 use Rattle.tallies.proofs.Stored.{flag-off}
 use Rattle.tallies.proofs.Grown.{more-none}
 use borrow.Author.Needs.{needs}
@@ -17,7 +17,7 @@ same-length : tie.Need-same-length
 same-length c = c .before .before .spoil .ensures .0 .only .long
 
 returns : tie.Need-returns
-returns c = (c .before .before .spoil .ensures .0, λ b. absurd (differ (sym (c .before .before .spoil .ensures .1) ∙ b)))
+returns c = (c .before .before .spoil .ensures .0, λ b. absurd (true≢false (sym (c .before .before .spoil .ensures .1) ∙ b)))
 
 same-length-2 : tie.Need-same-length-2
 same-length-2 c = search needs

@@ -1,7 +1,7 @@
 -- By the table in force: none yet, one that is not fine for the body, or one that is.
 use native.Mathlib.Omega.{arith}
 use mathlib.Core.Path.{sym, _∙_}
-use Rattle.arguments.proofs.Lists.{differ}
+use mathlib.Core.Bool.{true≢false}
 use Rattle.tallies.proofs.Grown.{fine-read, more-none, more-then}
 use Rattle.tallies.proofs.Others.{other-sum}
 use Rattle.tallies.proofs.Asking.{tabled-before, tabled-by}
@@ -38,7 +38,7 @@ same-length-2 c = more-then (c .before .before .before .before .before .before .
 returns-2 : tie.Need-returns-2
 returns-2 c =
     let t = c .before .before .before .before .before .before .before .before .before .before .need-table .ensures in
-    (more-then (t .0) (c .before .before .spoil .ensures .0), tabled-by (t .1) (c .before .before .spoil .ensures .0) (c .before .before .before .before .before .before .before .if1 .left) (λ b. absurd (differ (sym (c .before .before .spoil .ensures .1) ∙ b))))
+    (more-then (t .0) (c .before .before .spoil .ensures .0), tabled-by (t .1) (c .before .before .spoil .ensures .0) (c .before .before .before .before .before .before .before .if1 .left) (λ b. absurd (true≢false (sym (c .before .before .spoil .ensures .1) ∙ b))))
 
 same-length-3 : tie.Need-same-length-3
 same-length-3 c = c .before .before .before .before .before .before .need-table .ensures .0 .only .long

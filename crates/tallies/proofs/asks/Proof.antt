@@ -2,8 +2,8 @@
 use Prim.Native.Nat.{_-_, _≤_}
 use native.Mathlib.Omega.{arith}
 use mathlib.Core.Path.{sym, _∙_}
+use mathlib.Core.Bool.{true≢false}
 use borrow.Author.Tests.{not-false}
-use Rattle.arguments.proofs.Lists.{differ}
 use Rattle.tallies.proofs.Fitting.{Asking, asking-none, asking-next, asking-all}
 use borrow.Author.Needs.{needs}
 use Rattle.tallies.proofs.asks.Statement.{statement}
@@ -19,7 +19,7 @@ suits-requires : tie.Need-suits-requires Inv-loop μ-loop
 suits-requires c κs = search needs
 
 returns : tie.Need-returns Inv-loop μ-loop
-returns c = (c .before .before .before .before .before .before .before .before .before .pre .6, λ e. absurd (differ (sym e)))
+returns c = (c .before .before .before .before .before .before .before .before .before .pre .6, λ e. absurd (true≢false (sym e)))
 
 loop-holds : tie.Need-loop-holds Inv-loop μ-loop
 loop-holds c = (omega arith, asking-none (c .before .before .before .before .before .before .before .before .before .pre .6))
@@ -34,7 +34,7 @@ same-length : tie.Need-same-length Inv-loop μ-loop
 same-length c = c .before .before .before .before .before .loop .inv .1 .long ∙ sym (c .before .before .before .before .before .before .before .before .before .before .before .before .before .before .before .pre .6)
 
 returns-2 : tie.Need-returns-2 Inv-loop μ-loop
-returns-2 c = (c .before .before .before .before .before .loop .inv .1 .long, λ e. absurd (differ (sym e)))
+returns-2 c = (c .before .before .before .before .before .loop .inv .1 .long, λ e. absurd (true≢false (sym e)))
 
 slice-write-left : tie.Need-slice-write-left Inv-loop μ-loop
 slice-write-left c = omega (arith, c .before .before .before .before .before .loop .inv .1 .long, c .before .before .before .before .before .before .before .before .before .before .before .before .before .before .before .pre .2, c .before .before .before .before .loop-test .taken)

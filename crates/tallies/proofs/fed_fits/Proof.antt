@@ -1,7 +1,7 @@
 -- Each turn takes the next word, in which those that were seen fit already.
 use mathlib.Core.Path.{sym, _∙_}
+use mathlib.Core.Bool.{true≢false}
 use borrow.Author.Tests.{not-true, not-false}
-use Rattle.arguments.proofs.Lists.{differ}
 use Rattle.tokens.specs.Tokens.{toks, left}
 use Rattle.pins.specs.Shown.{tableOf}
 use Rattle.tallies.specs.Rows.{FitsFed}
@@ -36,7 +36,7 @@ fits-word-requires : tie.Need-fits-word-requires Inv-loop μ-loop
 fits-word-requires c κs = let p = c .before .before .before .before .before .before .before .before .before .pre in (c .before .before .before .before .before .loop .inv .1 .long, p .0, p .1, p .2)
 
 returns-2 : tie.Need-returns-2 Inv-loop μ-loop
-returns-2 c = λ cs d h. absurd (differ (sym h ∙ not-true _ (c .if2 .taken)))
+returns-2 c = λ cs d h. absurd (true≢false (sym h ∙ not-true _ (c .if2 .taken)))
 
 loop-less : tie.Need-loop-less Inv-loop μ-loop
 loop-less c = c .before .before .before .before .before .before .before .before .next-word .ensures .fewer (c .before .before .before .before .before .before .if1 .left)

@@ -2,12 +2,11 @@
 use Prim.Native.Nat.{ℕ, _+_, _-_, _≤_, _<_}
 use native.Mathlib.Omega.{arith}
 use mathlib.Core.Path.{_≡_, sym}
-use mathlib.Core.Bool.{true}
+use mathlib.Core.Bool.{true, true≢false}
 use borrow.Author.Count.{below-more}
 use borrow.Author.Tests.{not-false}
 use Rattle.meaning.specs.Bounds.{tablesMost}
 use Rattle.meaning.specs.Timing.{Tables}
-use Rattle.arguments.proofs.Lists.{differ}
 use Rattle.pins.specs.Shown.{tableOf}
 use Rattle.sums.specs.Sums.{okAt}
 use Rattle.tallies.specs.Rows.{flagAt, Marked}
@@ -32,7 +31,7 @@ fits-slot-requires : tie.Need-fits-slot-requires Inv-loop μ-loop
 fits-slot-requires c κs = search needs
 
 returns : tie.Need-returns Inv-loop μ-loop
-returns c = λ e. absurd (differ (sym e))
+returns c = λ e. absurd (true≢false (sym e))
 
 add-t : tie.Need-add-t Inv-loop μ-loop
 add-t c = search needs

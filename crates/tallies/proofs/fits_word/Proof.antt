@@ -3,10 +3,10 @@ use Prim.Native.Nat.{_-_, _≤_, _<_}
 use native.Mathlib.Omega.{arith}
 use mathlib.Core.Path.{_≡_, refl, sym, ap, _∙_}
 use mathlib.Core.Logic.{⊎-elim}
+use mathlib.Core.Bool.{true≢false}
 use lib.ListN.{length, getD, take}
 use lib.Seq.{take-all}
 use borrow.Author.Tests.{not-false}
-use Rattle.arguments.proofs.Lists.{differ}
 use Rattle.pins.specs.Shown.{tableOf}
 use Rattle.sums.specs.Parts.{lastOf}
 use Rattle.tallies.specs.Rows.{SeenWord, FitsFed}
@@ -49,7 +49,7 @@ same-length : tie.Need-same-length Inv-loop μ-loop
 same-length c = c .before .before .before .before .before .before .loop .inv .2 .long
 
 returns : tie.Need-returns Inv-loop μ-loop
-returns c = λ h. absurd (differ (sym h))
+returns c = λ h. absurd (true≢false (sym h))
 
 cast-seen : tie.Need-cast-seen Inv-loop μ-loop
 cast-seen c = omega (arith, c .before .before .before .before .shared-slice-known4 .given (c .before .before .before .before .before .before .loop .i))

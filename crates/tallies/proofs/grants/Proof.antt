@@ -2,10 +2,9 @@
 use Prim.Native.Nat.{ℕ, _-_, _≤_, _<_}
 use native.Mathlib.Omega.{arith}
 use mathlib.Core.Path.{_≡_, sym, _∙_}
-use mathlib.Core.Bool.{false}
+use mathlib.Core.Bool.{false, true≢false}
 use mathlib.Core.Option.{none}
 use borrow.Author.Count.{below-more}
-use Rattle.arguments.proofs.Lists.{differ}
 use Rattle.tallies.specs.Rows.{sumAt}
 use Rattle.tallies.proofs.Stored.{flag-off}
 use Rattle.tallies.proofs.Grown.{under-off}
@@ -23,13 +22,13 @@ byte-requires : tie.Need-byte-requires Inv-loop μ-loop
 byte-requires c κs = search needs
 
 returns : tie.Need-returns Inv-loop μ-loop
-returns c = λ e. absurd (differ (sym e))
+returns c = λ e. absurd (true≢false (sym e))
 
 byte-requires-2 : tie.Need-byte-requires-2 Inv-loop μ-loop
 byte-requires-2 c κs = search needs
 
 returns-2 : tie.Need-returns-2 Inv-loop μ-loop
-returns-2 c = λ e. absurd (differ (sym e))
+returns-2 c = λ e. absurd (true≢false (sym e))
 
 loop-holds : tie.Need-loop-holds Inv-loop μ-loop
 loop-holds c = (omega arith, λ i h. absurd (omega arith))
@@ -44,7 +43,7 @@ byte-requires-3 : tie.Need-byte-requires-3 Inv-loop μ-loop
 byte-requires-3 c κs = search needs
 
 returns-3 : tie.Need-returns-3 Inv-loop μ-loop
-returns-3 c = λ e. absurd (differ (sym e))
+returns-3 c = λ e. absurd (true≢false (sym e))
 
 add-s : tie.Need-add-s Inv-loop μ-loop
 add-s c = search needs

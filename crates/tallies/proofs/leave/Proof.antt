@@ -1,7 +1,7 @@
 -- By what the body leaves: nothing, a character, or its argument's last one.
 use native.Mathlib.Omega.{arith}
 use mathlib.Core.Path.{sym, _∙_}
-use Rattle.arguments.proofs.Lists.{differ}
+use mathlib.Core.Bool.{true≢false}
 use Rattle.tallies.proofs.Grown.{more-none}
 use Rattle.tallies.proofs.Entering.{passed-more, passed-stored, leaves-nothing, leaves-char, leaves-last}
 use borrow.Author.Needs.{needs}
@@ -39,7 +39,7 @@ same-length-3 : tie.Need-same-length-3
 same-length-3 c = c .before .before .spoil .ensures .0 .only .long
 
 returns-3 : tie.Need-returns-3
-returns-3 c = (passed-more (c .before .before .spoil .ensures .0), λ cs e k b. absurd (differ (sym (c .before .before .spoil .ensures .1) ∙ b)))
+returns-3 c = (passed-more (c .before .before .spoil .ensures .0), λ cs e k b. absurd (true≢false (sym (c .before .before .spoil .ensures .1) ∙ b)))
 
 add-store-2 : tie.Need-add-store-2
 add-store-2 c = search needs

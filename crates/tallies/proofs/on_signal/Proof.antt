@@ -1,8 +1,8 @@
 -- By what the row leaves: nothing, its argument's last character, or a character.
 use native.Mathlib.Omega.{arith}
 use mathlib.Core.Path.{sym}
+use mathlib.Core.Bool.{true≢false}
 use borrow.Author.Tests.{not-false}
-use Rattle.arguments.proofs.Lists.{differ}
 use Rattle.tallies.proofs.Entering.{left-nothing, left-last, left-char}
 use borrow.Author.Needs.{needs}
 use Rattle.tallies.proofs.on_signal.Statement.{statement}
@@ -15,7 +15,7 @@ fits-pin-requires : tie.Need-fits-pin-requires
 fits-pin-requires c κs = search needs
 
 returns : tie.Need-returns
-returns c = λ e. absurd (differ (sym e))
+returns c = λ e. absurd (true≢false (sym e))
 
 signal-fits-requires : tie.Need-signal-fits-requires
 signal-fits-requires c κs = search needs

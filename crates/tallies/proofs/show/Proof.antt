@@ -1,8 +1,8 @@
 -- By what stands there.
 use native.Mathlib.Omega.{arith}
 use mathlib.Core.Path.{sym, _∙_}
+use mathlib.Core.Bool.{true≢false}
 use borrow.Author.Tests.{not-false}
-use Rattle.arguments.proofs.Lists.{differ}
 use Rattle.tallies.proofs.Grown.{more-marked, more-none}
 use Rattle.tallies.proofs.Showing.{shows-held, shows-fed, shows-under-any, shows-under-one}
 use borrow.Author.Needs.{needs}
@@ -61,7 +61,7 @@ same-length-4 : tie.Need-same-length-4
 same-length-4 c = c .before .before .spoil .ensures .0 .only .long
 
 returns-4 : tie.Need-returns-4
-returns-4 c = (c .before .before .spoil .ensures .0, λ tabs m. shows-under-one _ _ (c .before .before .before .before .before .before .before .before .if1 .left) (c .before .before .before .before .before .before .before .if2 .left) (c .before .before .before .before .before .before .if3 .left) (λ b. absurd (differ (sym (c .before .before .spoil .ensures .1) ∙ b))))
+returns-4 c = (c .before .before .spoil .ensures .0, λ tabs m. shows-under-one _ _ (c .before .before .before .before .before .before .before .before .if1 .left) (c .before .before .before .before .before .before .before .if2 .left) (c .before .before .before .before .before .before .if3 .left) (λ b. absurd (true≢false (sym (c .before .before .spoil .ensures .1) ∙ b))))
 
 returns-5 : tie.Need-returns-5
 returns-5 c = (more-none, λ tabs m. shows-under-one _ _ (c .before .before .before .before .if1 .left) (c .before .before .before .if2 .left) (c .before .before .if3 .left) (λ b. sym (c .before .has .ensures tabs m) ∙ not-false _ (c .if4 .left)))

@@ -1,7 +1,7 @@
 -- It is shown there, or not.
 use mathlib.Core.Path.{sym, _∙_}
 use mathlib.Core.Option.{none}
-use Rattle.arguments.proofs.Lists.{differ}
+use mathlib.Core.Bool.{true≢false}
 use Rattle.tallies.proofs.Grown.{under-off, more-none}
 use borrow.Author.Needs.{needs}
 use Rattle.tallies.proofs.show_unassigned.Statement.{statement}
@@ -29,7 +29,7 @@ same-length-2 : tie.Need-same-length-2
 same-length-2 c = search needs
 
 returns-2 : tie.Need-returns-2
-returns-2 c = (more-none, λ e q. absurd (differ (sym e ∙ under-off (c .before .before .before .before .args .sums .now) (c .before .before .before .before .args .from) (c .before .before .before .before .args .s) none (sym (c .before .byte .ensures) ∙ c .if1 .left))))
+returns-2 c = (more-none, λ e q. absurd (true≢false (sym e ∙ under-off (c .before .before .before .before .args .sums .now) (c .before .before .before .before .args .from) (c .before .before .before .before .args .s) none (sym (c .before .byte .ensures) ∙ c .if1 .left))))
 
 pub show-unassigned-spec : {M : Type 1} → statement M
 show-unassigned-spec =

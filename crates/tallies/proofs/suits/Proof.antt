@@ -1,6 +1,6 @@
 -- By the marks of what the row asks for by itself.
 use mathlib.Core.Path.{sym}
-use Rattle.arguments.proofs.Lists.{differ}
+use mathlib.Core.Bool.{true≢false}
 use Rattle.tallies.proofs.Fitting.{suits-any, suits-fine}
 use borrow.Author.Needs.{needs}
 use Rattle.tallies.proofs.suits.Statement.{statement}
@@ -10,7 +10,7 @@ byte-requires : tie.Need-byte-requires
 byte-requires c κs = search needs
 
 returns : tie.Need-returns
-returns c = λ e. absurd (differ (sym e))
+returns c = λ e. absurd (true≢false (sym e))
 
 byte-requires-2 : tie.Need-byte-requires-2
 byte-requires-2 c κs = search needs
@@ -19,7 +19,7 @@ returns-2 : tie.Need-returns-2
 returns-2 c = let a = c .before .before .before .before .before .args in λ e. suits-any (a .sums .now) (a .r) (c .before .before .before .byte .ensures) (c .before .before .if1 .left) (c .before .byte2 .ensures) (c .if2 .taken)
 
 returns-3 : tie.Need-returns-3
-returns-3 c = λ e. absurd (differ (sym e))
+returns-3 c = λ e. absurd (true≢false (sym e))
 
 add-byte : tie.Need-add-byte
 add-byte c = search needs

@@ -9,8 +9,8 @@ use Rattle.folded.specs.Flat.{Entries, entriesOf}
 use Rattle.folded.specs.Layout.{entryPut}
 use Rattle.pens.specs.Pens.{Writes}
 use Rattle.folds.proofs.Laws.{writes-nothing}
-use Rattle.timings.specs.Spots.{spotAt, Spots}
-use Rattle.timings.proofs.Spotting.{spot-some}
+use Rattle.spots.specs.Spots.{spotAt, Spots}
+use Rattle.timings.proofs.Telling.{spot-some}
 use Rattle.timings.proofs.Writing.{chart-nothing, chart-writes, all-over, all-put, entry-put, entries-more}
 use borrow.Author.Needs.{needs}
 use native.Mathlib.Omega.{arith}

@@ -8,7 +8,7 @@ use Rattle.folded.specs.Flat.{Chart, chart}
 use Rattle.folded.specs.Layout.{chartPut}
 use Rattle.pens.specs.Pens.{Writes}
 use Rattle.folds.proofs.Laws.{writes-nothing}
-use Rattle.timings.specs.Spots.{Spots}
+use Rattle.spots.specs.Spots.{Spots}
 use Rattle.timings.proofs.Writing.{charts-more, chartsIn, charts-next, charts-done, charts-whole, chart-named, few-characters, charts-written}
 use borrow.Author.Needs.{needs}
 use native.Mathlib.Omega.{arith}

@@ -4,7 +4,8 @@ use mathlib.Core.Path.{refl, _∙_}
 use Rattle.folded.specs.Pieces.{laid, each}
 use Rattle.pens.specs.Pens.{Writes}
 use Rattle.folds.proofs.Laws.{writes-nothing}
-use Rattle.timings.proofs.Writing.{joined, eventsTo, events-more, entry-writes}
+use Rattle.spots.proofs.Joined.{joined}
+use Rattle.timings.proofs.Writing.{eventsTo, events-more, entry-writes}
 use borrow.Author.Needs.{needs}
 use native.Mathlib.Omega.{arith}
 use Rattle.timings.proofs.entry.Statement.{statement}

@@ -10,8 +10,8 @@ slice-aggregate-add c = search needs
 add-requires : tie.Need-add-requires
 add-requires c κs = search needs
 
-add-time-requires : tie.Need-add-time-requires
-add-time-requires c κs = search needs
+add-signed-requires : tie.Need-add-signed-requires
+add-signed-requires c κs = search needs
 
 slice-aggregate-add-2 : tie.Need-slice-aggregate-add-2
 slice-aggregate-add-2 c = search needs
@@ -23,7 +23,7 @@ same-length : tie.Need-same-length
 same-length c = search needs
 
 returns : tie.Need-returns
-returns c = event-writes (c .before .before .before .before .before .before .before .before .before .before .before .before .before .before .before .args .time) (c .before .before .before .before .before .before .before .before .before .before .before .add .ensures) (c .before .before .before .before .before .before .before .add-time .ensures) (c .before .before .add2 .ensures)
+returns c = event-writes (c .before .before .before .before .before .before .before .before .before .before .before .before .before .before .before .args .time) (c .before .before .before .before .before .before .before .before .before .before .before .add .ensures) (c .before .before .before .before .before .before .before .add-signed .ensures) (c .before .before .add2 .ensures)
 
 pub event-spec : {M : Type 1} → statement M
 event-spec =
@@ -31,7 +31,7 @@ event-spec =
     (tie.spec
     slice-aggregate-add
     add-requires
-    add-time-requires
+    add-signed-requires
     slice-aggregate-add-2
     add-requires-2
     same-length

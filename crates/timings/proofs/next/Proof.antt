@@ -6,8 +6,8 @@ use lib.ListN.{length, drop}
 use Prim.Native.Nat.{ℕ}
 use Rattle.meaning.specs.Timing.{Wave}
 use Rattle.folded.specs.Flat.{entriesOf}
-use Rattle.timings.specs.Spots.{Spots}
-use Rattle.timings.proofs.Spotting.{spot-none}
+use Rattle.spots.specs.Spots.{Spots}
+use Rattle.timings.proofs.Telling.{spot-none}
 use borrow.Author.Needs.{needs}
 use native.Mathlib.Omega.{arith}
 use Rattle.timings.proofs.next.Statement.{statement}

@@ -8,9 +8,10 @@ use Rattle.meaning.specs.Timing.{Tables, table}
 use Rattle.held.proofs.Grammar.{moves-table}
 use Rattle.words.specs.Cursor.{stream}
 use Rattle.signals.specs.Names.{namesOf}
-use Rattle.timings.specs.Answers.{Answers}
-use Rattle.timings.specs.Lines.{signalsIn, MoreSheets}
-use Rattle.timings.proofs.Following.{Turns, turn, again, fewer, settled}
+use Rattle.spots.specs.Answers.{Answers}
+use Rattle.spots.specs.Spots.{signalsIn}
+use Rattle.timings.specs.Lines.{MoreSheets}
+use Rattle.spots.proofs.Following.{Turns, turn, again, fewer, settled}
 use Rattle.timings.proofs.Tabling.{no-sheets, sheets-more}
 use borrow.Author.Needs.{needs}
 use Rattle.timings.proofs.others.Statement.{statement}

@@ -2,8 +2,9 @@
 use Rattle.tokens.specs.Written.{bytes}
 use Rattle.signals.specs.Names.{namesOf}
 use Rattle.folded.specs.Flat.{chartsFrom}
-use Rattle.timings.specs.Lines.{signalsIn}
-use Rattle.timings.proofs.Tabling.{table-parts, table-ends, sheet-writes}
+use Rattle.spots.specs.Spots.{signalsIn}
+use Rattle.spots.proofs.Tabling.{table-parts, table-ends}
+use Rattle.timings.proofs.Tabling.{sheet-writes}
 use borrow.Author.Needs.{needs}
 use Rattle.timings.proofs.table.Statement.{statement}
 use Rattle.timings.proofs.table.Tie as tie

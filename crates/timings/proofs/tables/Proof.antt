@@ -6,8 +6,9 @@ use Rattle.meaning.specs.Timing.{table}
 use Rattle.held.proofs.Rest.{moves-leaves}
 use Rattle.held.proofs.Grammar.{moves-table}
 use Rattle.signals.specs.Names.{namesOf}
-use Rattle.timings.proofs.Following.{behind}
-use Rattle.timings.proofs.Tabling.{timing-first, timing-writes}
+use Rattle.spots.proofs.Following.{behind}
+use Rattle.spots.proofs.Tabling.{timing-first}
+use Rattle.timings.proofs.Tabling.{timing-writes}
 use borrow.Author.Needs.{needs}
 use Rattle.timings.proofs.tables.Statement.{statement}
 use Rattle.timings.proofs.tables.Tie as tie

@@ -1,7 +1,8 @@
 -- `timing` meets its contract: an accepted text is read again up to its Timing.
 use mathlib.Core.Path.{refl}
 use Rattle.declared.proofs.Numbers.{blank-chains}
-use Rattle.timings.proofs.Accepting.{timing-at, flat-writes}
+use Rattle.spots.proofs.Accepting.{timing-at}
+use Rattle.timings.proofs.Flats.{flat-writes}
 use borrow.Author.Needs.{needs}
 use Rattle.timings.proofs.timing.Statement.{statement}
 use Rattle.timings.proofs.timing.Tie as tie

@@ -5,9 +5,8 @@ use mathlib.Core.List.{[]}
 use lib.ListN.{length-replicate}
 use Rattle.tokens.specs.Written.{bytes}
 use Rattle.folded.specs.Flat.{upFrom, characters, chartsFrom}
-use Rattle.timings.specs.Spots.{spotsMost}
-use Rattle.timings.specs.Lines.{signalsIn}
-use Rattle.timings.proofs.Spotting.{blank-spots}
+use Rattle.spots.specs.Spots.{spotsMost, signalsIn}
+use Rattle.spots.proofs.Spotting.{blank-spots}
 use Rattle.timings.proofs.Tabling.{charted-writes}
 use borrow.Author.Needs.{needs}
 use Rattle.timings.proofs.waveforms.Statement.{statement}

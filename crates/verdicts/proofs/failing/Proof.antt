@@ -1,36 +1,37 @@
--- `failing` meets its contract: no cycle of a plain text fails, and any other is summed up.
-use Rattle.meaning.proofs.Gives.{no-not}
-use Rattle.plays.proofs.Texts.{decides-sound}
-use Rattle.verdicts.proofs.Found.{runs}
+-- `failing` meets its contract: 17, behind it 25, or the text is accepted.
+use native.Mathlib.Omega.{arith}
+use borrow.Author.Needs.{needs}
+use Rattle.verdicts.proofs.Found.{meaning-failing, meaning-crossing, meaning-given}
 use Rattle.verdicts.proofs.failing.Statement.{statement}
 use Rattle.verdicts.proofs.failing.Tie as tie
 
-plain-requires : tie.Need-plain-requires
-plain-requires c κs =
-    let start = c .before .before .before .before .before .before .before .before .before .before in
-    let tabled = start .pre .found .tabled in
-    record {
-      book-long = tabled .describes .book-long;
-      waves-long = tabled .waves-long;
-      used-long = start .pre .long;
-      few-tables = tabled .describes .few-tables;
-      few-patterns = tabled .few-patterns;
-    }
-
-summed-requires : tie.Need-summed-requires
-summed-requires c κs = (_, c .before .before .before .before .before .before .before .before .before .before .before .before .pre .found)
+unplayable-requires : tie.Need-unplayable-requires
+unplayable-requires c κs = search needs
 
 returns : tie.Need-returns
-returns c = c .summed .ensures
+returns c = record {
+  refuses = λ f h. meaning-failing f (c .before .unplayable .ensures) (c .if1 .taken);
+  accepts = λ f z. absurd (omega (arith, z));
+}
+
+across-requires : tie.Need-across-requires
+across-requires c κs = (_, c .before .before .before .before .before .before .before .before .before .before .before .pre .found)
 
 returns-2 : tie.Need-returns-2
 returns-2 c =
-    let start = c .before .before .before .before .before .before .before .before .before .before .before .before in
+    let played = c .before .before .before in
     record {
-      decides = λ f.
-          decides-sound
-          (c .before .plain .ensures (no-not _ (c .if1 .left)) _ _ _ _ _ _ _ _ (runs f) (start .pre .notes .noted (f .it) (f .is)));
+      refuses = λ f h. meaning-crossing f (played .unplayable .ensures) (c .before .before .if1 .left) (c .before .across .ensures) (c .if2 .taken);
+      accepts = λ f z. absurd (omega (arith, z));
+    }
+
+returns-3 : tie.Need-returns-3
+returns-3 c =
+    let played = c .before .before .before in
+    record {
+      refuses = λ f h. absurd (h (omega arith));
+      accepts = λ f z. meaning-given f (played .unplayable .ensures) (c .before .before .if1 .left) (c .before .across .ensures) (c .if2 .left);
     }
 
 pub failing-spec : {M : Type 1} → statement M
-failing-spec = tie.close (tie.spec plain-requires summed-requires returns returns-2)
+failing-spec = tie.close (tie.spec unplayable-requires returns across-requires returns-2 returns-3)

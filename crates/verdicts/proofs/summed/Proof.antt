@@ -3,7 +3,7 @@
 use Prim.Native.Nat.{ℕ, _*_}
 use lib.ListN.{length-replicate}
 use borrow.Author.Needs.{needs}
-use Rattle.declared.proofs.Numbers.{zeros}
+use Rattle.words.proofs.Words.{zeros}
 use Rattle.measures.specs.Book.{bodies}
 use Rattle.tallies.specs.Rows.{rowSize}
 use Rattle.grants.specs.Grants.{rows}

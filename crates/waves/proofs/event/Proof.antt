@@ -5,8 +5,8 @@ use borrow.Author.Needs.{needs}
 use Rattle.waves.proofs.event.Statement.{statement}
 use Rattle.waves.proofs.event.Tie as tie
 
-quoted-requires : tie.Need-quoted-requires
-quoted-requires c κs = search needs
+signed-quoted-requires : tie.Need-signed-quoted-requires
+signed-quoted-requires c κs = search needs
 
 letters-requires : tie.Need-letters-requires
 letters-requires c κs = search needs
@@ -24,13 +24,13 @@ returns : tie.Need-returns
 unfolding bytes
 returns c =
     let read = c .before .before .before in
-    event-adds (read .before .quoted .ensures) (read .letters .ensures) (c .before .due .ensures) (c .letter-at .ensures)
+    event-adds (read .before .signed-quoted .ensures) (read .letters .ensures) (c .before .due .ensures) (c .letter-at .ensures)
 
 pub event-spec : {M : Type 1} → statement M
 event-spec =
     tie.close
     (tie.spec
-    quoted-requires
+    signed-quoted-requires
     letters-requires
     slice-aggregate-due
     due-requires

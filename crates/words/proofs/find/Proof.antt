@@ -8,10 +8,10 @@ use lib.ListN.{length, getD}
 use borrow.Author.Needs.{needs}
 use borrow.Author.Tests.{lt-ltb, le-ltb, eqb-false, ltb-false}
 use Rattle.tokens.specs.Written.{same}
+use Rattle.tokens.proofs.Bools.{neither}
 use Rattle.meaning.specs.Names
 use Rattle.words.specs.Cursor.{span}
 use Rattle.words.specs.Table.{names}
-use Rattle.words.proofs.Words.{neither}
 use Rattle.words.proofs.Tables.{foundFrom, found-all, found-here, found-later, found-nowhere}
 use Rattle.words.proofs.find.Statement.{statement}
 use Rattle.words.proofs.find.Tie as tie

@@ -4,8 +4,8 @@ use lib.Dec.{ltb}
 use borrow.Author.Needs.{needs}
 use Rattle.meaning.specs.Names.{isSome, newName}
 use Rattle.words.proofs.Flow.{then, checked, given}
-use Rattle.words.proofs.Tables.{told-some}
 use Rattle.words.proofs.unused_name.Statement.{statement}
+use Rattle.words.proofs.Words.{told-some}
 use Rattle.words.proofs.unused_name.Tie as tie
 
 name-requires : tie.Need-name-requires

@@ -1,0 +1,5 @@
+mod Looking
+mod Adding
+mod Fitting
+mod Filling
+mod Tables
