@@ -1,10 +1,10 @@
 -- Numbers put one by one, slot by slot, table by table.
-use Prim.Native.Nat.{ℕ, _+_, _-_, _*_, _/_, _%_, _<_, _≤_}
+use Prim.Native.Nat.{ℕ, _+_, _-_, _*_, _/_, _%_, _<_}
 use native.Mathlib.Omega.{arith}
 use mathlib.Core.Path.{_≡_, refl, sym, ap, ap₂, _∙_, subst}
 use mathlib.Core.Bool.{Bool, true, false, not}
-use mathlib.Core.Option.{Option}
-use mathlib.Core.List.{List}
+use mathlib.Core.Option.{Option, none}
+use mathlib.Core.List.{List, []}
 use lib.Dec.{leb, eqb}
 use borrow.Author.Tests.{le-leb, eqb-true, eqb-false}
 use lib.ListN.{length, getD, set, length-set}
@@ -12,11 +12,11 @@ use lib.Seq.{getD-set-same, getD-set-other}
 use Rattle.meaning.specs.Timing.{Event, Wave}
 use Rattle.timing.specs.Watch.{Watched}
 use Rattle.spots.specs.Spots.{spotAt, watchOf, Spots}
-use Rattle.meaning.specs.Edges.{Category, drive, compare, firstTime, lastTime, eventsOf}
+use Rattle.meaning.specs.Edges.{Category, drive, compare, timesIn, firstOf, lastBehind, firstTime, lastTime, eventsOf}
 use Rattle.spans.specs.Spans.{charFirst, charsWide, tableWide, slotsMost, timesMost, inside, coded, timeAt}
-use Rattle.spans.specs.Parts.{Spanned, Put, Filled, Upto}
+use Rattle.spans.specs.Parts.{Spanned, Put, Filled, Clear, Upto}
 use Rattle.spans.specs.declared.Both.{Both}
-use Rattle.spans.proofs.Fitting.{spot-same}
+use Rattle.spans.proofs.Fitting.{spot-same, spot-nothing}
 
 -- ---- one slot
 
@@ -73,6 +73,22 @@ module _ (f : Category → List Event → Option ℕ) (j : ℕ) (ws : List Wave)
       by m k h true q = subst (λ (n : ℕ). Here after n k) (sym (eqb-true m i q)) (own k)
       by m k h false q = let n = eqb-false m i q in p .others (j * tableWide + m) k (λ z. n (omega arith)) ∙ x .here m k (omega (arith, n))
 
+  -- a slot that stays 0
+  pub upto-skip : (i : ℕ) {before row : List ℕ} → Clear j before → Upto f j ws i before row → i < tableWide → ((k : Category) → f k [] ≡ none)
+      → eventsOf (i / charsWide) (charFirst + i % charsWide) ws ≡ [] → Upto f j ws (i + 1) before row
+  upto-skip i {before} {row} z x h n e =
+      record {
+        here = λ m k g. by m k g (eqb m i) refl;
+        below = x .below;
+        above = λ m k g. x .above m k (omega arith);
+      }
+    where
+      by : (m : ℕ) (k : Category) → m < i + 1 → (b : Bool) → eqb m i ≡ b → Here row m k
+      by m k g true q =
+          subst (λ (u : ℕ). Here row u k) (sym (eqb-true m i q))
+          (x .above (j * tableWide + i) k (omega arith) ∙ z i k h ∙ sym (ap (λ (es : List Event). coded (f k es)) e ∙ ap coded (n k)))
+      by m k g false q = let u = eqb-false m i q in x .here m k (omega (arith, u))
+
   pub upto-all : {i : ℕ} {before after : List ℕ} → i ≡ tableWide → Upto f j ws i before after → Upto f j ws tableWide before after
   upto-all {before = before} {after = after} e x = subst (λ (n : ℕ). Upto f j ws n before after) e x
 
@@ -99,3 +115,18 @@ earlier-slot {text} {spots} ws j i earlier x a b h e g =
         last = g .last-compare ∙ b .here m compare k ∙ ap (λ (es : List Event). coded (lastTime compare es)) same;
       };
     }
+
+no-first : (k : Category) → firstTime k [] ≡ none
+unfolding firstTime timesIn firstOf
+no-first k = refl
+
+no-last : (k : Category) → lastTime k [] ≡ none
+unfolding lastTime timesIn lastBehind
+no-last k = refl
+
+-- a slot without an entry
+pub empty-slot : {text spots : List ℕ} (ws : List Wave) (j i : ℕ) {f firsts l lasts : List ℕ} → Spots text spots ws → Clear j f → Clear j l → Upto firstTime j ws i f firsts → Upto lastTime j ws i l lasts
+    → i < tableWide → spotAt spots (i / charsWide) (charFirst + i % charsWide) ≡ 0 → Upto firstTime j ws (i + 1) f firsts × Upto lastTime j ws (i + 1) l lasts
+empty-slot ws j i x y z a b h e =
+    let n = spot-nothing (i / charsWide) (charFirst + i % charsWide) _ ws (x .each (i / charsWide) (charFirst + i % charsWide) (omega arith)) e in
+    (upto-skip firstTime j ws i y a h no-first n, upto-skip lastTime j ws i z b h no-last n)

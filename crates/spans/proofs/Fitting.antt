@@ -7,10 +7,10 @@ use mathlib.Core.Option.{Option, none, some}
 use mathlib.Core.List.{List, [], _∷_, _++_}
 use lib.Dec.{leb, eqb}
 use borrow.Author.Tests.{not-false, leb-true, le-leb, eqb-true, ne-eqb}
-use lib.ListN.{length, getD, List·getD-eq-default}
+use lib.ListN.{getD}
 use Rattle.tokens.specs.Tokens.{Tok}
 use Rattle.tokens.specs.Bytes.{between, digit, letter}
-use Rattle.meaning.specs.Bounds.{entryMost, signalsMost}
+use Rattle.meaning.specs.Bounds.{entryMost}
 use Rattle.meaning.specs.Refusals.{tooMany}
 use Rattle.meaning.specs.Reader.{ahead, due, until}
 use Rattle.meaning.specs.Signals.{Names}
@@ -23,11 +23,11 @@ use Rattle.meaning.proofs.Signs.{gives-signed}
 use Rattle.timing.specs.Watch.{numberOf, Watched}
 use Rattle.waves.specs.Waves.{EntryAt}
 use Rattle.waves.proofs.Entries.{entry-found}
-use Rattle.spots.specs.Spots.{bytesMost, spotsMost, spotAt, watchOf, Spots}
+use Rattle.spots.specs.Spots.{watchOf}
 use Rattle.meaning.specs.Edges.{eventsOf}
 use Rattle.spans.specs.Spans.{charFirst, inside}
-use Rattle.spans.specs.Parts.{timesBelow, Timely, Fit, Beyond}
-use Rattle.spans.proofs.Looking.{inside-low, inside-high, events-none}
+use Rattle.spans.specs.Parts.{timesBelow, Timely, Fit}
+use Rattle.spans.proofs.Looking.{inside-low, events-none}
 
 -- ---- events
 
@@ -156,7 +156,7 @@ wave-fits s b (w ∷ ws) g es e = by (eqb (w .signal) s) (eqb (w .char) b) refl 
     by true false q e ih = ih e
     by false y q e ih = ih e
 
-pub events-some : (s b : ℕ) (ws : List Wave) {es : List Event} → inside b ≡ true → waveOf s b ws ≡ some es → eventsOf s b ws ≡ es
+events-some : (s b : ℕ) (ws : List Wave) {es : List Event} → inside b ≡ true → waveOf s b ws ≡ some es → eventsOf s b ws ≡ es
 unfolding eventsOf
 events-some s b ws {es} h e = by (eqb b unassigned) (waveOf s b ws) (ne-eqb b unassigned (λ z. omega (arith, inside-low b h))) e
   where
@@ -198,14 +198,3 @@ module _ {text : List ℕ} (s b : ℕ) (spot : ℕ) (ws : List Wave) (x : Watche
   spot-entry h =
       let f = x .yes (ap not (ne-eqb spot 0 h)) in
       (_, entry-found f (f .wave), λ g k. (wave-fits s b ws g _ (f .wave) .1, events-some s b ws k (f .wave)))
-
--- a signal without spots has none
-pub beyond-none : {text spots : List ℕ} {ws : List Wave} → Spots text spots ws → length spots ≡ spotsMost → Fit ws → Beyond ws
-beyond-none {spots = spots} {ws = ws} x l g s b h = by (inside b) refl
-  where
-    by : (y : Bool) → inside b ≡ y → waveOf s b ws ≡ none
-    by true e =
-        let q : b < bytesMost = omega (arith, inside-high b e) in
-        let z : spotAt spots s b ≡ 0 = List·getD-eq-default spots 0 (omega arith) in
-        x .each s b q .no (rw z)
-    by false e = outside-none s b ws g e

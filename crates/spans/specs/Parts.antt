@@ -2,12 +2,10 @@
 use Prim.Native.Nat.{ℕ, _+_, _*_, _≤_, _<_, _/_, _%_}
 use mathlib.Core.Path.{_≡_}
 use mathlib.Core.Bool.{true}
-use mathlib.Core.Option.{Option, none}
+use mathlib.Core.Option.{Option}
 use mathlib.Core.List.{List, [], _∷_}
 use lib.ListN.{length}
-use Rattle.meaning.specs.Bounds.{signalsMost}
 use Rattle.meaning.specs.Timing.{Event, Wave, Tables}
-use Rattle.meaning.specs.Services.{waveOf}
 use Rattle.meaning.specs.Edges.{Category, drive, compare, firstTime, lastTime, eventsOf}
 use Rattle.spans.specs.Spans.{charFirst, charsWide, tableWide, inside, coded, timeAt, Spans}
 use Rattle.spans.specs.declared.Span.{Span}
@@ -26,10 +24,6 @@ Timely (e ∷ es) = (e .time < timesBelow) × Timely es
 abbrev pub Fit : List Wave → Type 0
 Fit [] = Unit {0}
 Fit (w ∷ ws) = ((inside (w .char) ≡ true) × Timely (w .events)) × Fit ws
-
--- and no waveform of a signal for which there is no slot
-abbrev pub Beyond : List Wave → Type 0
-Beyond ws = (s b : ℕ) → signalsMost ≤ s → waveOf s b ws ≡ none
 
 -- the numbers of some events in a category
 pub record Spanning (k : Category) (x : Span) (es : List Event) : Type 0 where
@@ -53,6 +47,14 @@ pub record Filled (firsts lasts : List ℕ) (n : ℕ) (r : Both) : Type 0 where
   pub last-drive : r .drive .last ≡ timeAt lasts n drive
   pub first-compare : r .compare .first ≡ timeAt firsts n compare
   pub last-compare : r .compare .last ≡ timeAt lasts n compare
+
+-- places of entries that are told apart
+abbrev pub ownersMost : ℕ
+ownersMost = 1024
+
+-- table j has no times yet
+abbrev pub Clear : ℕ → List ℕ → Type 0
+Clear j row = (m : ℕ) (k : Category) → m < tableWide → timeAt row (j * tableWide + m) k ≡ 0
 
 -- the first i slots of table j hold the times f of these waveforms, and nothing else changed
 pub record Upto (f : Category → List Event → Option ℕ) (j : ℕ) (ws : List Wave) (i : ℕ) (before after : List ℕ) : Type 0 where

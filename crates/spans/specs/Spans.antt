@@ -1,5 +1,5 @@
 -- The first and last time of each waveform in each category, at hand for each table, signal and character.
-use Prim.Native.Nat.{ℕ, suc, _+_, _-_, _*_, _≤_, _<_}
+use Prim.Native.Nat.{ℕ, suc, _+_, _-_, _*_, _<_}
 use mathlib.Core.Path.{_≡_}
 use mathlib.Core.Bool.{Bool, true, false, _&&_}
 use mathlib.Core.Option.{Option, none, some}
@@ -54,10 +54,9 @@ pub record Sized (firsts lasts periods : List ℕ) : Type 0 where
   pub last : length lasts ≡ timesMost
   pub each : length periods ≡ tablesMost
 
--- THE PROMISE: they are those of these tables; a character or a signal for which there is no slot has no waveform
+-- THE PROMISE: they are those of these tables; a character for which there is no slot has no waveform
 pub record Spans (tabs : Tables) (firsts lasts periods : List ℕ) : Type 0 where
   pub first : (j s b : ℕ) (k : Category) → j < tablesMost → s < signalsMost → inside b ≡ true → timeAt firsts (slotOf j s b) k ≡ coded (firstTime k (eventsOf s b (tableAt tabs j)))
   pub last : (j s b : ℕ) (k : Category) → j < tablesMost → s < signalsMost → inside b ≡ true → timeAt lasts (slotOf j s b) k ≡ coded (lastTime k (eventsOf s b (tableAt tabs j)))
   pub outside : (j s b : ℕ) → inside b ≡ false → waveOf s b (tableAt tabs j) ≡ none
-  pub beyond : (j s b : ℕ) → signalsMost ≤ s → waveOf s b (tableAt tabs j) ≡ none
   pub period : (j : ℕ) → j < tablesMost → getD periods j 0 ≡ periodAt tabs j

@@ -2,7 +2,7 @@
 ghost use mathlib.Core.Path.{_≡_};
 ghost use Prim.Native.Nat.{ℕ, suc, _+_, _-_, _*_, _/_, _%_, _<_};
 ghost use mathlib.Core.Bool.{true, cond, not, _&&_};
-ghost use mathlib.Core.Option.{Option, none};
+ghost use mathlib.Core.Option.{Option};
 ghost use mathlib.Core.List.{List, [], _∷_, _++_};
 ghost use lib.ListN.{length, getD};
 ghost use lib.Dec.{eqb};
@@ -16,10 +16,10 @@ ghost use Rattle.signals.specs.Names.{namesOf};
 ghost use Rattle.timing.specs.Watch.{Watched};
 ghost use Rattle.waves.specs.Waves.{EntryAt};
 ghost use Rattle.spots.specs.Answers.{Answers, Behind};
-ghost use Rattle.spots.specs.Spots.{spotsMost, watchOf, Spots, Listed};
+ghost use Rattle.spots.specs.Spots.{spotsMost, spotAt, watchOf, Spots, Listed};
 ghost use Rattle.meaning.specs.Edges.{Category, belongs, firstTime, lastTime, before as beforeOf, follows, eventsOf, periodAt};
 ghost use Rattle.spans.specs.Spans.{charFirst, charsWide, inside as insideOf, tableWide, timesMost, slotsMost, slotOf, coded as codedOf, Sized, Spans};
-ghost use Rattle.spans.specs.Parts.{timesBelow, Timely, Fit, Beyond, Spanning, Spanned, Put, Filled, Upto, Held};
+ghost use Rattle.spans.specs.Parts.{timesBelow, Timely, Fit, Spanning, Spanned, Put, Filled, Clear, Upto, ownersMost, Held};
 use words::Cursor;
 
 // Characters that have times: from the first digit to the last letter.
@@ -30,7 +30,7 @@ const CHARS: usize = 75;
 const TABLE: usize = sets::MOST * CHARS;
 
 // Places of entries that are told apart where the times of a table are shared.
-const OWNERS: usize = 256;
+const OWNERS: usize = 1024;
 
 // How long the arrays are: first times and last times, two numbers for each table, signal and character; and a period for each table.
 pub const TIMES: usize = timing::TABLES * TABLE * 2;
@@ -196,7 +196,7 @@ fn put(row: &mut [u32], n: usize, drive: u32, compare: u32)
 }
 
 // Those of a slot that is filled.
-fn filled<'a>(firsts: &'a [u32], lasts: &'a [u32], n: usize) -> Both
+fn filled(firsts: &[u32], lasts: &[u32], n: usize) -> Both
     requires { ⌜ (length (now firsts) ≡ timesMost) × (length (now lasts) ≡ timesMost) × (n < slotsMost) ⌝ }
     ensures { λ r. ⌜ Filled (now (firsts .entry)) (now (lasts .entry)) n r ⌝ }
 {
@@ -212,55 +212,82 @@ fn filled<'a>(firsts: &'a [u32], lasts: &'a [u32], n: usize) -> Both
     Both { drive, compare }
 }
 
-// Those of slot i of table j. Where an earlier signal has the same entry they are its, so that a group's entries are read once.
-fn slot<'a>(
-    text: &'a [u8],
-    spots: &'a [usize],
-    firsts: &'a [u32],
-    lasts: &'a [u32],
+// A signal before that of slot i that has the same entry for its character, or none: this one.
+fn owner(spots: &[usize], i: usize, earlier: usize) -> usize
+    requires { ⌜ (length (now spots) ≡ spotsMost) × (i < tableWide) ⌝ }
+    ensures { λ r. ⌜ (r < i / charsWide → spotAt (now (spots .entry)) r (charFirst + i % charsWide) ≡ spotAt (now (spots .entry)) (i / charsWide) (charFirst + i % charsWide)) ⌝ }
+{
+    let s = i / CHARS;
+    let char = FIRST + i % CHARS;
+    if earlier < s {
+        if spots[earlier * spots::BYTES + char] == spots[s * spots::BYTES + char] {
+            return earlier;
+        }
+    }
+    s
+}
+
+// Those of slot i of table j: an earlier signal's with the same entry, so that a group's entries are read once, or those that are read.
+fn slot(
+    text: &[u8],
+    spots: &[usize],
+    firsts: &[u32],
+    lasts: &[u32],
     j: usize,
     i: usize,
     earlier: usize,
 ) -> Both
     requires { ⌜ (length (now spots) ≡ spotsMost) × (length (now firsts) ≡ timesMost) × (length (now lasts) ≡ timesMost) × (j < tablesMost) × (i < tableWide) ⌝ }
+    requires { ⌜ (earlier < i / charsWide → spotAt (now spots) earlier (charFirst + i % charsWide) ≡ spotAt (now spots) (i / charsWide) (charFirst + i % charsWide)) ⌝ }
     requires { ⌜ ((ws : List Wave) × Spots (now text) (now spots) ws) ⌝ }
     ensures { λ r. ⌜ ((ws : List Wave) (f l : List ℕ) → Spots (now (text .entry)) (now (spots .entry)) ws → Fit ws → Upto firstTime j ws i f (now (firsts .entry)) → Upto lastTime j ws i l (now (lasts .entry)) → Spanned r (eventsOf (i / charsWide) (charFirst + i % charsWide) ws)) ⌝ }
 {
     let s = i / CHARS;
     let char = FIRST + i % CHARS;
-    let spot = spots[s * spots::BYTES + char];
     if earlier < s {
-        if spots[earlier * spots::BYTES + char] == spot {
-            return filled(firsts, lasts, j * TABLE + (earlier * CHARS + i % CHARS));
-        }
+        return filled(firsts, lasts, j * TABLE + (earlier * CHARS + i % CHARS));
     }
-    of_spot(text, spot, char as u8)
+    of_spot(text, spots[s * spots::BYTES + char], char as u8)
 }
 
-// The times of a table's waveforms, from its spots. Of each place, as far as they differ, the last signal that had it is kept.
-fn table_times<'a>(
-    text: &'a [u8],
-    spots: &'a [usize],
+// Slot i of table j is filled, unless it has no entry: it is 0 already. Of each place of an entry, as far as places are told apart, the first signal is kept.
+fn put_slot(
+    text: &[u8],
+    spots: &[usize],
     j: usize,
+    i: usize,
     firsts: &mut [u32],
     lasts: &mut [u32],
+    owners: &mut [usize],
 )
+    requires { ⌜ (length (now spots) ≡ spotsMost) × (length (now firsts) ≡ timesMost) × (length (now lasts) ≡ timesMost) × (length (now owners) ≡ ownersMost) × (j < tablesMost) × (i < tableWide) ⌝ }
+    requires { ⌜ ((ws : List Wave) × Spots (now text) (now spots) ws) ⌝ }
+    ensures { λ r. ⌜ ((ws : List Wave) (f l : List ℕ) → Spots (now (text .entry)) (now (spots .entry)) ws → Fit ws → Clear j f → Clear j l → Upto firstTime j ws i f (now (firsts .entry)) → Upto lastTime j ws i l (now (lasts .entry)) → Upto firstTime j ws (i + 1) f (now (firsts .exit)) × Upto lastTime j ws (i + 1) l (now (lasts .exit))) ⌝ }
+{
+    let spot = spots[i / CHARS * spots::BYTES + (FIRST + i % CHARS)];
+    if spot == 0 {
+        return;
+    }
+    let place = spot % OWNERS;
+    let earlier = owner(spots, i, owners[place]);
+    let x = slot(text, spots, &firsts[..], &lasts[..], j, i, earlier);
+    let drive = x.drive;
+    let compare = x.compare;
+    put(firsts, j * TABLE + i, drive.first, compare.first);
+    put(lasts, j * TABLE + i, drive.last, compare.last);
+    owners[place] = earlier;
+}
+
+// The times of a table's waveforms, from its spots, where there are none yet.
+fn table_times(text: &[u8], spots: &[usize], j: usize, firsts: &mut [u32], lasts: &mut [u32])
     requires { ⌜ (length (now spots) ≡ spotsMost) × (length (now firsts) ≡ timesMost) × (length (now lasts) ≡ timesMost) × (j < tablesMost) ⌝ }
     requires { ⌜ ((ws : List Wave) × Spots (now text) (now spots) ws) ⌝ }
-    ensures { λ r. ⌜ ((ws : List Wave) → Spots (now (text .entry)) (now (spots .entry)) ws → Fit ws → Upto firstTime j ws tableWide (now (firsts .entry)) (now (firsts .exit)) × Upto lastTime j ws tableWide (now (lasts .entry)) (now (lasts .exit))) ⌝ }
+    ensures { λ r. ⌜ ((ws : List Wave) → Spots (now (text .entry)) (now (spots .entry)) ws → Fit ws → Clear j (now (firsts .entry)) → Clear j (now (lasts .entry)) → Upto firstTime j ws tableWide (now (firsts .entry)) (now (firsts .exit)) × Upto lastTime j ws tableWide (now (lasts .entry)) (now (lasts .exit))) ⌝ }
 {
     let mut owners = [0usize; OWNERS];
     let mut i = 0;
     while i < TABLE {
-        let s = i / CHARS;
-        let place = spots[s * spots::BYTES + (FIRST + i % CHARS)] % OWNERS;
-        let earlier = owners[place];
-        let x = slot(text, spots, &firsts[..], &lasts[..], j, i, earlier);
-        let drive = x.drive;
-        let compare = x.compare;
-        put(firsts, j * TABLE + i, drive.first, compare.first);
-        put(lasts, j * TABLE + i, drive.last, compare.last);
-        owners[place] = s;
+        put_slot(text, spots, j, i, firsts, lasts, &mut owners);
         i += 1;
     }
 }
@@ -278,7 +305,7 @@ fn waveforms<'a>(
 ) -> Cursor
     requires { ⌜ (length (now firsts) ≡ timesMost) × (length (now lasts) ≡ timesMost) × (j < tablesMost) × Listed (now lists) names ⌝ }
     requires { ⌜ ((ws : List Wave) × (us : Toks) × Answers (now text) c (untilOf "}" (waveformsOf (namesOf (now text) (now places) (now lists) names)) []) ws us) ⌝ }
-    ensures { λ r. ⌜ ((ws : List Wave) (us : Toks) → Answers (now (text .entry)) c (untilOf "}" (waveformsOf (namesOf (now (text .entry)) (now (places .entry)) (now (lists .entry)) names)) []) ws us → Behind (now (text .entry)) r us × (Upto firstTime j ws tableWide (now (firsts .entry)) (now (firsts .exit)) × Upto lastTime j ws tableWide (now (lasts .entry)) (now (lasts .exit))) × Beyond ws) ⌝ }
+    ensures { λ r. ⌜ ((ws : List Wave) (us : Toks) → Answers (now (text .entry)) c (untilOf "}" (waveformsOf (namesOf (now (text .entry)) (now (places .entry)) (now (lists .entry)) names)) []) ws us → Clear j (now (firsts .entry)) → Clear j (now (lasts .entry)) → Behind (now (text .entry)) r us × (Upto firstTime j ws tableWide (now (firsts .entry)) (now (firsts .exit)) × Upto lastTime j ws tableWide (now (lasts .entry)) (now (lasts .exit)))) ⌝ }
 {
     let mut spots = [0usize; spots::SPOTS];
     let cursor = spots::table_spots(text, c, places, lists, names, &mut spots);

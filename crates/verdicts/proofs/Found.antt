@@ -1,11 +1,15 @@
 -- The meaning of a text, from what was decided and played: refused by 1 to 16, by 17, or accepted, with its counts and names.
 use Prim.Native.Nat.{ℕ}
 use mathlib.Core.Path.{_≡_, refl, sym, ap, _∙_}
-use mathlib.Core.Bool.{Bool, true, false}
-use mathlib.Core.Option.{Option}
+use mathlib.Core.Bool.{Bool, true, false, true≢false}
+use mathlib.Core.Option.{Option, none}
 use mathlib.Core.List.{List}
 use lib.ListN.{length}
+use Rattle.tokens.specs.Tokens.{Toks, toks}
 use Rattle.meaning.specs.Refusals.{notPlayable, acrossEdge}
+use Rattle.meaning.specs.Reader.{ok}
+use Rattle.meaning.specs.Body.{Body}
+use Rattle.meaning.specs.Document.{Read, document}
 use Rattle.meaning.specs.Edges.{firstInRun}
 use Rattle.meaning.specs.Meaning.{Answer, given, refused, answering, firsts, ordered, meaning}
 use Rattle.meaning.specs.Services.{Counts, counts, namesOf}
@@ -62,6 +66,16 @@ module _ {w : Watch} {text places lists tplaces waves book rows list : List ℕ}
     pub meaning-given : b .failed ≡ false → meaning text ≡ given (meantBy (f .it))
     unfolding played ordered
     meaning-given h = meant-by ∙ rw (p .decides f .sound on, as-many (q .decides f .sound h), played, ordered)
+
+  -- where every event lies within its own cycle no pair is out of order
+  pub quiet-crosses : ((d : Read) (ts : Toks) → document (toks text 0) ≡ ok d ts → (n : ℕ) (run : Body) → firstInRun (d .tables) n run ≡ none)
+      → Crosses text places lists tplaces waves book rows list v (record { failed = false; place = 0 })
+  quiet-crosses q = record {
+    decides = λ g. record {
+      fails = λ h. absurd (true≢false (sym h));
+      sound = λ h. (let r = sound-runs text (g .is) in q (g .it .read) (r .rest) (r .read) (length (g .it .read .signals)) (g .it .run));
+    };
+  }
 
   -- ---- the counts and the names
 

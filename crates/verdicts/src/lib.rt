@@ -254,7 +254,8 @@ fn unplayable<'a>(
     }
 }
 
-// The first pair of neighbouring cycles of a text's run that is not in order, searched for by playing it.
+// The first pair of neighbouring cycles of a text's run that is not in order, searched for by playing it. Its tables take 2.5 MB: where two functions call it, they
+// are no part of the stack that every text takes.
 fn crossing<'a>(
     text: &'a [u8],
     places: &'a [usize],
@@ -293,31 +294,7 @@ fn crossing<'a>(
     )
 }
 
-// The same, where 1 to 16 leave the text. In most texts every event lies within its own cycle, and nothing is played.
-fn across<'a>(
-    text: &'a [u8],
-    places: &'a [usize],
-    lists: &'a [u16],
-    tplaces: &'a [usize],
-    waves: &'a [u8],
-    book: &'a [usize],
-    rows: &'a [u16],
-    list: &'a [usize],
-    v: Verdict,
-) -> Failing
-    requires { ⌜ ((w : Watch) × Found (now text) w (now places) (now lists) (now tplaces) (now waves) (now book) (now rows) (now list) v) ⌝ }
-    ensures { λ r. ⌜ Crosses (now (text .entry)) (now (places .entry)) (now (lists .entry)) (now (tplaces .entry)) (now (waves .entry)) (now (book .entry)) (now (rows .entry)) (now (list .entry)) v r ⌝ }
-{
-    if !quiet::is_quiet(text) {
-        return crossing(text, places, lists, tplaces, waves, book, rows, list, v);
-    }
-    Failing {
-        failed: false,
-        place: 0,
-    }
-}
-
-// What 17 and 25 say of a text's run, where 1 to 16 leave the text.
+// What 17 and 25 say of a text's run, where 1 to 16 leave the text. In most texts every event lies within its own cycle, and nothing is played for 25.
 pub fn failing<'a>(
     text: &'a [u8],
     places: &'a [usize],
@@ -351,7 +328,10 @@ pub fn failing<'a>(
             place: f.place,
         };
     }
-    let x = across(text, places, lists, tplaces, waves, book, rows, list, v);
+    if quiet::is_quiet(text) {
+        return Unfit { no: 0, place: 0 };
+    }
+    let x = crossing(text, places, lists, tplaces, waves, book, rows, list, v);
     if x.failed {
         return Unfit {
             no: ACROSS_EDGE,
@@ -378,7 +358,7 @@ fn play<'a>(
     requires { ⌜ Found (now text) (wanted .watch) (now places) (now lists) (now tplaces) (now waves) (now book) (now rows) (now list) v × NotesSound (now text) (now used) v × (length (now used) ≡ tableSize) ⌝ }
     ensures { λ r. ⌜ Judges (now (text .entry)) wanted r ⌝ }
 {
-    let f = failing(
+    let f = unplayable(
         text,
         places,
         lists,
@@ -390,8 +370,15 @@ fn play<'a>(
         used,
         v,
     );
-    if f.no != 0 {
-        return refused(f.no, f.place);
+    if f.failed {
+        return refused(NOT_PLAYABLE, f.place);
+    }
+    if quiet::is_quiet(text) {
+        return told(text, places, tplaces, v, wanted);
+    }
+    let x = crossing(text, places, lists, tplaces, waves, book, rows, list, v);
+    if x.failed {
+        return refused(ACROSS_EDGE, x.place);
     }
     told(text, places, tplaces, v, wanted)
 }

@@ -2,7 +2,6 @@
 use Prim.Native.Nat.{_-_, _≤_}
 use native.Mathlib.Omega.{arith}
 use mathlib.Core.Path.{refl}
-use lib.ListN.{take}
 use Rattle.spots.proofs.Joined.{joined}
 use Rattle.spans.proofs.Adding.{Through, through-more, through-all}
 use borrow.Author.Needs.{needs}

@@ -4,7 +4,7 @@ use Rattle.tokens.specs.Written.{bytes}
 use Rattle.signals.specs.Names.{namesOf}
 use Rattle.spots.proofs.Tabling.{table-parts, table-ends}
 use Rattle.spans.proofs.Fitting.{waves-fit}
-use Rattle.spans.proofs.Tables.{table-few, held-more}
+use Rattle.spans.proofs.Tables.{table-few, held-more, held-clear}
 use borrow.Author.Needs.{needs}
 use Rattle.spans.proofs.table.Statement.{statement}
 use Rattle.spans.proofs.table.Tie as tie
@@ -59,9 +59,10 @@ returns c =
     let ns = namesOf (start .args .text .now) (start .args .places .now) (start .args .lists .now) (start .args .names) in
     λ tabs it us h y. (
     let x = table-parts ns tabs y (c .before .before .before .before .before .before .before .before .before .before .before .due .ensures) (c .before .before .before .before .before .before .before .before .before .before .name .ensures) (c .before .before .before .before .before .before .before .before .before .head .ensures) in
-    let w = c .before .before .before .before .before .before .waveforms .ensures (x .waves) (x .rest) (x .read) in
+    let z = held-clear h (omega (arith, x .few, h .count)) in
+    let w = c .before .before .before .before .before .before .waveforms .ensures (x .waves) (x .rest) (x .read) (z .0) (z .1) in
     let e = table-ends ns tabs x (w .0) (c .due2 .ensures) in
-    (e .1, held-more _ (c .before .before .before .before .before .before .before .before .before .head .result .n) (x .waves) h (e .0) (waves-fit ns .all _ (x .waves) (x .rest) (x .read .gives)) (w .2) (x .few) (start .pre .0 .0 .each) (w .1 .0) (w .1 .1)))
+    (e .1, held-more _ (c .before .before .before .before .before .before .before .before .before .head .result .n) (x .waves) h (e .0) (waves-fit ns .all _ (x .waves) (x .rest) (x .read .gives)) (x .few) (start .pre .0 .0 .each) (w .1 .0) (w .1 .1)))
 
 pub table-spec : {M : Type 1} → statement M
 table-spec =

@@ -5,7 +5,7 @@ use mathlib.Core.List.{[]}
 use lib.ListN.{length-replicate}
 use Rattle.spots.specs.Spots.{spotsMost}
 use Rattle.spots.proofs.Spotting.{blank-spots}
-use Rattle.spans.proofs.Fitting.{waves-fit, beyond-none}
+use Rattle.spans.proofs.Fitting.{waves-fit}
 use borrow.Author.Needs.{needs}
 use Rattle.spans.proofs.waveforms.Statement.{statement}
 use Rattle.spans.proofs.waveforms.Tie as tie
@@ -34,10 +34,10 @@ same-length-2 c = search needs
 
 returns : tie.Need-returns
 returns c =
-    λ ws us x. (
+    λ ws us x y z. (
     let k = c .before .before .before .before .before .before .before .before .before .table-spots .ensures [] ws us (blank-spots _) x in
     let fit = waves-fit _ .all _ ws us (x .gives) in
-    (k .0, c .before .before .before .before .table-times .ensures ws (k .1) fit, beyond-none (k .1) (c .before .before .before .before .before .before .before .before .before .table-spots .kept .1 .1 .1 .1 .1 .0) fit))
+    (k .0, c .before .before .before .before .table-times .ensures ws (k .1) fit y z))
 
 pub waveforms-spec : {M : Type 1} → statement M
 waveforms-spec =
