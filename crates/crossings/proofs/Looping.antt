@@ -2,7 +2,7 @@
 use Prim.Native.Nat.{ℕ, zero, suc, _+_, _*_, _-_, _<_, _≤_}
 use native.Mathlib.Omega.{arith}
 use mathlib.Core.Path.{_≡_, refl, sym, ap, ap₂, _∙_, subst}
-use mathlib.Core.Bool.{Bool, true, false, _||_}
+use mathlib.Core.Bool.{Bool, true, false, _||_, true≢false}
 use mathlib.Core.Option.{Option, none, some}
 use mathlib.Core.List.{List, [], _∷_, _++_, append-nil, append-assoc}
 use lib.Dec.{eqb, ltb}
@@ -26,7 +26,7 @@ use Rattle.crossings.specs.Rows.{rowsMost, rowsOf, Seen, Ample, cycleIn,
 use Rattle.crossings.specs.Crossings.{Plays}
 use Rattle.crossings.proofs.Storing.{window}
 use Rattle.crossings.proofs.Stepping.{same-played}
-use Rattle.crossings.proofs.Passing.{differ, first-++, stays-failing, passed-both, passed-failing, passed-less, Same, passed-from, same-stored, same-then}
+use Rattle.crossings.proofs.Passing.{first-++, stays-failing, passed-both, passed-failing, passed-less, Same, passed-from, same-stored, same-then}
 
 -- ---- first cycles
 
@@ -153,9 +153,9 @@ module _ (t n more : ℕ) (b : Body) (s : State) {g : Ground} {tabs : Tables} {l
         by (suc m) h true e q = record {
           tells = record {
             passed = passed-failing e (stays-failing tabs _ (play t b s .1) (again m (play t b) (play t b s .0) .1) (once .fails e));
-            shows = λ d. absurd (differ (sym e ∙ d));
+            shows = λ d. absurd (true≢false (sym e ∙ d));
           };
-          behind = λ d. absurd (differ (sym e ∙ d));
+          behind = λ d. absurd (true≢false (sym e ∙ d));
         }
         by (suc m) h false e q = subst (λ (k : ℕ). Plays g tabs level rows y v₀ v us r (again k (play t b) s)) (sym (one-only (suc m) h (ltb-true (suc m) 2 q)))
             (subst (Plays g tabs level rows y v₀ v us r) (sym (again-once (play t b) s)) (record { tells = record { passed = once; shows = a .tells .shows }; behind = a .behind }))
@@ -217,9 +217,9 @@ module _ (t n more : ℕ) (b : Body) (s : State) {g : Ground} {tabs : Tables} {l
               tells = record {
                 passed = passed-failing e (ap (failingBehind tabs (rowAt (g .signals) v₀ 0)) (sym (append-assoc (play t b s .1) (play t b (play t b s .0) .1) (again m (play t b) (play t b (play t b s .0) .0) .1)))
                     ∙ stays-failing tabs _ (play t b s .1 ++ play t b (play t b s .0) .1) (again m (play t b) (play t b (play t b s .0) .0) .1) (twice .fails e));
-                shows = λ d. absurd (differ (sym e ∙ d));
+                shows = λ d. absurd (true≢false (sym e ∙ d));
               };
-              behind = λ d. absurd (differ (sym e ∙ d));
+              behind = λ d. absurd (true≢false (sym e ∙ d));
             }
             by (suc (suc m)) h false e d = subst (λ (k : ℕ). Plays g tabs level rows y′ v₀ w us r′ (again k (play t b) s)) (two-only (suc (suc m)) h (ltb-true (suc (suc m)) 3 d))
                 (subst (Plays g tabs level rows y′ v₀ w us r′) (sym (again-twice (play t b) s)) (record { tells = record { passed = twice; shows = a′ .tells .shows }; behind = a′ .behind }))

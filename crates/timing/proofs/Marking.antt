@@ -3,19 +3,20 @@ use Prim.Native.Nat.{ℕ, zero, suc, _+_, _*_, _-_, _≤_, _<_, min}
 use native.Mathlib.Omega.{arith}
 use native.Mathlib.Numerals.{add-one}
 use mathlib.Core.Path.{_≡_, refl, sym, ap, _∙_}
-use mathlib.Core.Bool.{Bool, true, false, _&&_, _||_}
+use mathlib.Core.Bool.{Bool, true, false, _&&_, _||_, or-false}
 use mathlib.Core.List.{List, [], _∷_, _++_}
 use lib.ListN.{length, getD, take, drop, set, drop-of-length-le, length-take, length-drop}
 use lib.Seq.{getD-set-same, getD-set-other, take-suc, take-all, take-take}
 use lib.Dec.{eqb, ltb, leb}
-use borrow.Author.Tests.{eqb-true, eqb-false, eq-eqb, ne-eqb, ltb-true, lt-ltb, leb-true, leb-false}
+use borrow.Author.Tests.{eqb-true, eqb-false, ltb-true, lt-ltb, leb-true, leb-false}
 use Rattle.tokens.specs.Bytes.{digit, letter, between}
+use Rattle.tokens.proofs.Bools.{both, eqb-comm}
 use Rattle.meaning.specs.Bounds.{signalsMost}
 use Rattle.meaning.specs.Lists.{has, repeats}
 use Rattle.meaning.specs.Timing.{Event, Wave, waveChar, allChars, taken, wavesOf, wavesFor}
 use Rattle.meaning.specs.Meaning.{hasWave}
+use Rattle.meaning.proofs.Lists.{has-append}
 use Rattle.words.proofs.Words.{cut}
-use Rattle.words.proofs.Loops.{both}
 use Rattle.timing.specs.Marks.{charsMost, tableSize, mark, Marks, any, markAmong, Marked, Below}
 
 -- ---- loops over characters and signals
@@ -73,13 +74,6 @@ chars-below (b ∷ w) (suc i) h k = chars-below w i (both (waveChar b) (allChars
 
 -- ---- one mark more
 
-eqb-comm : (a b : ℕ) → eqb a b ≡ eqb b a
-eqb-comm a b = by (eqb b a) refl
-  where
-    by : (x : Bool) → eqb b a ≡ x → eqb a b ≡ x
-    by true e = eq-eqb a b (sym (eqb-true b a e))
-    by false e = ne-eqb a b λ q. eqb-false b a e (sym q)
-
 mark-set : (t : List ℕ) (s b s′ b′ : ℕ) → length t ≡ tableSize → s < signalsMost → b < charsMost
     → mark (set t (s * charsMost + b) 1) s′ b′ ≡ (mark t s′ b′ || eqb s s′ && eqb b b′)
 mark-set t s b s′ b′ l h k = by (ltb b′ charsMost) refl (eqb s s′) refl (eqb b b′) refl
@@ -118,16 +112,7 @@ mark-set t s b s′ b′ l h k = by (ltb b′ charsMost) refl (eqb s s′) refl 
 
 has-more : (x : ℕ) (xs : List ℕ) (y : ℕ) → has x (xs ++ y ∷ []) ≡ (has x xs || eqb y x)
 unfolding has
-has-more x [] y = by (eqb y x)
-  where
-    by : (b : Bool) → (b || false) ≡ b
-    by true = refl
-    by false = refl
-has-more x (z ∷ xs) y = ap (λ (b : Bool). eqb z x || b) (has-more x xs y) ∙ by (eqb z x)
-  where
-    by : (b : Bool) → (b || (has x xs || eqb y x)) ≡ ((b || has x xs) || eqb y x)
-    by true = refl
-    by false = refl
+has-more x xs y = has-append x xs (y ∷ []) ∙ ap (λ (b : Bool). has x xs || b) (or-false (eqb y x))
 
 pub has-taken : (x : ℕ) (xs : List ℕ) (i : ℕ) → i < length xs → has x (take (i + 1) xs) ≡ (has x (take i xs) || eqb (getD xs i 0) x)
 has-taken x xs i h = rw (add-one, take-suc xs i 0 h) (has-more x (take i xs) (getD xs i 0))
