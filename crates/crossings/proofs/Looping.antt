@@ -3,7 +3,7 @@ use Prim.Native.Nat.{ℕ, zero, suc, _+_, _*_, _-_, _<_, _≤_}
 use native.Mathlib.Omega.{arith}
 use mathlib.Core.Path.{_≡_, refl, sym, ap, ap₂, _∙_, subst}
 use mathlib.Core.Bool.{Bool, true, false, _||_, true≢false}
-use mathlib.Core.Option.{Option, none, some}
+use mathlib.Core.Option.{Option, none, some, orElse}
 use mathlib.Core.List.{List, [], _∷_, _++_, append-nil, append-assoc}
 use lib.Dec.{eqb, ltb}
 use lib.ListN.{getD}
@@ -14,9 +14,9 @@ use Rattle.meaning.specs.Timing.{Tables}
 use Rattle.meaning.specs.Body.{Body}
 use Rattle.meaning.specs.Run.{State, Cycle, Played as Play, follow, again, play}
 use Rattle.meaning.specs.Statements.{Env}
-use Rattle.meaning.proofs.Turns.{Plain, plain-twice, keeps, steady, orElse}
+use Rattle.meaning.proofs.Turns.{Plain, plain-twice, loop-left, keeps, steady}
 use Rattle.meaning.specs.Edges.{lastBehind, failingBehind}
-use Rattle.edges.proofs.Loops.{opening, opening-loop, loop-failing, loop-last, loop-left, steady-failing, steady-last}
+use Rattle.edges.proofs.Loops.{opening, opening-loop, loop-failing, loop-last, steady-failing, steady-last}
 use Rattle.pins.specs.Shown.{tableOf, Shows, Roomy}
 use Rattle.plays.specs.declared.Played.{Played}
 use Rattle.plays.specs.Plays.{Ground, Arrays, Showing, Standing}
@@ -253,7 +253,7 @@ module _ (t n more : ℕ) (b : Body) (s : State) {g : Ground} {tabs : Tables} {l
               opened′ = a′ .tells .passed .noted sound′ .first rows (omega arith) (omega arith) ∙ ap (λ (o : Option Cycle). firstSeen o (play t b (play t b s .0) .1)) (again-forgot .here)
 
               ends : play t b (play t b s .0) .0 ≡ again n (play t b) s .0
-              ends = plain-twice t b plain s ∙ sym (loop-left tabs t b plain s none (suc (suc (n - 3)))) ∙ ap (λ (k : ℕ). again k (play t b) s .0) many
+              ends = plain-twice t b plain s ∙ sym (loop-left t b plain s (suc (suc (n - 3)))) ∙ ap (λ (k : ℕ). again k (play t b) s .0) many
 
 -- ---- the next turn
 

@@ -3,13 +3,12 @@ use Prim.Native.Nat.{ℕ, _+_, _*_, _<_, _≤_}
 use native.Mathlib.Omega.{arith}
 use mathlib.Core.Path.{_≡_, refl, sym, ap, _∙_, subst}
 use mathlib.Core.Bool.{Bool, true, false, not, true≢false}
-use mathlib.Core.Option.{Option, none, some}
+use mathlib.Core.Option.{Option, none, some, orElse}
 use mathlib.Core.List.{List, [], _∷_, _++_}
 use lib.ListN.{getD}
 use borrow.Author.Tests.{not-true, not-false}
 use Rattle.meaning.specs.Timing.{Tables}
 use Rattle.meaning.specs.Run.{Cycle}
-use Rattle.meaning.proofs.Turns.{orElse}
 use Rattle.meaning.specs.Edges.{lastBehind, inOrder, fineBehind, failingBehind}
 use Rattle.edges.proofs.Behind.{last-++, failing-++}
 use Rattle.crossings.specs.Rows.{rowsMost, Seen, seen, Ample, cycleIn, rowAt, Stored, firstSeen, atMostOne, Noted, Long, Passed, Fine, Closed}
