@@ -4,7 +4,6 @@ use native.Mathlib.Omega.{arith}
 use mathlib.Core.Path.{_≡_, sym, _∙_}
 use mathlib.Core.Bool.{true, false}
 use mathlib.Core.List.{List}
-use Rattle.tokens.specs.Tokens.{token}
 use Rattle.meaning.specs.Reader.{dueOf}
 use Rattle.words.specs.Cursor.{alive, Goes}
 use Rattle.words.specs.declared.Cursor.{Cursor}
