@@ -4,7 +4,7 @@ use Prim.Native.Nat.{ℕ, _+_, _-_, _≤_, _<_, min}
 use native.Mathlib.Omega.{arith}
 use native.Mathlib.Nat.{add-zero}
 use mathlib.Core.Path.{_≡_, refl, sym, ap, _∙_}
-use mathlib.Core.Bool.{Bool, true, false, not, _&&_, _||_, true≢false}
+use mathlib.Core.Bool.{Bool, true, false, not, _&&_, _||_, true≢false, Bool·not-not}
 use mathlib.Core.List.{List, [], _∷_, _++_}
 use lib.Dec.{eqb}
 use lib.ListN.{length, getD}
@@ -92,12 +92,8 @@ module _ {b : Body} {row : List ℕ} (uses : Uses b row) (s : ℕ) (below : s < 
       let u = uses .outside-is s below in
       let out : not (eqb (getD row s 0) 0) ≡ has s (outside b) =
       ap not (eqb-same (getD row s 0) 0 (count s (outside b)) 0 (λ e. omega arith) (λ e. omega arith)) ∙ sym (has-count s (outside b)) in
-      let shift : not (eqb (getD row (signalsMost + s) 0) 0) ≡ has s (shifting b) = ap not flagged ∙ twice (has s (shifting b)) in
+      let shift : not (eqb (getD row (signalsMost + s) 0) 0) ≡ has s (shifting b) = ap not flagged ∙ Bool·not-not (has s (shifting b)) in
       rw (out, shift) (sym (has-append s (outside b) (shifting b)))
-    where
-      twice : (z : Bool) → not (not z) ≡ z
-      twice true = refl
-      twice false = refl
 
 -- ---- both together
 

@@ -2,8 +2,8 @@
 use Prim.Native.Nat.{ℕ, _+_, _*_, _<_}
 use native.Mathlib.Omega.{arith}
 use native.Mathlib.Nat.{add-zero}
-use mathlib.Core.Path.{_≡_, refl, ap, _∙_, subst}
-use mathlib.Core.Bool.{Bool, true, false, _&&_}
+use mathlib.Core.Path.{_≡_, refl, sym, ap, _∙_, subst}
+use mathlib.Core.Bool.{false, _&&_, and-true}
 use mathlib.Core.List.{List, [], _∷_}
 use lib.ListN.{length, getD}
 use borrow.Author.Tests.{ne-eqb}
@@ -38,8 +38,4 @@ module _ (l m : List ℕ) where
 
   pub one-inside : {s : ℕ} → l ≡ s ∷ [] → has s m ≡ (isOne l && inside l m)
   unfolding isOne inside
-  one-inside {s} e = rw e (by (has s m))
-    where
-      by : (z : Bool) → z ≡ (z && true)
-      by true = refl
-      by false = refl
+  one-inside {s} e = rw e (sym (and-true (has s m)))

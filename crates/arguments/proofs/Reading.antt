@@ -20,7 +20,7 @@ use Rattle.sets.proofs.Tidy.{TidyBelow}
 use Rattle.words.specs.declared.Cursor.{Cursor}
 use Rattle.words.specs.Cursor.{ahead as aheadTok, alive, Goes, Checked}
 use Rattle.words.specs.Table.{names}
-use Rattle.words.proofs.Flow.{given, then, stays, checked, passed, read, alive-before}
+use Rattle.words.proofs.Flow.{given, then, stays, checked, passed, read, alive-before, behind-due}
 use Rattle.words.proofs.Names.{old-named}
 use Rattle.signals.specs.Names.{rowLength, listAt, namesOf}
 use Rattle.timing.specs.Makes.{Makes}
@@ -32,7 +32,6 @@ use Rattle.measures.specs.Uses.{Uses}
 use Rattle.arguments.specs.Supplied.{marksOf, Argument, Supplied, UsedRow}
 use Rattle.arguments.proofs.Counted.{marks-assigned}
 use Rattle.arguments.proofs.Named.{one-is, one-below}
-use Rattle.arguments.proofs.Read.{due-behind}
 use Rattle.arguments.proofs.Supplying.{supplied-more}
 
 -- ---- the name
@@ -86,7 +85,7 @@ data-at {text} {d} {r} {n} x live =
     let small = ltb-false argumentMost n (passed (x .few) refl live) in
     let on = alive-before (checked {text = text} (x .few) refl refl) live in
     let equal = alive-before (x .fills .goes) on in
-    let there = due-behind (bytes "=") (x .due-goes) equal in
+    let there = behind-due (bytes "=") (x .due-goes) equal in
     let counted = held-count (x .fills .holds on) (omega arith) in
     record { counted = counted; few = omega arith; at = (x .last, _, ap (dataRead false) (sym there) ∙ read (x .fills .goes) on .gave) }
 

@@ -14,11 +14,9 @@ ghost use Rattle.timing.specs.Makes.{Makes};
 ghost use Rattle.assigns.specs.Given.{Ready, Gave};
 ghost use Rattle.measures.specs.Uses.{rowLength, Uses};
 ghost use Rattle.arguments.specs.Supplied.{Supplied, UsedRow, Fits, TurnsBy, blockSize, Idle, BlockFits, fitsAt};
-use assigns::BAD_DATA;
+use data::BAD_ARGUMENT;
+use words::BAD_DATA;
 use words::Cursor;
-
-// Refusal: not one signal, or one without `#` in the body.
-pub const BAD_ARGUMENT: u8 = 13;
 
 // The most characters of an argument.
 const ARGUMENT_MOST: usize = 4_096;

@@ -9,10 +9,8 @@ ghost use Rattle.meaning.specs.Body.{Assigns};
 ghost use Rattle.meaning.specs.Data.{assigned, assign as assignDue, assigns as assignsDue};
 ghost use Rattle.signals.specs.Names.{namesMost, rowLength, listAt, namesOf};
 ghost use Rattle.assigns.specs.Given.{Gave, Gives, placed, Row, Ready};
+use words::BAD_DATA;
 use words::Cursor;
-
-// Refusal: a signal assigned twice, or not as many characters as signals.
-pub const BAD_DATA: u8 = 12;
 
 // How many signals the name of number i has.
 pub fn size(lists: &[u16], i: usize) -> usize

@@ -10,9 +10,8 @@ use Rattle.meaning.specs.Body.{Body}
 use Rattle.meaning.specs.Statements.{Decl, Env, statements, declared}
 use Rattle.words.specs.declared.Cursor.{Cursor}
 use Rattle.words.specs.Cursor.{alive, stream, from, Goes}
-use Rattle.words.proofs.Flow.{from-on, from-stop, given, then, alive-before}
+use Rattle.words.proofs.Flow.{from-on, from-stop, given, then, alive-before, behind-due}
 use Rattle.timing.specs.Makes.{Makes}
-use Rattle.arguments.proofs.Read.{due-behind}
 
 declared-goes : {text : List ℕ} {c r : Cursor} {b : Body} (e : Env) (own : Bool) → Goes text c (statements e depthMost own) r b
     → Goes text c (declared e own) r (record { body = b; from = stream text c })
@@ -33,5 +32,5 @@ declared-made {text} {c = c} e own opening m =
     record {
       it = record { body = m .it; from = stream text c };
       goes = declared-goes e own (m .goes);
-      held = λ live. (due-behind _ opening (alive-before (m .goes) live), m .held live);
+      held = λ live. (behind-due _ opening (alive-before (m .goes) live), m .held live);
     }

@@ -20,7 +20,7 @@ ghost use Rattle.noted.specs.Noted.{Grows};
 ghost use Rattle.heads.specs.Known.{Describes, Described};
 ghost use Rattle.bodies.specs.Bodies.{Notes, Counted, Summed, HeadIs, Held, went as wentOn, last as lastOf, Turned, Begun};
 ghost use Rattle.bodies.specs.Blocks.{oneMore, oneOf as oneDue, opening, blockOf, wordOf, Declares};
-use arguments::BAD_ARGUMENT;
+use data::BAD_ARGUMENT;
 use heads::Known;
 use measures::DEPTH;
 use measures::Measure;

@@ -7,14 +7,7 @@ use mathlib.Core.List.{List, [], _∷_, _++_}
 use lib.ListN.{length, getD, take, drop, set}
 use lib.Seq.{take-suc, length-take-le}
 use Rattle.data.specs.Filled.{over}
-use Rattle.data.proofs.Over.{over-length, over-set}
-
--- they have room
-pub over-all : (xs buffer : List ℕ) → length xs ≤ length buffer → over xs buffer ≡ xs ++ drop (length xs) buffer
-unfolding over
-over-all [] buffer h = refl
-over-all (x ∷ xs) [] h = absurd (omega arith)
-over-all (x ∷ xs) (b ∷ buffer) h = ap (λ (l : List ℕ). x ∷ l) (over-all xs buffer (omega arith))
+use Rattle.data.proofs.Over.{over-length, over-set, over-fits}
 
 -- the first i of some numbers stand there
 pub record Fronted (xs before : List ℕ) (i : ℕ) (buffer : List ℕ) : Type 0 where
@@ -38,4 +31,4 @@ module _ {xs before : List ℕ} where
     pub fronted-all : (n : ℕ) → i ≡ n → n ≤ length xs → n ≤ length before → buffer ≡ take n xs ++ drop n before
     fronted-all n e h k =
         let l : length (take n xs) ≡ n = length-take-le n xs h in
-        f .is ∙ ap (λ (m : ℕ). over (take m xs) before) e ∙ over-all (take n xs) before (omega (arith, l)) ∙ ap (λ (m : ℕ). take n xs ++ drop m before) l
+        f .is ∙ ap (λ (m : ℕ). over (take m xs) before) e ∙ over-fits (take n xs) before (omega (arith, l)) ∙ ap (λ (m : ℕ). take n xs ++ drop m before) l

@@ -1,7 +1,7 @@
 -- Statements one after the other: who plays what is left of a body has played the body.
 use Prim.Native.Nat.{ℕ, _<_}
 use mathlib.Core.Path.{_≡_, refl, sym, _∙_}
-use mathlib.Core.Bool.{Bool, true, false, _||_}
+use mathlib.Core.Bool.{Bool, true, false, _||_, true≢false}
 use Rattle.tokens.specs.Tokens.{Toks, left}
 use Rattle.meaning.specs.Timing.{Tables}
 use Rattle.meaning.specs.Body.{Body}
@@ -14,7 +14,7 @@ use Rattle.plays.specs.Plays.{Ground, Arrays, Standing, Kept}
 use Rattle.tokens.proofs.Bools.{neither}
 use Rattle.crossings.specs.Rows.{rowsOf, Seen, Long, Passed, Clock, Timed}
 use Rattle.crossings.specs.Crossings.{Plays, Goes, Steps}
-use Rattle.crossings.proofs.Passing.{differ, passed-both, passed-failing}
+use Rattle.crossings.proofs.Passing.{passed-both, passed-failing}
 
 -- at the cursor a rest of the body b is held, and who plays that has played b, from v₀ on
 pub record Onward (g : Ground) (more level table : ℕ) (x : Arrays) (v₀ v : Seen) (E : Env) (us : Toks) (t : ℕ) (b : Body) (s : State) (c : Cursor) : Type 0 where
@@ -60,8 +60,8 @@ module _ {g : Ground} {more level table : ℕ} {x : Arrays} {v₀ : Seen} {E : E
       where
         by : (f : Bool) → r .failed ≡ f → (f || r .ends) ≡ true → Plays g (E .tables) level (rowsOf more) y v w us r (play t (o .rest) (o .state))
         by true e q = record {
-          tells = record { passed = passed-failing e (h .fails e); shows = λ d. absurd (differ (sym e ∙ d)) };
-          behind = λ d. absurd (differ (sym e ∙ d));
+          tells = record { passed = passed-failing e (h .fails e); shows = λ d. absurd (true≢false (sym e ∙ d)) };
+          behind = λ d. absurd (true≢false (sym e ∙ d));
         }
         by false e q = h .ended e q
 

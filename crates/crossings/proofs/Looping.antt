@@ -2,8 +2,8 @@
 use Prim.Native.Nat.{ℕ, zero, suc, _+_, _*_, _-_, _<_, _≤_}
 use native.Mathlib.Omega.{arith}
 use mathlib.Core.Path.{_≡_, refl, sym, ap, ap₂, _∙_, subst}
-use mathlib.Core.Bool.{Bool, true, false, _||_}
-use mathlib.Core.Option.{Option, none, some}
+use mathlib.Core.Bool.{Bool, true, false, _||_, true≢false}
+use mathlib.Core.Option.{Option, none, some, orElse}
 use mathlib.Core.List.{List, [], _∷_, _++_, append-nil, append-assoc}
 use lib.Dec.{eqb, ltb}
 use lib.ListN.{getD}
@@ -14,9 +14,9 @@ use Rattle.meaning.specs.Timing.{Tables}
 use Rattle.meaning.specs.Body.{Body}
 use Rattle.meaning.specs.Run.{State, Cycle, Played as Play, follow, again, play}
 use Rattle.meaning.specs.Statements.{Env}
-use Rattle.meaning.proofs.Turns.{Plain, plain-twice, keeps, steady, orElse}
+use Rattle.meaning.proofs.Turns.{Plain, plain-twice, loop-left, keeps, steady}
 use Rattle.meaning.specs.Edges.{lastBehind, failingBehind}
-use Rattle.edges.proofs.Loops.{opening, opening-loop, loop-failing, loop-last, loop-left, steady-failing, steady-last}
+use Rattle.edges.proofs.Loops.{opening, opening-loop, loop-failing, loop-last, steady-failing, steady-last}
 use Rattle.pins.specs.Shown.{tableOf, Shows, Roomy}
 use Rattle.plays.specs.declared.Played.{Played}
 use Rattle.plays.specs.Plays.{Ground, Arrays, Showing, Standing}
@@ -26,7 +26,7 @@ use Rattle.crossings.specs.Rows.{rowsMost, rowsOf, Seen, Ample, cycleIn,
 use Rattle.crossings.specs.Crossings.{Plays}
 use Rattle.crossings.proofs.Storing.{window}
 use Rattle.crossings.proofs.Stepping.{same-played}
-use Rattle.crossings.proofs.Passing.{differ, first-++, stays-failing, passed-both, passed-failing, passed-less, Same, passed-from, same-stored, same-then}
+use Rattle.crossings.proofs.Passing.{first-++, stays-failing, passed-both, passed-failing, passed-less, Same, passed-from, same-stored, same-then}
 
 -- ---- first cycles
 
@@ -153,9 +153,9 @@ module _ (t n more : ℕ) (b : Body) (s : State) {g : Ground} {tabs : Tables} {l
         by (suc m) h true e q = record {
           tells = record {
             passed = passed-failing e (stays-failing tabs _ (play t b s .1) (again m (play t b) (play t b s .0) .1) (once .fails e));
-            shows = λ d. absurd (differ (sym e ∙ d));
+            shows = λ d. absurd (true≢false (sym e ∙ d));
           };
-          behind = λ d. absurd (differ (sym e ∙ d));
+          behind = λ d. absurd (true≢false (sym e ∙ d));
         }
         by (suc m) h false e q = subst (λ (k : ℕ). Plays g tabs level rows y v₀ v us r (again k (play t b) s)) (sym (one-only (suc m) h (ltb-true (suc m) 2 q)))
             (subst (Plays g tabs level rows y v₀ v us r) (sym (again-once (play t b) s)) (record { tells = record { passed = once; shows = a .tells .shows }; behind = a .behind }))
@@ -217,9 +217,9 @@ module _ (t n more : ℕ) (b : Body) (s : State) {g : Ground} {tabs : Tables} {l
               tells = record {
                 passed = passed-failing e (ap (failingBehind tabs (rowAt (g .signals) v₀ 0)) (sym (append-assoc (play t b s .1) (play t b (play t b s .0) .1) (again m (play t b) (play t b (play t b s .0) .0) .1)))
                     ∙ stays-failing tabs _ (play t b s .1 ++ play t b (play t b s .0) .1) (again m (play t b) (play t b (play t b s .0) .0) .1) (twice .fails e));
-                shows = λ d. absurd (differ (sym e ∙ d));
+                shows = λ d. absurd (true≢false (sym e ∙ d));
               };
-              behind = λ d. absurd (differ (sym e ∙ d));
+              behind = λ d. absurd (true≢false (sym e ∙ d));
             }
             by (suc (suc m)) h false e d = subst (λ (k : ℕ). Plays g tabs level rows y′ v₀ w us r′ (again k (play t b) s)) (two-only (suc (suc m)) h (ltb-true (suc (suc m)) 3 d))
                 (subst (Plays g tabs level rows y′ v₀ w us r′) (sym (again-twice (play t b) s)) (record { tells = record { passed = twice; shows = a′ .tells .shows }; behind = a′ .behind }))
@@ -253,7 +253,7 @@ module _ (t n more : ℕ) (b : Body) (s : State) {g : Ground} {tabs : Tables} {l
               opened′ = a′ .tells .passed .noted sound′ .first rows (omega arith) (omega arith) ∙ ap (λ (o : Option Cycle). firstSeen o (play t b (play t b s .0) .1)) (again-forgot .here)
 
               ends : play t b (play t b s .0) .0 ≡ again n (play t b) s .0
-              ends = plain-twice t b plain s ∙ sym (loop-left tabs t b plain s none (suc (suc (n - 3)))) ∙ ap (λ (k : ℕ). again k (play t b) s .0) many
+              ends = plain-twice t b plain s ∙ sym (loop-left t b plain s (suc (suc (n - 3)))) ∙ ap (λ (k : ℕ). again k (play t b) s .0) many
 
 -- ---- the next turn
 

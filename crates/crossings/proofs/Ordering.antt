@@ -3,7 +3,7 @@ use Prim.Native.Nat.{ℕ, suc, _+_, _<_, _≤_}
 use native.Mathlib.Omega.{arith}
 use native.Mathlib.Numerals.{add-one}
 use mathlib.Core.Path.{_≡_, refl, sym, ap, ap₂, _∙_}
-use mathlib.Core.Bool.{Bool, true, false, not, _&&_}
+use mathlib.Core.Bool.{Bool, true, false, not, _&&_, Bool·not-not}
 use mathlib.Core.Option.{Option, none, some}
 use mathlib.Core.List.{List}
 use lib.ListN.{length, getD, take, drop, length-drop, drop-of-length-le}
@@ -85,11 +85,7 @@ module _ {tabs : Tables} {n p j : ℕ} {first : List ℕ} {a q k : ℕ} {second 
 
     judgment : {r : Bool} → s < n → r ≡ this tabs n p j first a q k second b room space s → (v : Bool) → not r ≡ v → whole ≡ (not v && rest (s + 1))
     judgment {r} l e v o =
-        h .is ∙ parted tabs n p j first a q k second b room space s l ∙ ap (λ (x : Bool). x && rest (s + 1)) (sym e ∙ sym (not-not r) ∙ ap not o)
-      where
-        not-not : (r : Bool) → not (not r) ≡ r
-        not-not true = refl
-        not-not false = refl
+        h .is ∙ parted tabs n p j first a q k second b room space s l ∙ ap (λ (x : Bool). x && rest (s + 1)) (sym e ∙ sym (Bool·not-not r) ∙ ap not o)
 
     pub looked-next : {r : Bool} → s < n → r ≡ this tabs n p j first a q k second b room space s → not r ≡ false → Looked tabs n p j first a q k second b (s + 1)
     looked-next l e o = record { is = judgment l e false o }

@@ -2,20 +2,17 @@
 use Prim.Native.Nat.{ℕ, _+_, _*_, _<_, _≤_}
 use native.Mathlib.Omega.{arith}
 use mathlib.Core.Path.{_≡_, refl, sym, ap, _∙_, subst}
-use mathlib.Core.Bool.{Bool, true, false, not}
-use mathlib.Core.Option.{Option, none, some}
+use mathlib.Core.Bool.{Bool, true, false, not, true≢false}
+use mathlib.Core.Option.{Option, none, some, orElse}
 use mathlib.Core.List.{List, [], _∷_, _++_}
 use lib.ListN.{getD}
+use borrow.Author.Tests.{not-true, not-false}
 use Rattle.meaning.specs.Timing.{Tables}
 use Rattle.meaning.specs.Run.{Cycle}
-use Rattle.meaning.proofs.Turns.{orElse}
 use Rattle.meaning.specs.Edges.{lastBehind, inOrder, fineBehind, failingBehind}
 use Rattle.edges.proofs.Behind.{last-++, failing-++}
 use Rattle.crossings.specs.Rows.{rowsMost, Seen, seen, Ample, cycleIn, rowAt, Stored, firstSeen, atMostOne, Noted, Long, Passed, Fine, Closed}
 use Rattle.crossings.proofs.Storing.{cycleThere, row-seen, row-unseen}
-
-pub differ : true ≡ false → ⊥
-differ e = let z : _≡_ {A = ℕ} 0 1 = cc in omega arith
 
 -- ---- a pair
 
@@ -37,19 +34,11 @@ one-sound : (tabs : Tables) (o : Option Cycle) (c : Cycle) → fineBehind tabs o
 unfolding failingBehind
 one-sound tabs o c e = rw (e, failingBehind)
 
-not-true : (b : Bool) → not b ≡ true → b ≡ false
-not-true true e = absurd (differ (sym e))
-not-true false e = refl
-
-not-false : (b : Bool) → not b ≡ false → b ≡ true
-not-false true e = refl
-not-false false e = absurd (differ e)
-
 module _ {tabs : Tables} {n r : ℕ} {x : Seen} where
   pub closed-none : {p : ℕ} → getD (x .marks) (r * 3 + 2) 0 ≡ 0 → Closed tabs n r x false p
   unfolding atMostOne failingBehind
   closed-none h = record {
-    fails = λ e. absurd (differ (sym e));
+    fails = λ e. absurd (true≢false (sym e));
     sound = λ e. ap (λ (o : Option Cycle). failingBehind tabs (rowAt n x 0) (atMostOne o)) (row-unseen n x r h);
   }
 
@@ -68,13 +57,13 @@ module _ {tabs : Tables} {n rows : ℕ} {x y : Seen} {c : Cycle} {f : Bool} (h :
   pub cycle-fails : not f ≡ true → Passed tabs n rows x y true (c .at) (c ∷ [])
   cycle-fails q = record {
     fails = λ e. one-fails tabs (rowAt n x 0) c (sym (h .is) ∙ not-true f q);
-    sound = λ e. absurd (differ e);
-    noted = λ e. absurd (differ e);
+    sound = λ e. absurd (true≢false e);
+    noted = λ e. absurd (true≢false e);
   }
 
   pub cycle-noted : {p : ℕ} → not f ≡ false → Noted n rows x y (c ∷ []) → Passed tabs n rows x y false p (c ∷ [])
   cycle-noted q k = record {
-    fails = λ e. absurd (differ (sym e));
+    fails = λ e. absurd (true≢false (sym e));
     sound = λ e. one-sound tabs (rowAt n x 0) c (sym (h .is) ∙ not-false f q);
     noted = λ e. k;
   }
@@ -129,7 +118,7 @@ stays-failing tabs o a b h = failing-++ tabs o a b ∙ ap (λ (v : Option ℕ). 
 module _ {tabs : Tables} {n rows : ℕ} {x : Seen} where
   pub passed-none : {p : ℕ} → Passed tabs n rows x x false p []
   unfolding failingBehind
-  passed-none = record { fails = λ e. absurd (differ (sym e)); sound = λ e. refl; noted = λ e. noted-none }
+  passed-none = record { fails = λ e. absurd (true≢false (sym e)); sound = λ e. refl; noted = λ e. noted-none }
 
   pub passed-both : {y z : Seen} {p q : ℕ} {f : Bool} {a b : List Cycle} → Passed tabs n rows x y false p a → Passed tabs n rows y z f q b → Passed tabs n rows x z f q (a ++ b)
   passed-both {y} {z} {p} {q} {f} {a} {b} h k =
@@ -138,7 +127,7 @@ module _ {tabs : Tables} {n rows : ℕ} {x : Seen} where
 
   -- nothing more is told
   pub passed-failing : {z : Seen} {p : ℕ} {f : Bool} {l : List Cycle} → f ≡ true → failingBehind tabs (rowAt n x 0) l ≡ some p → Passed tabs n rows x z f p l
-  passed-failing e h = record { fails = λ q. h; sound = λ q. absurd (differ (sym e ∙ q)); noted = λ q. absurd (differ (sym e ∙ q)) }
+  passed-failing e h = record { fails = λ q. h; sound = λ q. absurd (true≢false (sym e ∙ q)); noted = λ q. absurd (true≢false (sym e ∙ q)) }
 
   -- fewer rows are in use
   pub passed-less : {z : Seen} {p more : ℕ} {f : Bool} {l : List Cycle} → rows ≤ more → Passed tabs n more x z f p l → Passed tabs n rows x z f p l

@@ -2,7 +2,7 @@
 use Prim.Native.Nat.{ℕ, _+_, _-_, _<_, _≤_}
 use native.Mathlib.Omega.{arith}
 use mathlib.Core.Path.{_≡_, refl, sym, ap, _∙_, subst}
-use mathlib.Core.Bool.{true, false}
+use mathlib.Core.Bool.{true, false, true≢false}
 use mathlib.Core.Option.{Option, none, some}
 use mathlib.Core.List.{List, [], _∷_, append-nil}
 use lib.ListN.{length}
@@ -27,7 +27,6 @@ use Rattle.plays.proofs.Running.{opening-long}
 use Rattle.plays.proofs.Texts.{is-whole, is-listed, listed-at}
 use Rattle.crossings.specs.Rows.{Seen, Ample, Clock, Timed}
 use Rattle.crossings.specs.Run.{PlaysListed, Decides}
-use Rattle.crossings.proofs.Passing.{differ}
 
 -- ---- one listed pattern
 
@@ -149,7 +148,7 @@ module _ (text places lists tplaces waves book rows list : List ℕ) (known : Kn
 
 module _ {d : Read} {run : Body} {p : ℕ} where
   pub decides-failing : firstInRun (d .tables) (length (d .signals)) run ≡ some p → Decides d run (record { failed = true; place = p })
-  decides-failing h = record { fails = λ e. h; sound = λ e. absurd (differ e) }
+  decides-failing h = record { fails = λ e. h; sound = λ e. absurd (true≢false e) }
 
   pub decides-sound : firstInRun (d .tables) (length (d .signals)) run ≡ none → Decides d run (record { failed = false; place = p })
-  decides-sound h = record { fails = λ e. absurd (differ (sym e)); sound = λ e. h }
+  decides-sound h = record { fails = λ e. absurd (true≢false (sym e)); sound = λ e. h }

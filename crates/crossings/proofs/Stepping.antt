@@ -2,7 +2,7 @@
 use Prim.Native.Nat.{ℕ, _<_}
 use native.Mathlib.Omega.{arith}
 use mathlib.Core.Path.{_≡_, refl, sym, ap, _∙_, subst}
-use mathlib.Core.Bool.{Bool, true, false}
+use mathlib.Core.Bool.{Bool, true, false, true≢false}
 use mathlib.Core.List.{List, []}
 use lib.Dec.{ltb}
 use borrow.Author.Tests.{lt-ltb}
@@ -36,7 +36,7 @@ use Rattle.plays.proofs.Shifting.{token-at, tells-given}
 use Rattle.plays.proofs.Stepping.{vec-playable, set-playable, meets, Inside, Called, one-vector}
 use Rattle.crossings.specs.Rows.{rowsOf, Seen, rowAt, Clock, Timed}
 use Rattle.crossings.specs.Crossings.{Told, Tells, Plays, Vectored, Steps}
-use Rattle.crossings.proofs.Passing.{differ, passed-none, passed-as, stays-failing}
+use Rattle.crossings.proofs.Passing.{passed-none, passed-as, stays-failing}
 
 -- ---- from the first statement to the rest
 
@@ -49,7 +49,7 @@ module _ {g : Ground} {ts : Toks} {more level t : ℕ} {y : Arrays} {v w : Seen}
   unfolding follow
   steps-on first rest is holding fits more-comes told on = record {
     fails = λ h. ap (λ (q : Play). failingBehind (E .tables) (rowAt (g .signals) v 0) (q .1)) is ∙ stays-failing (E .tables) _ (first .1) (play t rest (first .0) .1) (told .passed .fails h);
-    ended = λ h q. absurd (differ (sym q ∙ more-comes));
+    ended = λ h q. absurd (true≢false (sym q ∙ more-comes));
     goes = λ h q. record {
       first = first;
       rest = rest;
@@ -78,9 +78,9 @@ module _ {g : Ground} {c r : Cursor} {more level table : ℕ} {x : Arrays} {E : 
         let i = meets st on given args what m Ends q in
         let d = met-split i ends (i .told) in
         record {
-          fails = λ e. absurd (differ (sym e));
+          fails = λ e. absurd (true≢false (sym e));
           ended = λ e f. record { tells = rw (d .0) (told-none shown); behind = λ e. (i .on, d .1) };
-          goes = λ e f. absurd (differ f);
+          goes = λ e f. absurd (true≢false f);
         }
 
     pub vector-step : {w : Seen} {f : Bool} {k : Clock} (p : ℕ) → what ≡ Vector p → Timed (E .tables) k

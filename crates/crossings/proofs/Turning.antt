@@ -2,7 +2,7 @@
 use Prim.Native.Nat.{ℕ, suc, _+_, _-_, _<_, _≤_}
 use native.Mathlib.Omega.{arith}
 use mathlib.Core.Path.{_≡_, refl, sym, subst}
-use mathlib.Core.Bool.{Bool, true, false}
+use mathlib.Core.Bool.{Bool, true, false, true≢false}
 use mathlib.Core.List.{List, [], _∷_}
 use Rattle.meaning.specs.Timing.{Tables}
 use Rattle.meaning.specs.Body.{Assigns}
@@ -12,7 +12,7 @@ use Rattle.pins.specs.Shown.{Shows, Playable, Others, vector}
 use Rattle.pins.proofs.Callers.{playable-puts, others-none, others-then}
 use Rattle.crossings.specs.Rows.{Seen, cycleIn, Long, Passed, Clock, Timed}
 use Rattle.crossings.specs.Crossings.{Told, Vectored}
-use Rattle.crossings.proofs.Passing.{differ, long-none, long-then, passed-none, passed-both, stays-failing, passed-failing}
+use Rattle.crossings.proofs.Passing.{long-none, long-then, passed-none, passed-both, stays-failing, passed-failing}
 
 -- n turns are left from a state that the pins show, and whoever goes through their cycles has gone through those of `whole`, from v₀ on
 pub record Midway (tabs : Tables) (text : List ℕ) (signals : ℕ) (values : List ℕ) (table : ℕ) (feeds : List ℕ) (level rows : ℕ) (v₀ v : Seen) (p : ℕ) (a : Assigns) (n : ℕ) (whole : Played) : Type 0 where
@@ -49,7 +49,7 @@ module _ {tabs : Tables} {text : List ℕ} {signals : ℕ} {values : List ℕ} {
       unfolding again follow
       midway-fails e = record {
         passed = m .passes-as w true (passed-failing refl (stays-failing tabs _ (cycleAt p (puts a (m .state)) ∷ []) (again n (vector p a) (puts a (m .state)) .1) (one .fails e)));
-        shows = λ q. absurd (differ q);
+        shows = λ q. absurd (true≢false q);
       }
 
   midway-ends : Midway tabs text signals values table feeds level rows v₀ v p a 0 whole → Told tabs text signals values table feeds level rows v₀ v false p whole

@@ -34,10 +34,10 @@ const ROWS: usize = DEPTH * 2 + 1;
 const NUMBERS: usize = 3;
 
 // How a body is played: its Shift so often, in so many levels of bodies at most, at a level of its own.
-pub struct Frame {
-    pub turns: usize,
-    pub depth: usize,
-    pub level: usize,
+struct Frame {
+    turns: usize,
+    depth: usize,
+    level: usize,
 }
 
 // A statement without a cycle, up to the cursor.

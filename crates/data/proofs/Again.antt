@@ -9,8 +9,8 @@ use lib.Dec.{eqb}
 use lib.ListN.{length, take, drop, length-append, take-append-drop}
 use lib.Seq.{take-append-add, drop-drop, length-take-le}
 use borrow.Author.Tests.{ne-eqb, eqb-false}
+use Rattle.tokens.proofs.Bools.{neither}
 use Rattle.meaning.specs.Data.{stretched}
-use Rattle.words.proofs.Words.{neither}
 use Rattle.repeats.specs.Copied.{Extends}
 use Rattle.repeats.proofs.Repeating.{front-kept, rest-kept, run-is}
 use Rattle.data.specs.Filled.{countMost, over, Holds, Adds}

@@ -9,6 +9,7 @@ use lib.Dec.{eqb}
 use borrow.Author.Tests.{eqb-true}
 use Rattle.tokens.specs.Bytes.{between, digit, letter}
 use Rattle.tokens.specs.Tokens.{Tok}
+use Rattle.tokens.proofs.Bools.{neither}
 use Rattle.meaning.specs.Body.{mark}
 use Rattle.meaning.specs.Lists.{has}
 use Rattle.meaning.specs.Reader.{Reader, isWord}
@@ -16,9 +17,8 @@ use Rattle.meaning.specs.Timing.{waveChar, allChars}
 use Rattle.meaning.specs.Data.{charsOf, stretched, repeatOf, times, repeated, piece, part, dataRead}
 use Rattle.meaning.proofs.Takes.{Takes, Keeps}
 use Rattle.meaning.proofs.Taking.{takes-keeps, takes-any, takes-word, takes-bind, takes-closed, keeps-bind, keeps-give, keeps-if, keeps-within, keeps-oneOf}
-use Rattle.meaning.proofs.Gives.{Gives, gives-bind, gives-after, gives-give, gives-if, gives-closed}
-use Rattle.meaning.proofs.Choices.{gives-either, gives-taken, _also_}
-use Rattle.words.proofs.Words.{neither}
+use Rattle.meaning.proofs.Gives.{Gives, gives-bind, gives-after, gives-give, gives-if, gives-closed, gives-taken}
+use Rattle.meaning.proofs.Choices.{gives-either, _also_}
 
 -- ---- it takes a token
 

@@ -1,5 +1,7 @@
 // DATA: words, repeats and `#`, spelled out into a buffer that the caller lends.
+use words::BAD_DATA;
 use words::Cursor;
+use words::NOT_HERE;
 use words::Numbered;
 ghost use mathlib.Core.Path.{_≡_};
 ghost use mathlib.Core.Bool.{true};
@@ -11,6 +13,9 @@ ghost use Rattle.data.specs.Filled.{countMost, Adds, Puts, Fills, Single
 
 // The most that is counted: above the length of every buffer.
 const COUNT_MOST: usize = 9_223_372_036_854_775_808;
+
+// Refusal: a `#` where none may stand, or an argument that is not fit.
+pub const BAD_ARGUMENT: u8 = 13;
 
 // The cursor behind a piece, and how many characters there are with it.
 struct Put {
@@ -139,7 +144,7 @@ fn times(text: &[u8], c: Cursor) -> Numbered
             return Numbered { cursor, n: v.n };
         }
     }
-    let cursor = words::refuse_if(d, true, 4, c.at);
+    let cursor = words::refuse_if(d, true, NOT_HERE, c.at);
     Numbered { cursor, n: 0 }
 }
 
@@ -151,7 +156,7 @@ fn repeat(text: &[u8], c: Cursor, buffer: &mut [u8], n: usize) -> Put
     let d = t.cursor;
     let w = words::bytes_of(text, d.at, d.end);
     let e = words::word(text, d);
-    let cursor = words::refuse_if(e, !words::all_chars(w), 12, d.at);
+    let cursor = words::refuse_if(e, !words::all_chars(w), BAD_DATA, d.at);
     let m = stretch(buffer, n, t.n as usize, w);
     Put { cursor, n: m }
 }
@@ -163,19 +168,19 @@ fn piece(text: &[u8], c: Cursor, may: bool, buffer: &mut [u8], n: usize) -> Put
     let w = words::bytes_of(text, c.at, c.end);
     let d = words::step(text, c);
     if words::is_word(w) {
-        let cursor = words::refuse_if(d, !words::all_chars(w), 12, c.at);
+        let cursor = words::refuse_if(d, !words::all_chars(w), BAD_DATA, c.at);
         let m = copy(buffer, n, w);
         return Put { cursor, n: m };
     }
     if words::equal(w, b"#") {
-        let cursor = words::refuse_if(d, !may, 13, c.at);
+        let cursor = words::refuse_if(d, !may, BAD_ARGUMENT, c.at);
         let m = copy(buffer, n, w);
         return Put { cursor, n: m };
     }
     if words::equal(w, b"\\") {
         return repeat(text, d, buffer, n);
     }
-    let cursor = words::refuse_if(d, true, 4, c.at);
+    let cursor = words::refuse_if(d, true, NOT_HERE, c.at);
     Put { cursor, n }
 }
 

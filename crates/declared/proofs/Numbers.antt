@@ -13,7 +13,7 @@ use Rattle.meaning.specs.Bounds.{tablesMost}
 use Rattle.meaning.specs.Reader.{Res, give}
 use Rattle.meaning.specs.Signals.{Names}
 use Rattle.meaning.specs.Timing.{Tables}
-pub use Rattle.words.proofs.Words.{zeros}
+use Rattle.words.proofs.Words.{zeros}
 use Rattle.words.specs.Cursor.{ahead, stopNo, stream, Stands}
 use Rattle.words.specs.declared.Cursor.{Cursor}
 use Rattle.words.proofs.Flow.{from-on, from-stop}

@@ -3,16 +3,13 @@
 use mathlib.Core.Path.{_≡_, refl, ap, _∙_}
 use Prim.Native.Nat.{ℕ, zero, suc}
 use mathlib.Core.Bool.{Bool, true, false}
-use mathlib.Core.Option.{Option, some}
+use mathlib.Core.Option.{Option, some, orElse}
 use mathlib.Core.List.{List, [], _∷_, _++_, append-nil}
 use Rattle.meaning.specs.Timing.{Tables}
 use Rattle.meaning.specs.Run.{Cycle}
-use Rattle.meaning.proofs.Turns.{copies, orElse}
-use Rattle.turns.proofs.Thins.{or-first}
+use Rattle.meaning.proofs.Options.{or-same}
+use Rattle.meaning.proofs.Turns.{copies}
 use Rattle.meaning.specs.Edges.{lastBehind, fineBehind, failingBehind}
-
-pub or-same : (x : Option ℕ) → orElse x x ≡ x
-or-same x = or-first x x λ h. h
 
 -- ---- the last of rows one behind the other
 

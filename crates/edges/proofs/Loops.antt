@@ -4,21 +4,17 @@ use mathlib.Core.Path.{_≡_, refl, sym, ap, ap₂, _∙_}
 use Prim.Native.Nat.{ℕ, zero, suc}
 use native.Mathlib.Omega.{arith}
 use mathlib.Core.Bool.{Bool, true, false}
-use mathlib.Core.Option.{Option, none, some}
+use mathlib.Core.Option.{Option, none, some, orElse}
 use mathlib.Core.List.{List, [], _∷_, _++_}
 use lib.ListN.{length, take}
 use Rattle.meaning.specs.Timing.{Tables}
 use Rattle.meaning.specs.Body.{Body}
 use Rattle.meaning.specs.Run.{State, Cycle, Played, cycles, follow, again, play}
-use Rattle.meaning.proofs.Turns.{Plain, plain-twice, copies, steady, turns-repeat, orElse}
+use Rattle.meaning.proofs.Options.{or-alike}
+use Rattle.meaning.proofs.Turns.{Plain, plain-twice, copies, steady, turns-repeat}
 use Rattle.meaning.proofs.Rows.{length-play}
 use Rattle.meaning.specs.Edges.{lastBehind, fineBehind, failingBehind}
 use Rattle.edges.proofs.Behind.{last-++, last-copies, failing-++, failing-copies}
-
-or-alike : (x y z : Option ℕ) → (x ≡ none → y ≡ z) → orElse x y ≡ orElse x z
-unfolding orElse
-or-alike none y z h = h refl
-or-alike (some a) y z h = refl
 
 -- ---- the first cycle
 
@@ -80,15 +76,12 @@ module _ (tabs : Tables) where
         ∙ failing-++ tabs o first (copies (suc (suc n)) second)
         ∙ ap (orElse (failingBehind tabs o first)) (twice-failing (lastBehind o first) second n)
 
-    -- of two turns or more: what comes last, and what is left
+    -- of two turns or more: what comes last
     pub loop-last : (n : ℕ) → lastBehind o (again (suc (suc n)) (play t b) s .1) ≡ lastBehind (lastBehind o first) second
     loop-last n =
         ap (λ (x : Played). lastBehind o (x .1)) (turns-repeat (play t b) (plain-twice t b plain) (suc n) s)
         ∙ last-++ o first (copies (suc n) second)
         ∙ last-copies (lastBehind o first) second n
-
-    pub loop-left : (n : ℕ) → again (suc n) (play t b) s .0 ≡ play t b s .0
-    loop-left n = ap (λ (x : Played). x .0) (turns-repeat (play t b) (plain-twice t b plain) n s)
 
   -- a Loop whose turn leaves what it found
   module _ (t : ℕ) (b : Body) (s : State) (same : play t b s .0 ≡ s) (o : Option Cycle) where

@@ -4,14 +4,13 @@ use Prim.Native.Nat.{ℕ, suc, _+_, _≤_}
 use native.Mathlib.Nat.{zero-add, add-zero, add-suc, suc-add}
 use native.Mathlib.Omega.{arith}
 use mathlib.Core.Bool.{Bool, true, false, _&&_}
-use mathlib.Core.Option.{Option, none, some}
+use mathlib.Core.Option.{Option, none, some, orElse}
 use mathlib.Core.List.{List, [], _∷_, _++_, append-assoc}
 use lib.ListN.{getD}
 use borrow.Author.Tests.{ltb-false}
 use Rattle.meaning.specs.Timing.{Event, Wave, Tables}
 use Rattle.meaning.specs.Run.{unassigned, Cycle}
 use Rattle.meaning.specs.Meaning.{tableAt}
-use Rattle.meaning.proofs.Turns.{orElse}
 use Rattle.meaning.specs.Edges.{Category, drive, compare, lastBehind, firstTime, lastTime, before, apart, follows, eventsOf, allFollow, periodAt, inOrder, fineBehind, failingBehind, firstFailingPair}
 use Rattle.edges.specs.Pairs.{FirstPair, Across}
 use Rattle.edges.proofs.Behind.{last-++, failing-++}

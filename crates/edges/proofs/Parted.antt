@@ -10,16 +10,11 @@ use Rattle.meaning.specs.Timing.{Event, Wave, Tables}
 use Rattle.meaning.specs.Run.{unassigned, Cycle}
 use Rattle.meaning.specs.Meaning.{tableAt}
 use Rattle.meaning.specs.Services.{waveOf}
-use Rattle.meaning.proofs.Turns.{orElse}
+use Rattle.meaning.proofs.Options.{or-both}
 use Rattle.meaning.specs.Edges.{follows, eventsOf, allFollow, periodAt, inOrder, lastBehind, fineBehind, failingBehind, firstFailingPair}
 use Rattle.edges.proofs.Behind.{failing-++}
 
 -- ---- parts of a row
-
-pub or-both : (x y : Option ℕ) → orElse x y ≡ none → (x ≡ none) × (y ≡ none)
-unfolding orElse
-or-both none y h = (refl, h)
-or-both (some a) y h = let z : _≡_ {A = ℕ} 0 1 = cc in absurd (omega arith)
 
 module _ (tabs : Tables) where
   -- behind nothing there is one pair less

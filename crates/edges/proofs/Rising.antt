@@ -2,11 +2,12 @@
 use mathlib.Core.Path.{_≡_, refl, sym, ap, _∙_, subst}
 use Prim.Native.Nat.{ℕ, zero, suc, _<_, _≤_}
 use native.Mathlib.Omega.{arith}
-use mathlib.Core.Bool.{Bool, true, false, not, _&&_, _||_}
+use mathlib.Core.Bool.{Bool, true, false, not, _&&_, _||_, or-true}
 use mathlib.Core.Option.{Option, none, some}
 use mathlib.Core.List.{List, [], _∷_, _++_, append-nil}
 use lib.Dec.{leb, ltb, eqb}
 use borrow.Author.Tests.{ltb-true}
+use Rattle.tokens.proofs.Bools.{both}
 use Rattle.meaning.specs.Refusals.{tooMany}
 use Rattle.meaning.specs.Bounds.{entryMost}
 use Rattle.meaning.specs.Reader.{ahead, due}
@@ -178,22 +179,14 @@ same-category : (k : Category) (e f : ℕ) → belongs k e ≡ true → belongs 
 unfolding belongs alike
 same-category drive e f h g = rw (h, g)
 same-category compare e f h g = rw (h, g) (or-true (drives e && drives f))
-  where
-    or-true : (w : Bool) → w || true ≡ true
-    or-true true = refl
-    or-true false = refl
-
-pub and-both : (a b : Bool) → a && b ≡ true → (a ≡ true) × (b ≡ true)
-and-both true b h = (refl, h)
-and-both false b h = let z : _≡_ {A = ℕ} 0 1 = cc in absurd (omega arith)
 
 -- a time that rises is above all of its category
 rises-above : (k : Category) (t e : ℕ) (es : List Event) → belongs k e ≡ true → rises t e es ≡ true → Each (λ u. u < t) (timesIn k es)
 unfolding rises timesIn Each
 rises-above k t e [] g h = tt
 rises-above k t e (x ∷ es) g h =
-    let both = and-both (not (alike e (x .letter)) || ltb (x .time) t) (rises t e es) h in
-    by (belongs k (x .letter)) refl (both .0) (rises-above k t e es g (both .1))
+    let parts = both (not (alike e (x .letter)) || ltb (x .time) t) (rises t e es) h in
+    by (belongs k (x .letter)) refl (parts .0) (rises-above k t e es g (parts .1))
   where
     below : alike e (x .letter) ≡ true → not (alike e (x .letter)) || ltb (x .time) t ≡ true → x .time < t
     below a o = ltb-true (x .time) t (sym (ap (λ (w : Bool). not w || ltb (x .time) t) a) ∙ o)

@@ -6,11 +6,11 @@ use mathlib.Core.Bool.{true, _&&_}
 use mathlib.Core.Option.{Option, none, some}
 use mathlib.Core.List.{List, [], _∷_}
 use lib.ListN.{getD}
+use Rattle.tokens.proofs.Bools.{both}
 use Rattle.meaning.specs.Timing.{Wave, Tables}
 use Rattle.meaning.specs.Run.{unassigned, Cycle}
 use Rattle.meaning.specs.Meaning.{tableAt}
 use Rattle.meaning.specs.Edges.{drive, compare, timesIn, firstOf, lastBehind, firstTime, lastTime, before, apart, follows, eventsOf, allFollow, periodAt, inOrder}
-use Rattle.edges.proofs.Rising.{and-both}
 
 -- where one of the two is unassigned nothing is asked
 none-before : (period : ℕ) (s d : ℕ) (ws vs : List Wave) → follows period (eventsOf s unassigned ws) (eventsOf s d vs) ≡ true
@@ -35,9 +35,9 @@ module _ (period : ℕ) (ws vs : List Wave) where
   unfolding allFollow
   follow-each s [] ds h i = none-before period (s + i) (getD ds i unassigned) ws vs
   follow-each s (c ∷ cs) [] h i = none-behind period (s + i) (getD (c ∷ cs) i unassigned) ws vs
-  follow-each s (c ∷ cs) (d ∷ ds) h zero = rw add-zero (and-both (follows period (eventsOf s c ws) (eventsOf s d vs)) (allFollow period ws vs (suc s) cs ds) h .0)
+  follow-each s (c ∷ cs) (d ∷ ds) h zero = rw add-zero (both (follows period (eventsOf s c ws) (eventsOf s d vs)) (allFollow period ws vs (suc s) cs ds) h .0)
   follow-each s (c ∷ cs) (d ∷ ds) h (suc i) =
-      subst (λ (n : ℕ). At n (getD cs i unassigned) (getD ds i unassigned)) (rw (suc-add, add-suc)) (follow-each (suc s) cs ds (and-both (follows period (eventsOf s c ws) (eventsOf s d vs)) (allFollow period ws vs (suc s) cs ds) h .1) i)
+      subst (λ (n : ℕ). At n (getD cs i unassigned) (getD ds i unassigned)) (rw (suc-add, add-suc)) (follow-each (suc s) cs ds (both (follows period (eventsOf s c ws) (eventsOf s d vs)) (allFollow period ws vs (suc s) cs ds) h .1) i)
 
   pub each-follow : (s : ℕ) (cs ds : List ℕ) → ((i : ℕ) → At (s + i) (getD cs i unassigned) (getD ds i unassigned)) → allFollow period ws vs s cs ds ≡ true
   unfolding allFollow

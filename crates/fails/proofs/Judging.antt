@@ -1,5 +1,5 @@
 -- The pass for 24: one record, and all of them.
-use Prim.Native.Nat.{ℕ, zero, suc, _+_, _-_, _≤_, _<_}
+use Prim.Native.Nat.{ℕ, suc, _+_, _-_, _≤_, _<_}
 use native.Mathlib.Omega.{arith}
 use mathlib.Core.Path.{_≡_, refl, sym, ap, _∙_, subst}
 use mathlib.Core.Bool.{Bool, true, false, not, _&&_, _||_}
@@ -7,15 +7,15 @@ use mathlib.Core.Option.{Option, none, some}
 use mathlib.Core.List.{List, [], _∷_, _++_, append-assoc, append-nil}
 use lib.Dec.{leb, ltb, eqb}
 use lib.ListN.{length, length-append}
-use borrow.Author.Tests.{lt-leb, leb-false, ltb-true, ltb-false, eqb-true, eqb-false}
+use borrow.Author.Tests.{lt-leb, leb-false, ltb-true, ltb-false, eqb-true, eqb-false, not-false}
 use Rattle.tokens.specs.Written.{bytes}
-use Rattle.tokens.specs.Tokens.{Toks, toks}
+use Rattle.tokens.specs.Tokens.{Toks}
 use Rattle.tokens.proofs.Bools.{neither, never}
-use Rattle.meaning.specs.Reader.{ok, refuse, _>>=_, give, due, dueOf, ahead as aheadIs, aheadOf, while, closed, until}
+use Rattle.meaning.specs.Reader.{ok, aheadOf, while, closed, until}
 use Rattle.meaning.specs.Meaning.{Answer, given, refused, answering}
 use Rattle.meaning.proofs.Gives.{bind-ok, give-ok}
 use Rattle.meaning.proofs.Takes.{while-done}
-use Rattle.held.proofs.Leads.{Leads as LeadsTo, leads-bind, leads-give, leads-while}
+use Rattle.held.proofs.Leads.{leads-bind, leads-give, leads-while}
 use Rattle.words.specs.Cursor.{span, ahead, stream, Stands, alive, from, Goes}
 use Rattle.words.specs.Values.{told}
 use Rattle.words.specs.declared.Cursor.{Cursor}
@@ -23,13 +23,13 @@ use Rattle.words.proofs.Flow.{from-on, from-stop, given as gives, then}
 use Rattle.words.proofs.Loops.{Leads, turned}
 use Rattle.references.specs.Filled.{pastOf}
 use Rattle.references.specs.declared.Before.{Before}
-use Rattle.reports.specs.Report.{Signals, Offset, Record, Fail, notInPattern, head, oneMore, oneRecord, offsetsOf, answeredAt, answeredOf, answeredAll}
+use Rattle.reports.specs.Report.{Signals, Offset, Record, Fail, notInPattern, head, oneMore, oneRecord, offsetsOf, answeredOf, answeredAll}
 use Rattle.reports.specs.Read.{earlier, firstOutside, Places}
 use Rattle.reports.specs.declared.Placed.{Placed}
 use Rattle.reports.proofs.Answers.{answered-append}
 use Rattle.reports.proofs.Counting.{failsFrom, answeredBy, answered-by}
 use Rattle.reports.proofs.Passing.{takes-record}
-use Rattle.fails.specs.Judged.{JudgesRecord, Roomed, Answered, Records, Judges}
+use Rattle.fails.specs.Judged.{JudgesRecord, Roomed, Records, Judges}
 use Rattle.fails.specs.declared.Judged.{Judged}
 use Rattle.fails.specs.declared.Room.{Room}
 
@@ -152,11 +152,7 @@ module _ {report : List ℕ} {c a : Cursor} (ss : Signals) (cycles : ℕ) (past 
   judges-in e {n} m = by (eqb (p .count) 0) refl (eqb left 0) refl (neither (not (b .known)) (eqb (p .count) 0 && eqb left 0) e .1)
     where
       on : b .known ≡ true
-      on = yes (b .known) (neither (not (b .known)) (eqb (p .count) 0 && eqb left 0) e .0)
-        where
-          yes : (x : Bool) → not x ≡ false → x ≡ true
-          yes true q = refl
-          yes false q = never (sym q)
+      on = not-false (b .known) (neither (not (b .known)) (eqb (p .count) 0 && eqb left 0) e .0)
 
       by : (y : Bool) → eqb (p .count) 0 ≡ y → (z : Bool) → eqb left 0 ≡ z → (y && z) ≡ false
           → JudgesRecord report c ss cycles past (record { cursor = p .cursor; outside = p .outside; place = p .place; count = n })

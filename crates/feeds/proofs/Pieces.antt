@@ -13,6 +13,7 @@ use Rattle.tokens.specs.Bytes.{between, digit, letter, wordy}
 use Rattle.tokens.specs.Tokens.{Tok, Toks, stop, tok, toks, left}
 use Rattle.tokens.proofs.Laws.{left-most}
 use Rattle.tokens.specs.Refusals.{notHere}
+use Rattle.tokens.proofs.Bools.{both}
 use Rattle.meaning.specs.Refusals.{badNumber, badArgument}
 use Rattle.meaning.specs.Bounds.{repeatMost}
 use Rattle.meaning.specs.Reader.{Res, ok, refuse, after, _>>=_, give, refuseIf, any, ahead, aheadOf, due, oneOf, isWord, word, whileF, while, closed}
@@ -188,16 +189,12 @@ unfolding times repeatOf within
 times-ok t [] ts e = let z : _≡_ {A = ℕ} 0 1 = cc in absurd (omega arith)
 times-ok t (b ∷ s) ts {n} {us} e = by (eqb b 114) (number s) refl e
   where
-    bounds : (x y : Bool) → (x && y) ≡ true → (x ≡ true) × (y ≡ true)
-    bounds true y h = (refl, h)
-    bounds false y h = let z : _≡_ {A = ℕ} 0 1 = cc in absurd (omega arith)
-
     between-by : (k : ℕ) → number s ≡ some k → (x : Bool) → (leb 1 k && leb k repeatMost) ≡ x
         → _≡_ {A = Res ℕ} (elim x [ true ↦ ok k ts | false ↦ refuse badNumber (t .at) ]) (ok n us) → Repeat (b ∷ s) n × (ts ≡ us)
     between-by k h true f e =
         let p : k ≡ n = cc in
         let q : ts ≡ us = cc in
-        let o = bounds (leb 1 k) (leb k repeatMost) f in
+        let o = both (leb 1 k) (leb k repeatMost) f in
         (record { is = h ∙ ap some p; least = omega (arith, leb-true 1 k (o .0)); most = omega (arith, leb-true k repeatMost (o .1)) }, q)
     between-by k h false f e = let z : _≡_ {A = ℕ} 0 1 = cc in absurd (omega arith)
 

@@ -3,7 +3,7 @@ use Prim.Native.Nat.{ℕ, zero, suc, _+_, _≤_, _<_}
 use native.Mathlib.Nat.{add-suc, suc-add, add-zero}
 use native.Mathlib.Omega.{arith}
 use mathlib.Core.Path.{_≡_, refl, sym, ap, ap₂, _∙_, subst}
-use mathlib.Core.Bool.{Bool, true, false, _&&_, _||_, or-false}
+use mathlib.Core.Bool.{Bool, true, false, _&&_, _||_, or-true, or-false}
 use mathlib.Core.Option.{Option, none, some, orElse}
 use mathlib.Core.List.{List, [], _∷_, _++_}
 use lib.Dec.{leb, eqb}
@@ -17,7 +17,7 @@ use Rattle.meaning.specs.Timing.{Event, Wave, waveChar}
 use Rattle.meaning.specs.Meaning.{hasWave}
 use Rattle.meaning.specs.Services.{waveOf}
 use Rattle.meaning.proofs.Options.{or-none}
-use Rattle.meaning.proofs.Lists.{has-append}
+use Rattle.meaning.proofs.Lists.{has-append, wave-append}
 use Rattle.folded.specs.Flat.{upFrom, characters, Entries, entriesOf, Chart, chart, chartsFrom}
 use Rattle.folded.proofs.Words.{Proper}
 use Rattle.folded.proofs.Reading.{AllFit, findIn}
@@ -67,22 +67,7 @@ no-repeats : repeats characters ≡ false
 unfolding repeats has characters upFrom
 no-repeats = refl
 
-or-true : (b : Bool) → (b || true) ≡ true
-or-true true = refl
-or-true false = refl
-
 -- ---- waveforms one behind the other
-
-wave-++ : (s c : ℕ) (ws vs : List Wave) → waveOf s c (ws ++ vs) ≡ orElse (waveOf s c ws) (waveOf s c vs)
-unfolding waveOf orElse
-wave-++ s c [] vs = refl
-wave-++ s c (w ∷ ws) vs = by (eqb (w .signal) s && eqb (w .char) c) (wave-++ s c ws vs)
-  where
-    by : (b : Bool) → waveOf s c (ws ++ vs) ≡ orElse (waveOf s c ws) (waveOf s c vs)
-        → _≡_ {A = Option (List Event)} (elim b [ true ↦ some (w .events) | false ↦ waveOf s c (ws ++ vs) ])
-        (orElse (elim b as (λ x. Option (List Event)) [ true ↦ some (w .events) | false ↦ waveOf s c ws ]) (waveOf s c vs))
-    by true ih = refl
-    by false ih = ih
 
 -- a character has a waveform where one is found
 pub has-wave : (s c : ℕ) (ws : List Wave) → hasWave s c ws ≡ isSome (waveOf s c ws)
@@ -175,7 +160,7 @@ module _ (n s : ℕ) (ws base : List Wave) (sound : AllSound n ws) (free : (c : 
   unfolding isSome orElse
   new-entry before c es e h =
       let w = wave-sound n s c ws sound es e in
-      let none-found : waveOf s c (base ++ wavesIn s before) ≡ none = wave-++ s c base (wavesIn s before) ∙ rw (free c, wave-in s c before) h in
+      let none-found : waveOf s c (base ++ wavesIn s before) ≡ none = wave-append s c base (wavesIn s before) ∙ rw (free c, wave-in s c before) h in
       record { char = w .1; free = has-wave s c (base ++ wavesIn s before) ∙ rw none-found; events = w .2 }
 
   entries-new : (cs : List ℕ) (before : Entries) → repeats cs ≡ false → Fresh before cs → AllFit (NewEntry base s) before (entriesOf s ws cs)
@@ -239,7 +224,7 @@ lower-none : (s c : ℕ) (xs : List Chart) → Lower s xs → waveOf s c (wavesA
 unfolding wavesAll waveOf orElse
 lower-none s c [] h = refl
 lower-none s c (x ∷ xs) h =
-    wave-++ s c (wavesIn (x .signal) (x .first ∷ x .others)) (wavesAll xs) ∙ rw (wave-other s (x .signal) c (x .first ∷ x .others) (λ e. omega (arith, h .0))) (lower-none s c xs (h .1))
+    wave-append s c (wavesIn (x .signal) (x .first ∷ x .others)) (wavesAll xs) ∙ rw (wave-other s (x .signal) c (x .first ∷ x .others) (λ e. omega (arith, h .0))) (lower-none s c xs (h .1))
 
 module _ (names : List (List ℕ × List ℕ)) (n : ℕ) (ws : List Wave) (sound : AllSound n ws) where
   -- THE LAW: they may be written
@@ -261,7 +246,7 @@ module _ (names : List (List ℕ × List ℕ)) (n : ℕ) (ws : List Wave) (sound
 wave-chart : (s c : ℕ) (w : List ℕ) (t : ℕ) (xs : Entries) (rest : List Chart) → waveOf s c (wavesAll (chart w t xs rest)) ≡ orElse (waveOf s c (wavesIn t xs)) (waveOf s c (wavesAll rest))
 unfolding chart wavesAll waveOf wavesIn orElse
 wave-chart s c w t [] rest = refl
-wave-chart s c w t (x ∷ xs) rest = wave-++ s c (wavesIn t (x ∷ xs)) (wavesAll rest)
+wave-chart s c w t (x ∷ xs) rest = wave-append s c (wavesIn t (x ∷ xs)) (wavesAll rest)
 
 -- of signals behind s nothing is told
 charts-behind : (s c t : ℕ) (ts : List Tok) (ws : List Wave) → s < t → waveOf s c (wavesAll (chartsFrom t ts ws)) ≡ none

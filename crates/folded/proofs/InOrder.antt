@@ -11,10 +11,11 @@ use Rattle.meaning.specs.Body.{Body, done, vec, set′, inner}
 use Rattle.meaning.specs.Run.{Cycle, cyclesOf}
 use Rattle.meaning.specs.Edges.{periodAt, firstFailingPair, listedCycles, firstAmong, firstInRun}
 use Rattle.meaning.specs.Meaning.{allWaves, tableAt, playable, firstFailing}
+use Rattle.meaning.proofs.Options.{or-both}
 use Rattle.meaning.proofs.Turns.{fails-++}
 use Rattle.meaning.proofs.Everywhere.{Runs}
 use Rattle.edges.proofs.Texts.{joined, run-parted}
-use Rattle.edges.proofs.Parted.{or-both, SameTables, SameRows, no-rows, one-row, parts-in-order, rows-in-order}
+use Rattle.edges.proofs.Parted.{SameTables, SameRows, no-rows, one-row, parts-in-order, rows-in-order}
 use Rattle.folded.specs.Flat.{Row, tableOf, rowOf, rowsOf, listedRows, parted, partedAll}
 use Rattle.folded.specs.Shapes.{concat}
 use Rattle.folded.specs.Same.{periodsOf}

@@ -7,10 +7,11 @@ use mathlib.Core.Option.{none, some}
 use mathlib.Core.List.{List, [], _∷_, _++_, append-assoc, append-nil}
 use lib.Dec.{leb, eqb}
 use lib.ListN.{length, length-append}
-use borrow.Author.Tests.{lt-leb, le-leb, eqb-true, eqb-false, eq-eqb, ne-eqb}
+use borrow.Author.Tests.{lt-leb, le-leb}
 use Rattle.tokens.specs.Written.{bytes, same}
 use Rattle.tokens.specs.Bytes.{between, blank, digit, letter, wordy}
 use Rattle.tokens.specs.Tokens.{Tok, Toks}
+use Rattle.tokens.proofs.Bools.{eqb-comm}
 use Rattle.meaning.specs.Bounds.{entryMost, tablesMost, timeMost}
 use Rattle.meaning.specs.Refusals.{tooMany}
 use Rattle.meaning.specs.Lists.{has, repeats}
@@ -30,13 +31,6 @@ use Rattle.folded.proofs.Words.{Proper, sign, words}
 use Rattle.folded.proofs.Reading.{Reads, AllFit, Unlike, not-ahead, reads-bind, reads-as, reads-if, reads-known, reads-found, reads-by, reads-give, reads-any, reads-due, reads-word, reads-new, reads-old, reads-within, reads-there, reads-elsewhere, reads-until, worded, findIn, find-worded, worded-++, worded-length}
 use Rattle.folded.proofs.Leaves.{time-read, time-word}
 use Rattle.folded.proofs.SignalsBack.{proper-word, no-sign}
-
-pub eqb-sym : (a b : ℕ) → eqb a b ≡ eqb b a
-eqb-sym a b = by (eqb b a) refl
-  where
-    by : (t : Bool) → eqb b a ≡ t → eqb a b ≡ t
-    by true e = eq-eqb a b (sym (eqb-true b a e))
-    by false e = ne-eqb a b (λ q. eqb-false b a e (sym q))
 
 -- ---- 'T'
 
@@ -143,7 +137,7 @@ pub record NewEntry (ws : List Wave) (s : ℕ) (before : Entries) (x : ℕ × Li
 taken-one : (s c : ℕ) (ws : List Wave) → taken (s ∷ []) (c ∷ []) ws ≡ hasWave s c ws
 unfolding taken hasWave has
 taken-one s c [] = refl
-taken-one s c (w ∷ ws) = rw (taken-one s c ws, eqb-sym s (w .signal), eqb-sym c (w .char), or-false (eqb (w .signal) s), or-false (eqb (w .char) c))
+taken-one s c (w ∷ ws) = rw (taken-one s c ws, eqb-comm s (w .signal), eqb-comm c (w .char), or-false (eqb (w .signal) s), or-false (eqb (w .char) c))
 
 pub char-wordy : (c : ℕ) → waveChar c ≡ true → wordy c ≡ true
 unfolding waveChar wordy

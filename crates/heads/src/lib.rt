@@ -16,7 +16,7 @@ ghost use Rattle.assigns.specs.Given.{Gave, Ready};
 ghost use Rattle.measures.specs.Book.{bookLength, rowsLength};
 ghost use Rattle.heads.specs.Known.{Describes, Described};
 ghost use Rattle.heads.specs.Heads.{Tells, Plainly, OfKind, SomeKind, partOf, lastHeads, others};
-use arguments::BAD_ARGUMENT;
+use data::BAD_ARGUMENT;
 use words::Cursor;
 use words::NOT_HERE;
 

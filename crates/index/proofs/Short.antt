@@ -25,9 +25,9 @@ use Rattle.meaning.specs.Document.{listEntry, burst, document}
 use Rattle.meaning.specs.Meaning.{given, runOf, firsts, fitting, Meaning, meaning}
 use Rattle.meaning.proofs.Gives.{Gives, gives-bind, gives-after, gives-give, gives-if, gives-until}
 use Rattle.meaning.proofs.Accepted.{accepted}
+use Rattle.meaning.proofs.Listed.{length-firsts}
 use Rattle.held.proofs.Parts.{parts}
 use Rattle.pages.specs.Pages.{digits, decimal, digitsMost}
-use Rattle.timing.proofs.TableReading.{firsts-length}
 use Rattle.sections.specs.Listing.{countedOf, lines, Short}
 use Rattle.index.specs.Index.{standsAt, keywordBefore, keywords, Block, blocks, Line, lineOf, linesFrom, linesOf, Index, indexOf, lineWritten, linesWritten, written}
 use Rattle.index.proofs.Names.{tables-few, listed-few}
@@ -212,7 +212,7 @@ index-short text m e =
     let many : length xs ≡ length (a .doc .listed) = as-many (a .doc .patterns) ks (a .doc .listed) (m .run) (a .run) 0 in
     let long = lines-few (a .doc .patterns) ks keys (a .doc .listed) (listed-few .all _ _ _ (p .burst-read)) (m .run) (a .run) 0 (omega arith) in
     let named = names-few (firsts (a .doc .tables)) (tables-few _ .all _ _ _ (p .timing-read)) in
-    let n = firsts-length (a .doc .tables) in
+    let n = length-firsts (a .doc .tables) in
     let c = counted-few (bytes "PATTERNS") 1 (length xs) (omega arith) in
     let d = counted-few (bytes "TABLES") 0 (length (firsts (a .doc .tables))) (omega arith) in
     let is : linesOf (toks text 0) (document (toks text 0)) ≡ xs = rw (a .read) in

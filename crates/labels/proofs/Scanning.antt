@@ -2,7 +2,7 @@
 use Prim.Native.Nat.{ℕ, suc, _+_, _*_, _-_, _≤_, _<_, min}
 use native.Mathlib.Omega.{arith}
 use mathlib.Core.Path.{_≡_, refl, sym, ap, _∙_}
-use mathlib.Core.Bool.{Bool, true, false, _&&_, _||_, or-false}
+use mathlib.Core.Bool.{Bool, true, false, _&&_, _||_, or-false, and-true}
 use mathlib.Core.Option.{some}
 use mathlib.Core.List.{List, [], _∷_, _++_}
 use lib.Dec.{ltb, eqb}
@@ -34,11 +34,7 @@ parting-not w h = sym (rw (same-long w (123 ∷ []) h, same-long w (125 ∷ []) 
 same-one : (w : List ℕ) (b : ℕ) → length w ≡ 1 → same w (b ∷ []) ≡ eqb (getD w 0 0) b
 unfolding same
 same-one [] b h = absurd (omega arith)
-same-one (a ∷ []) b h = by (eqb a b)
-  where
-    by : (x : Bool) → (x && true) ≡ x
-    by true = refl
-    by false = refl
+same-one (a ∷ []) b h = and-true (eqb a b)
 same-one (a ∷ c ∷ w) b h = absurd (omega arith)
 
 pub parting-one : (w : List ℕ) → length w ≡ 1 → (eqb (getD w 0 0) 123 || eqb (getD w 0 0) 125 || eqb (getD w 0 0) 59) ≡ parting w

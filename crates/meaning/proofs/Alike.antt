@@ -11,12 +11,11 @@ use mathlib.Core.List.{List, [], _∷_}
 use lib.Dec.{leb}
 use Rattle.tokens.specs.Written.{bytes, same}
 use Rattle.tokens.specs.Tokens.{Tok, Toks, stop, tok, left}
-use Rattle.tokens.specs.Refusals.{notHere}
 use Rattle.meaning.specs.Refusals.{badNumber}
 use Rattle.meaning.specs.Reader.{Res, Reader, ok, refuse, after, _>>=_, give, refuseIf, any, aheadOf, dueOf, oneOf, choose, isWord, word, ifAhead, option, whileF, while, closed, until}
 use Rattle.meaning.specs.Names.{known, within}
 use Rattle.meaning.specs.Document.{over}
-use Rattle.meaning.proofs.Gives.{bind-ok, bind-go, give-ok, if-ok, known-ok}
+use Rattle.meaning.proofs.Gives.{bind-ok, bind-go, give-ok, if-ok, known-ok, known-rest, due-ahead}
 
 -- ---- a border, and two streams up to it
 
@@ -142,15 +141,10 @@ alike-give {B} {A} {R} a b r = record {
 pub alike-if : {B : Border} (c d : Bool) (n p m q : ℕ) → Alike B false Anyhow (refuseIf c n p) (refuseIf d m q)
 alike-if c d n p m q = record { both = λ i ts us l x vs e y ws f. (tt, stays (if-ok c n p e) (if-ok d m q f) l) }
 
-known-stays : {A : Type 0} (o : Option A) (n p : ℕ) (ts : Toks) {a : A} {us : Toks} → known o n p ts ≡ ok a us → ts ≡ us
-unfolding known
-known-stays none n p ts e = let z : _≡_ {A = ℕ} 0 1 = cc in absurd (omega arith)
-known-stays (some x) n p ts {a} {us} e = let q : ts ≡ us = cc in q
-
 pub alike-known : {B : Border} {A : Type 0} {R : A → A → Type 0} (o q : Option A) (n p m r : ℕ)
     → ((a b : A) → o ≡ some a → q ≡ some b → R a b) → Alike B false R (known o n p) (known q m r)
 alike-known o q n p m r h = record {
-  both = λ i ts us l x vs e y ws f. (h x y (known-ok o n p ts e) (known-ok q m r us f), stays (known-stays o n p ts e) (known-stays q m r us f) l);
+  both = λ i ts us l x vs e y ws f. (h x y (known-ok o n p ts e) (known-ok q m r us f), stays (known-rest o n p ts e) (known-rest q m r us f) l);
 }
 
 pub within-ok : (a b : ℕ) (o : Option ℕ) (p : ℕ) (ts : Toks) (n : ℕ) (us : Toks) → within a b o p ts ≡ ok n us → (o ≡ some n) × (ts ≡ us)
@@ -356,15 +350,6 @@ module _ {B : Border} {S : Type 0} {R : S → S → Type 0} {test : Toks → Boo
   }
 
 -- where a loop is closed by a token, its last turn stood before it: no count is asked for
-due-ahead : (w : List ℕ) (ts : Toks) (p : ℕ) (us : Toks) → dueOf w ts ≡ ok p us → aheadOf w ts ≡ true
-unfolding dueOf any aheadOf _>>=_ after refuseIf
-due-ahead w (stop n q) p us e = let z : _≡_ {A = ℕ} 0 1 = cc in absurd (omega arith)
-due-ahead w (tok t ts) p us e = by (same (t .word) w) e
-  where
-    by : (c : Bool) → (refuseIf (not c) notHere (t .at) >>= λ x. give (t .at)) ts ≡ ok p us → c ≡ true
-    by true e = refl
-    by false e = let z : _≡_ {A = ℕ} 0 1 = cc in absurd (omega arith)
-
 ends-here : {S : Type 0} (test : Toks → Bool) (step : S → Reader S) (k : ℕ) (x : S) (ts : Toks) → test ts ≡ false → whileF test step k x ts ≡ ok x ts
 unfolding whileF
 ends-here test step zero x ts e = refl

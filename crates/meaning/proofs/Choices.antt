@@ -5,7 +5,6 @@ use native.Mathlib.Omega.{arith}
 use mathlib.Core.Bool.{Bool, true, false}
 use Rattle.meaning.specs.Reader.{Reader, refuse, _>>=_}
 use Rattle.meaning.proofs.Gives.{Gives}
-pub use Rattle.meaning.proofs.Gives.{gives-taken}
 
 pub gives-refuse : {A : Type 0} (P : A → Type 0) (n p : ℕ) → Gives P (λ ts. refuse n p)
 gives-refuse P n p = record { all = λ ts a us e. (let z : _≡_ {A = ℕ} 0 1 = cc in absurd (omega arith)) }

@@ -3,15 +3,16 @@ use mathlib.Core.Path.{_≡_, refl, ap, subst}
 use Prim.Native.Nat.{ℕ, zero, suc, _≤_}
 use native.Mathlib.Omega.{arith}
 use Prim.Native.String.{String}
-use mathlib.Core.Bool.{Bool, true, false, _&&_}
+use mathlib.Core.Bool.{Bool, true, false, not, _&&_}
 use mathlib.Core.Option.{Option, none, some}
 use mathlib.Core.List.{List, [], _∷_}
 use lib.Dec.{leb}
 use borrow.Author.Tests.{leb-true}
 use Rattle.tokens.specs.Written.{bytes, same}
 use Rattle.tokens.specs.Tokens.{Tok, Toks, left, tok, stop}
+use Rattle.tokens.specs.Refusals.{notHere}
 use Rattle.meaning.specs.Refusals.{badNumber}
-use Rattle.meaning.specs.Reader.{Res, Reader, ok, refuse, after, _>>=_, give, refuseIf, any, ahead, ifAhead, option, oneOf, choose, whileF, while, closed, until}
+use Rattle.meaning.specs.Reader.{Res, Reader, ok, refuse, after, _>>=_, give, refuseIf, any, aheadOf, ahead, dueOf, ifAhead, option, oneOf, choose, whileF, while, closed, until}
 use Rattle.meaning.specs.Names.{known, within}
 
 -- an answer of two readers is one of the first, and then one of the second
@@ -37,6 +38,29 @@ pub known-ok : {A : Type 0} (o : Option A) (n p : ℕ) (ts : Toks) {a : A} {us :
 unfolding known
 known-ok none n p ts e = let z : _≡_ {A = ℕ} 0 1 = cc in absurd (omega arith)
 known-ok (some x) n p ts {a} e = let q : x ≡ a = cc in ap some q
+
+pub known-rest : {A : Type 0} (o : Option A) (n p : ℕ) (ts : Toks) {a : A} {us : Toks} → known o n p ts ≡ ok a us → ts ≡ us
+unfolding known
+known-rest none n p ts e = let z : _≡_ {A = ℕ} 0 1 = cc in absurd (omega arith)
+known-rest (some x) n p ts {a} {us} e = let q : ts ≡ us = cc in q
+
+-- a token that was due was ahead, and what is left is behind it
+pub due-ahead : (w : List ℕ) (ts : Toks) (p : ℕ) (us : Toks) → dueOf w ts ≡ ok p us → aheadOf w ts ≡ true
+unfolding dueOf any aheadOf _>>=_ after refuseIf
+due-ahead w (stop n q) p us e = let z : _≡_ {A = ℕ} 0 1 = cc in absurd (omega arith)
+due-ahead w (tok t ts) p us e = by (same (t .word) w) e
+  where
+    by : (c : Bool) → (refuseIf (not c) notHere (t .at) >>= λ x. give (t .at)) ts ≡ ok p us → c ≡ true
+    by true e = refl
+    by false e = let z : _≡_ {A = ℕ} 0 1 = cc in absurd (omega arith)
+
+pub due-rest : (w : List ℕ) (t : Tok) (us : Toks) {p : ℕ} {vs : Toks} → dueOf w (tok t us) ≡ ok p vs → vs ≡ us
+unfolding dueOf any _>>=_ after refuseIf give
+due-rest w t us {p} {vs} e = by (same (t .word) w) e
+  where
+    by : (x : Bool) → after (refuseIf (not x) notHere (t .at) us) (λ u. give (t .at)) ≡ ok p vs → vs ≡ us
+    by true e = cc
+    by false e = let z : _≡_ {A = ℕ} 0 1 = cc in absurd (omega arith)
 
 pub any-ok : (ts : Toks) {t : Tok} {us : Toks} → any ts ≡ ok t us → ts ≡ tok t us
 unfolding any

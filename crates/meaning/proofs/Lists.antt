@@ -1,12 +1,14 @@
--- What stands in a list: in two that are joined, and among the signals that are marked.
+-- What stands in a list: in two that are joined, among the signals that are marked, and among the waveforms of a table.
 use Prim.Native.Nat.{ℕ}
 use mathlib.Core.Path.{_≡_, refl}
-use mathlib.Core.Bool.{Bool, true, false, _||_}
+use mathlib.Core.Bool.{Bool, true, false, _&&_, _||_}
+use mathlib.Core.Option.{Option, some, orElse}
 use mathlib.Core.List.{List, [], _∷_, _++_}
 use lib.Dec.{eqb}
 use Rattle.tokens.proofs.Bools.{neither}
 use Rattle.meaning.specs.Body.{Assigns, mark, marked}
 use Rattle.meaning.specs.Lists.{has}
+use Rattle.meaning.specs.Timing.{Event, Wave, waveOf}
 use Rattle.meaning.specs.Data.{assigned}
 
 pub has-append : (s : ℕ) (l m : List ℕ) → has s (l ++ m) ≡ (has s l || has s m)
@@ -27,3 +29,14 @@ marked-not s (x ∷ xs) h = let p = neither (eqb (x .0) s) (has s (assigned xs))
     by : (m : Bool) → eqb (x .0) s ≡ false → has s (marked xs) ≡ false → has s (elim m [ true ↦ x .0 ∷ marked xs | false ↦ marked xs ]) ≡ false
     by true e ih = rw (e, ih)
     by false e ih = ih
+
+pub wave-append : (s c : ℕ) (ws vs : List Wave) → waveOf s c (ws ++ vs) ≡ orElse (waveOf s c ws) (waveOf s c vs)
+unfolding waveOf orElse
+wave-append s c [] vs = refl
+wave-append s c (w ∷ ws) vs = by (eqb (w .signal) s && eqb (w .char) c) (wave-append s c ws vs)
+  where
+    by : (b : Bool) → waveOf s c (ws ++ vs) ≡ orElse (waveOf s c ws) (waveOf s c vs)
+        → _≡_ {A = Option (List Event)} (elim b [ true ↦ some (w .events) | false ↦ waveOf s c (ws ++ vs) ])
+        (orElse (elim b as (λ x. Option (List Event)) [ true ↦ some (w .events) | false ↦ waveOf s c ws ]) (waveOf s c vs))
+    by true ih = refl
+    by false ih = ih

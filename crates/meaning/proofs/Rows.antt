@@ -2,10 +2,9 @@
 use mathlib.Core.Path.{_≡_, refl, sym, ap, ap₂, _∙_}
 use Prim.Native.Nat.{ℕ, zero, suc, _+_, _*_}
 use native.Mathlib.Nat.{add-comm, zero-mul, one-mul, suc-mul}
-use native.Mathlib.Omega.{arith}
 use mathlib.Core.Bool.{Bool, true, false}
 use mathlib.Core.List.{List, [], _∷_, _++_}
-use lib.ListN.{length, replicate, length-append, length-set, length-replicate}
+use lib.ListN.{length, length-append, length-set, length-replicate}
 use lib.Dec.{eqb}
 use Rattle.meaning.specs.Body.{Assigns, Args, mark as hash, Setting, assigning, choosing, Kind, macro, procedure, listed, Way, looped, shifted, entered, Body, done, vec, set′, inner}
 use Rattle.meaning.specs.Run.{State, Cycle, Played, unassigned, cycles, turnsOf, shiftOf, put, puts, changed, cycleAt, follow, again, bare, entering, playing, play, start, cyclesOf}
@@ -133,7 +132,7 @@ every-cycle-wide n b = keeps-play n 0 b (start n) (length-replicate n unassigned
 -- ---- a row has one byte a signal, the digit, LF
 
 module _ (mark : ℕ) where
-  length-shown : (l : List ℕ) → length (shownAll mark l) ≡ length l
+  pub length-shown : (l : List ℕ) → length (shownAll mark l) ≡ length l
   unfolding shownAll
   length-shown [] = refl
   length-shown (c ∷ l) = ap suc (length-shown l)

@@ -4,8 +4,7 @@
 use mathlib.Core.Path.{_≡_, refl, sym, ap, ap₂, _∙_, subst}
 use Prim.Native.Nat.{ℕ, zero, suc, _<_, min}
 use mathlib.Core.Bool.{Bool, true, false}
-use mathlib.Core.Option.{Option, none, some}
-unfoldable pub use mathlib.Core.Option.{orElse}
+use mathlib.Core.Option.{Option, none, some, orElse}
 use mathlib.Core.List.{List, [], _∷_, _++_}
 use native.Mathlib.Omega.{arith}
 use native.Mathlib.Decide.{ℕ-discrete}
@@ -270,6 +269,9 @@ module _ (f : State → Played) where
 pub loop-turns : (t : ℕ) (b : Body) → Plain b → (n : ℕ) (s : State)
     → again (suc n) (play t b) s ≡ (play t b s .0, play t b s .1 ++ copies n (play t b (play t b s .0) .1))
 loop-turns t b h = turns-repeat (play t b) (plain-twice t b h)
+
+pub loop-left : (t : ℕ) (b : Body) → Plain b → (s : State) (n : ℕ) → again (suc n) (play t b) s .0 ≡ play t b s .0
+loop-left t b h s n = ap (λ (x : Played). x .0) (loop-turns t b h n s)
 
 -- ---- at most two turns of each Loop
 

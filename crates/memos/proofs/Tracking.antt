@@ -1,18 +1,17 @@
 -- What is tracked of one play and of another behind it is tracked of both.
-use Prim.Native.Nat.{ℕ, _+_, _*_, _<_, _≤_}
+use Prim.Native.Nat.{ℕ, _+_, _<_, _≤_}
 use native.Mathlib.Omega.{arith}
 use mathlib.Core.Path.{_≡_, refl, sym, ap, ap₂, _∙_, subst}
-use mathlib.Core.Bool.{Bool, true, false, _||_}
-use mathlib.Core.Option.{Option, none}
+use mathlib.Core.Bool.{Bool, true, false}
+use mathlib.Core.Option.{none, orElse}
 use mathlib.Core.Logic.{_⊎_, inl, inr}
 use mathlib.Core.List.{List, [], _++_, append-assoc, append-nil}
 use lib.ListN.{length, getD}
 use Rattle.tokens.proofs.Bools.{contra, true-false}
-use Rattle.meaning.specs.Bounds.{tablesMost}
 use Rattle.meaning.specs.Timing.{Tables}
 use Rattle.meaning.specs.Run.{State, Cycle, Played, follow}
 use Rattle.meaning.specs.Meaning.{firstFailing}
-use Rattle.meaning.proofs.Turns.{orElse, fails-++}
+use Rattle.meaning.proofs.Turns.{fails-++}
 use Rattle.memos.proofs.Marking.{zero-marked}
 use Rattle.memos.specs.Tracks.{isMarked, assignedMark, Joins, tracksLength, marksAt, Granted, Like, Lands, Tracked, Tracking}
 

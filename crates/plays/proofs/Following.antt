@@ -3,13 +3,13 @@ use Prim.Native.Nat.{ℕ}
 use native.Mathlib.Omega.{arith}
 use mathlib.Core.Path.{_≡_, refl, sym, ap, _∙_}
 use mathlib.Core.Bool.{Bool, true, false}
-use mathlib.Core.Option.{Option, none, some}
+use mathlib.Core.Option.{Option, none, some, orElse}
 use mathlib.Core.List.{List, _++_}
 use Rattle.tokens.specs.Tokens.{Toks}
 use Rattle.meaning.specs.Timing.{Tables}
 use Rattle.meaning.specs.Run.{State, Played, follow}
 use Rattle.meaning.specs.Meaning.{firstFailing}
-use Rattle.meaning.proofs.Turns.{orElse, fails-++}
+use Rattle.meaning.proofs.Turns.{fails-++}
 use Rattle.pins.specs.Shown.{Told}
 use Rattle.plays.specs.declared.Played.{Played as Result}
 use Rattle.plays.specs.Plays.{Ground, Arrays, Plays, Alike}

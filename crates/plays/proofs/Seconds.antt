@@ -3,8 +3,8 @@ use Prim.Native.Nat.{ℕ, zero, suc, _+_, _<_, _≤_}
 use native.Mathlib.Omega.{arith}
 use mathlib.Core.Path.{_≡_, refl, sym, ap, ap₂, _∙_}
 use mathlib.Core.Bool.{Bool, true, false, _||_}
-use mathlib.Core.Option.{none}
-use mathlib.Core.Logic.{_⊎_, inl, inr}
+use mathlib.Core.Option.{none, orElse}
+use mathlib.Core.Logic.{_⊎_, inr}
 use mathlib.Core.List.{List}
 use lib.Dec.{ltb, eqb}
 use lib.ListN.{length, getD}
@@ -16,7 +16,7 @@ use Rattle.meaning.specs.Body.{Body}
 use Rattle.meaning.specs.Statements.{Env}
 use Rattle.meaning.specs.Run.{State, Played as Play, follow}
 use Rattle.meaning.specs.Meaning.{firstFailing}
-use Rattle.meaning.proofs.Turns.{orElse, keeps, Plain, fails-++}
+use Rattle.meaning.proofs.Turns.{keeps, fails-++}
 use Rattle.turns.specs.Few.{loopFew, playFew}
 use Rattle.turns.proofs.Decides.{few-left, fewer-fail}
 use Rattle.pins.specs.Shown.{tableOf}

@@ -1,4 +1,4 @@
--- Numbers of offsets, which are refused as soon as they are too large; the end of a report; the tokens behind one that was due.
+-- Numbers of offsets, which are refused as soon as they are too large; the end of a report.
 use Prim.Native.Nat.{ℕ, _+_, _*_, _-_, _≤_, _<_}
 use native.Mathlib.Omega.{arith}
 use mathlib.Core.Path.{_≡_, refl, sym, ap, _∙_}
@@ -11,16 +11,16 @@ use borrow.Author.Tests.{lt-leb, le-leb, lt-ltb}
 use Rattle.tokens.specs.Written.{same}
 use Rattle.tokens.specs.Bytes.{digit}
 use Rattle.tokens.specs.Refusals.{notHere}
-use Rattle.tokens.specs.Tokens.{Tok, Toks, tok, toks}
+use Rattle.tokens.specs.Tokens.{Toks}
 use Rattle.meaning.specs.Bounds.{cyclesMost}
 use Rattle.meaning.specs.Refusals.{badNumber}
-use Rattle.meaning.specs.Reader.{ok, refuse, after, _>>=_, give, refuseIf, any, dueOf}
+use Rattle.meaning.specs.Reader.{ok, refuse, refuseIf}
 use Rattle.meaning.specs.Names.{value, number, within, isSome, known}
-use Rattle.words.specs.Cursor.{ahead, stream, alive, from, Goes, Checked}
+use Rattle.words.specs.Cursor.{alive, from, Goes, Checked}
 use Rattle.words.specs.Values.{told}
 use Rattle.words.specs.declared.Cursor.{Cursor}
 use Rattle.words.proofs.Words.{cut}
-use Rattle.words.proofs.Flow.{from-on, from-stop, alike, read, checked, passed, known-or, stream-on, stream-stop}
+use Rattle.words.proofs.Flow.{from-on, from-stop, alike, checked, passed, known-or, stream-on, stream-stop}
 use Rattle.reports.specs.Report.{ending}
 use Rattle.reports.specs.Read.{bounded}
 
@@ -94,24 +94,3 @@ ended {text} {c} {r} e = record { same = checked {text = text} e refl refl .same
     by true h false k =
         from-on text c (refuseIf false notHere (c .at)) h ∙ ap (refuseIf false notHere (c .at)) (stream-stop text c k)
         ∙ sym (from-on text c ending h ∙ ap ending (stream-stop text c k))
-
--- ---- behind a token that was due
-
-due-rest : (w : List ℕ) (t : Tok) (us : Toks) {p : ℕ} {vs : Toks} → dueOf w (tok t us) ≡ ok p vs → vs ≡ us
-unfolding dueOf any _>>=_ after refuseIf give
-due-rest w t us {p} {vs} e = by (same (t .word) w) e
-  where
-    by : (x : Bool) → after (refuseIf (not x) notHere (t .at) us) (λ u. give (t .at)) ≡ ok p vs → vs ≡ us
-    by true e = cc
-    by false e = let z : _≡_ {A = ℕ} 0 1 = cc in absurd (omega arith)
-
-pub behind-due : {text : List ℕ} {c r : Cursor} {p : ℕ} (w : List ℕ) → Goes text c (dueOf w) r p → alive r ≡ true → stream text r ≡ toks text (c .end)
-unfolding dueOf any _>>=_ after
-behind-due {text} {c} {r} {p} w g h = by (ltb (c .at) (c .end)) refl (read g h .gave)
-  where
-    by : (b : Bool) → ltb (c .at) (c .end) ≡ b → dueOf w (stream text c) ≡ ok p (stream text r) → stream text r ≡ toks text (c .end)
-    by true q e = due-rest w (ahead text c) (toks text (c .end)) (sym (ap (dueOf w) (stream-on text c q)) ∙ e)
-    by false q e =
-        let o = sym (ap (dueOf w) (stream-stop text c q)) ∙ e in
-        let z : _≡_ {A = ℕ} 0 1 = cc in
-        absurd (omega arith)

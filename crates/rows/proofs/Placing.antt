@@ -13,10 +13,11 @@ use borrow.Author.Tests.{lt-leb}
 use borrow.Rule.Slice.PartMut.{same-len-mid}
 use Rattle.meaning.specs.Run.{Cycle}
 use Rattle.meaning.specs.Services.{row, rowWidth}
+use Rattle.meaning.proofs.Windows.{row-room}
 use Rattle.walks.specs.Seen.{seen}
 use Rattle.walks.specs.Written.{Written}
 use Rattle.walks.proofs.Seen.{through-one}
-use Rattle.walks.proofs.Rows.{row-room, written-row}
+use Rattle.walks.proofs.Rows.{written-row}
 use Rattle.rows.specs.Went.{Going, spends, spent, Went}
 use Rattle.rows.specs.declared.Walk.{Walk}
 use Rattle.rows.proofs.Going.{spent-all}

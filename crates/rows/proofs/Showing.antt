@@ -3,7 +3,7 @@ use Prim.Native.Nat.{ℕ, _+_, _≤_, _<_}
 use native.Mathlib.Omega.{arith}
 use native.Mathlib.Numerals.{add-one}
 use mathlib.Core.Path.{_≡_, refl, sym, ap, ap₂, _∙_}
-use mathlib.Core.Option.{Option, none}
+use mathlib.Core.Option.{Option}
 use mathlib.Core.List.{List, [], _∷_, _++_, append-assoc}
 use lib.ListN.{length, getD, take, drop, set, length-append}
 use lib.Seq.{take-suc, length-take-le}
@@ -11,9 +11,9 @@ use borrow.Author.Tests.{eq-eqb, ne-eqb}
 use Rattle.meaning.specs.Bounds.{tablesMost}
 use Rattle.meaning.specs.Run.{Cycle}
 use Rattle.meaning.specs.Services.{shown, shownAll, digitOf, row, rowWidth}
-use Rattle.meaning.proofs.Rows.{row-width}
+use Rattle.meaning.proofs.Rows.{row-width, length-shown}
 use Rattle.data.specs.Filled.{over}
-use Rattle.data.proofs.Over.{over-length, over-set}
+use Rattle.data.proofs.Over.{over-length, over-set, over-fits}
 use Rattle.pins.specs.Shown.{tableOf}
 use Rattle.pins.proofs.Callers.{table-some, table-none}
 use Rattle.rows.specs.Went.{Cycled}
@@ -39,25 +39,12 @@ digit-none table h = ap digitOf (table-none table h)
 pub cycled-wide : {signals table : ℕ} {values : List ℕ} {c : Cycle} → Cycled signals values table c → signals ≤ length values → length (c .pins) ≡ signals
 cycled-wide {signals} {table} {values} z h = ap length (z .pins-are) ∙ length-take-le signals values h
 
--- one byte a signal: a row has two more
-shown-length : (mark : ℕ) (l : List ℕ) → length (shownAll mark l) ≡ length l
-unfolding row rowWidth
-shown-length mark l =
-    omega (arith, row-width mark (record { at = 0; table = none; pins = l }) (length l) refl, length-append (shownAll mark l) (digitOf none ∷ 10 ∷ []))
-
 shown-more : (mark : ℕ) (l : List ℕ) (b : ℕ) → shownAll mark (l ++ b ∷ []) ≡ shownAll mark l ++ shown mark b ∷ []
 unfolding shownAll
 shown-more mark [] b = refl
 shown-more mark (x ∷ l) b = ap (λ (r : List ℕ). shown mark x ∷ r) (shown-more mark l b)
 
 -- ---- the part
-
--- they have room
-over-all : (xs part : List ℕ) → length xs ≤ length part → over xs part ≡ xs ++ drop (length xs) part
-unfolding over
-over-all [] part h = refl
-over-all (x ∷ xs) [] h = absurd (omega arith)
-over-all (x ∷ xs) (b ∷ part) h = ap (λ (l : List ℕ). x ∷ l) (over-all xs part (omega arith))
 
 -- the first s signals stand there
 pub record Showed (mark : ℕ) (values before : List ℕ) (s : ℕ) (part : List ℕ) : Type 0 where
@@ -77,7 +64,7 @@ module _ {mark : ℕ} {values before : List ℕ} where
 
     module _ (h : s ≤ length values) where
       wide : length (shownAll mark (take s values)) ≡ s
-      wide = shown-length mark (take s values) ∙ length-take-le s values h
+      wide = length-shown mark (take s values) ∙ length-take-le s values h
 
       stored : (b : ℕ) → set part s b ≡ over (shownAll mark (take s values) ++ b ∷ []) before
       stored b = ap₂ (λ (l : List ℕ) (n : ℕ). set l n b) (x .is) (sym wide) ∙ over-set (shownAll mark (take s values)) before b
@@ -94,7 +81,7 @@ module _ {mark : ℕ} {values before : List ℕ} where
           ∙ ap (λ (k : ℕ). shownAll mark (take s values) ++ k ∷ 10 ∷ []) (sym e) ∙ sym (append-assoc (shownAll mark (take s values)) (digit ∷ []) (10 ∷ [])) in
           let width = row-width mark c s (cycled-wide z h) in
           ap₂ (λ (l : List ℕ) (n : ℕ). set l n 10) (stored digit) at ∙ over-set front before 10 ∙ ap (λ (l : List ℕ). over l before) (sym all)
-          ∙ over-all (row mark c) before (omega (arith, width)) ∙ ap (λ (n : ℕ). row mark c ++ drop n before) width
+          ∙ over-fits (row mark c) before (omega (arith, width)) ∙ ap (λ (n : ℕ). row mark c ++ drop n before) width
 
     pub showed-more : s < length values → (b : ℕ) → b ≡ shown mark (getD values s 0) → Showed mark values before (s + 1) (set part s b)
     showed-more h b e =

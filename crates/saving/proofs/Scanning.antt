@@ -3,7 +3,7 @@ use Prim.Native.Nat.{ℕ, zero, suc, _+_, _-_, _≤_, _<_}
 use native.Mathlib.Omega.{arith}
 use native.Mathlib.Numerals.{add-one}
 use mathlib.Core.Path.{_≡_, refl, sym, ap, ap₂, _∙_, subst}
-use mathlib.Core.Bool.{Bool, true, false, not, _&&_, _||_}
+use mathlib.Core.Bool.{Bool, true, false, not, _&&_, _||_, or-true}
 use mathlib.Core.Option.{Option, none, some}
 use mathlib.Core.List.{List, [], _∷_}
 use lib.Dec.{leb, ltb, eqb, eqb·suc-zero}
@@ -135,11 +135,7 @@ module _ (p : ℕ) where
   in-open s = ap (λ (x : Bool). leb (s .first) p && x) (by (leb p (s .behind)) refl)
     where
       below : (b : Bool) → eqb p (s .behind) ≡ b → p ≤ s .behind → (ltb p (s .behind) || b) ≡ true
-      below true e h = by-or (ltb p (s .behind))
-        where
-          by-or : (x : Bool) → (x || true) ≡ true
-          by-or true = refl
-          by-or false = refl
+      below true e h = or-true (ltb p (s .behind))
       below false e h = ap (λ (x : Bool). x || false) (lt-ltb p (s .behind) (omega (arith, eqb-false p (s .behind) e)))
 
       by : (b : Bool) → leb p (s .behind) ≡ b → (ltb p (s .behind) || eqb p (s .behind)) ≡ b

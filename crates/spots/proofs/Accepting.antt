@@ -19,9 +19,9 @@ use Rattle.held.proofs.Parts.{parts}
 use Rattle.words.specs.declared.Cursor.{Cursor}
 use Rattle.words.specs.Table.{names}
 use Rattle.words.proofs.Names.{firsts-named}
+use Rattle.words.proofs.Flow.{went}
 use Rattle.signals.specs.Names.{listAt, namesOf, front, Fronted}
 use Rattle.signals.proofs.Tables.{known}
-use Rattle.waves.proofs.Lines.{went}
 use Rattle.declared.proofs.Below.{tidy-below}
 use Rattle.spots.specs.Answers.{Answers, Behind, Opens}
 use Rattle.spots.specs.Spots.{Listed, signalsIn}

@@ -23,14 +23,14 @@ use Rattle.words.specs.Table.{names}
 use Rattle.words.proofs.Names.{old-named}
 use Rattle.signals.specs.Names.{listAt, namesOf}
 use Rattle.signals.proofs.Tables.{old-below}
-use Rattle.words.proofs.Flow.{read, stream-on, stream-stop}
+use Rattle.words.proofs.Flow.{read, stream-on, stream-stop, went}
 use Rattle.timing.specs.Events.{events}
 use Rattle.timing.specs.Watch.{charsEvents}
 use Rattle.timing.specs.Marks.{Below}
 use Rattle.timing.proofs.EventTimes.{as-many}
 use Rattle.waves.specs.Waves.{OneEvent}
 use Rattle.waves.specs.declared.EventRead.{EventRead}
-use Rattle.waves.proofs.Lines.{line, added-length, went}
+use Rattle.waves.proofs.Lines.{line, added-length}
 use Rattle.spots.specs.Answers.{Answers, Behind}
 use Rattle.spots.specs.Spots.{Spots, Stored, Listed}
 use Rattle.spots.proofs.Following.{parts, behind, next, tested}

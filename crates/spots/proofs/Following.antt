@@ -14,7 +14,7 @@ use Rattle.held.proofs.Rest.{Leaves, Moves, moves-leaves, moves-takes}
 use Rattle.held.proofs.Places.{rest-stream}
 use Rattle.words.specs.Cursor.{alive, stream, Goes}
 use Rattle.words.specs.declared.Cursor.{Cursor}
-use Rattle.waves.proofs.Lines.{went}
+use Rattle.words.proofs.Flow.{went}
 use Rattle.waves.proofs.Turns.{until-on}
 use Rattle.spots.specs.Answers.{Answers, Behind}
 

@@ -15,11 +15,11 @@ use Rattle.meaning.specs.Lists.{has}
 use Rattle.meaning.specs.Reader.{ok}
 use Rattle.meaning.specs.Timing.{Event, Wave, Events, taken, wavesFor}
 use Rattle.meaning.specs.Services.{waveOf}
+use Rattle.words.proofs.Words.{zeros}
 use Rattle.timing.specs.Watch.{charsEvents, Watched}
 use Rattle.timing.specs.Marks.{Below}
 use Rattle.timing.proofs.Watching.{watched-more}
 use Rattle.timing.proofs.Marking.{has-taken}
-use Rattle.declared.proofs.Numbers.{zeros}
 use Rattle.spots.specs.Spots.{bytesMost, spotsMost, spotAt, watchOf, Spots, Stored}
 
 -- ---- one spot more

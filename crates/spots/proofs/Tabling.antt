@@ -14,8 +14,8 @@ use Rattle.held.proofs.Rest.{moves-leaves, moves-due, moves-name, moves-new, mo
 use Rattle.held.proofs.Grammar.{moves-quoted, moves-waveforms}
 use Rattle.words.specs.Cursor.{Stands, Goes, ahead as aheadTok}
 use Rattle.words.specs.declared.Cursor.{Cursor}
+use Rattle.words.proofs.Flow.{went}
 use Rattle.timing.specs.Parts.{headThen}
-use Rattle.waves.proofs.Lines.{went}
 use Rattle.spots.specs.Answers.{Answers, Behind, Opens}
 use Rattle.spots.proofs.Following.{parts, behind, next, tested, finished}
 

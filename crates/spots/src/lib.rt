@@ -1,6 +1,6 @@
 // Where the entries of a table stand: the tables of a text that was read before, read once more. Nothing is tested again.
 ghost use mathlib.Core.Path.{_≡_};
-ghost use Prim.Native.Nat.{ℕ, _≤_, _<_, min};
+ghost use Prim.Native.Nat.{ℕ, _≤_, _<_};
 ghost use mathlib.Core.List.{List, [], _∷_};
 ghost use lib.ListN.{length};
 ghost use Rattle.tokens.specs.Tokens.{Toks};
@@ -47,19 +47,12 @@ fn keep(spots: &mut [usize], s: u16, w: &[u8], v: usize)
     }
 }
 
-// At most as many as there may be.
-fn fewer(n: usize) -> usize
-    ensures { λ r. ⌜ r ≡ min n signalsMost ⌝ }
-{
-    if n < sets::MOST { n } else { sets::MOST }
-}
-
 // v for each signal of a set and each character of w.
 fn keep_all(spots: &mut [usize], set: Set, w: &[u8], v: usize)
     requires { ⌜ (length (now spots) ≡ spotsMost) × Below (listOf set) ⌝ }
     ensures { λ r. ⌜ Stored (now (spots .entry)) (listOf set) (now (w .entry)) v (now (spots .exit)) ⌝ }
 {
-    let most = fewer(set.n);
+    let most = sets::least(set.n, sets::MOST);
     let mut i = 0;
     while i < most {
         keep(spots, set.v[i], w, v);

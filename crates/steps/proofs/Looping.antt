@@ -14,12 +14,12 @@ use Rattle.meaning.specs.Body.{looped, Body}
 use Rattle.meaning.specs.Run.{State, size, cycles, turnsOf, shiftOf, visits, again, playing, play}
 use Rattle.meaning.specs.Meaning.{firstFailing}
 use Rattle.meaning.specs.Statements.{Env}
-use Rattle.meaning.proofs.Turns.{Plain, sound-parts}
+use Rattle.meaning.proofs.Turns.{Plain, sound-parts, loop-left}
 use Rattle.meaning.proofs.Rows.{length-play, length-again}
 use Rattle.turns.specs.Few.{loopFew, playFew}
 use Rattle.walks.specs.Statement.{playedIn, cyclesIn}
 use Rattle.walks.specs.Turns.{begins}
-use Rattle.walks.proofs.Loops.{some-cycles, turn-below, loop-begins, loop-left, loop-behind}
+use Rattle.walks.proofs.Loops.{some-cycles, turn-below, loop-begins, loop-behind}
 use Rattle.measures.specs.declared.Measure.{Measure}
 use Rattle.measures.specs.Measures.{Measures}
 use Rattle.measures.proofs.Within.{size-within}

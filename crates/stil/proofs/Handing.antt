@@ -11,13 +11,12 @@ use Rattle.meaning.specs.Refusals.{noRoom}
 use Rattle.meaning.specs.Meaning.{Answer, given, refused, answering}
 use Rattle.meaning.specs.Services.{Waveform, waveform}
 use Rattle.data.specs.Filled.{over}
-use Rattle.data.proofs.Over.{over-set}
+use Rattle.data.proofs.Over.{over-set, over-fits}
 use Rattle.texts.specs.Told.{packedRefusal}
 use Rattle.verdicts.specs.Buffers.{afterwards}
 use Rattle.stil.specs.Interface.{withRoom, packed, fronted, Hands, Draws}
 use Rattle.services.specs.Waveforms.{Outlines}
 use Rattle.services.specs.declared.Outline.{Outline}
-use Rattle.charts.proofs.Fronts.{over-all}
 use Rattle.services.proofs.Shaping.{waveform-full, waveform-given}
 
 -- ---- a refusal as one number
@@ -44,13 +43,13 @@ module _ (l : List ℕ) (a b : ℕ) where
   over-two = ap (λ (m : List ℕ). set m 1 b) (over-set [] l a) ∙ over-set (a ∷ []) l b
 
   pub two-stored : 2 ≤ length l → set (set l 0 a) 1 b ≡ fronted (a ∷ b ∷ []) l
-  two-stored h = over-two ∙ over-all (a ∷ b ∷ []) l h
+  two-stored h = over-two ∙ over-fits (a ∷ b ∷ []) l h
 
   over-three : (c : ℕ) → set (set (set l 0 a) 1 b) 2 c ≡ over (a ∷ b ∷ c ∷ []) l
   over-three c = ap (λ (m : List ℕ). set m 2 c) over-two ∙ over-set (a ∷ b ∷ []) l c
 
   pub three-stored : (c : ℕ) → 3 ≤ length l → set (set (set l 0 a) 1 b) 2 c ≡ fronted (a ∷ b ∷ c ∷ []) l
-  three-stored c h = over-three c ∙ over-all (a ∷ b ∷ c ∷ []) l h
+  three-stored c h = over-three c ∙ over-fits (a ∷ b ∷ c ∷ []) l h
 
   over-five : (c d e : ℕ) → set (set (set (set (set l 0 a) 1 b) 2 c) 3 d) 4 e ≡ over (a ∷ b ∷ c ∷ d ∷ e ∷ []) l
   over-five c d e =
@@ -59,18 +58,18 @@ module _ (l : List ℕ) (a b : ℕ) where
       ∙ over-set (a ∷ b ∷ c ∷ d ∷ []) l e
 
   pub five-stored : (c d e : ℕ) → 5 ≤ length l → set (set (set (set (set l 0 a) 1 b) 2 c) 3 d) 4 e ≡ fronted (a ∷ b ∷ c ∷ d ∷ e ∷ []) l
-  five-stored c d e h = over-five c d e ∙ over-all (a ∷ b ∷ c ∷ d ∷ e ∷ []) l h
+  five-stored c d e h = over-five c d e ∙ over-fits (a ∷ b ∷ c ∷ d ∷ e ∷ []) l h
 
   pub six-stored : (c d e f : ℕ) → 6 ≤ length l
       → set (set (set (set (set (set l 0 a) 1 b) 2 c) 3 d) 4 e) 5 f ≡ fronted (a ∷ b ∷ c ∷ d ∷ e ∷ f ∷ []) l
   six-stored c d e f h =
       ap (λ (m : List ℕ). set m 5 f) (over-five c d e)
       ∙ over-set (a ∷ b ∷ c ∷ d ∷ e ∷ []) l f
-      ∙ over-all (a ∷ b ∷ c ∷ d ∷ e ∷ f ∷ []) l h
+      ∙ over-fits (a ∷ b ∷ c ∷ d ∷ e ∷ f ∷ []) l h
 
 pub one-stored : (l : List ℕ) (a : ℕ) → 1 ≤ length l → set l 0 a ≡ fronted (a ∷ []) l
 unfolding over
-one-stored l a h = over-set [] l a ∙ over-all (a ∷ []) l h
+one-stored l a h = over-set [] l a ∙ over-fits (a ∷ []) l h
 
 -- ---- an answer that needs room for k numbers
 

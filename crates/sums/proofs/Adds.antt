@@ -3,14 +3,14 @@ use Prim.Native.Nat.{ℕ}
 use native.Mathlib.Omega.{arith}
 use mathlib.Core.Path.{_≡_, sym, ap, ap₂, _∙_, subst}
 use mathlib.Core.Bool.{true, true≢false}
-use mathlib.Core.Option.{none}
+use mathlib.Core.Option.{none, orElse}
 use lib.ListN.{length, drop, length-drop}
 use lib.Seq.{drop-drop}
 use Rattle.meaning.specs.Timing.{Tables}
 use Rattle.meaning.specs.Body.{Body, argOf}
 use Rattle.meaning.specs.Run.{State, Played, follow, play}
 use Rattle.meaning.specs.Meaning.{firstFailing}
-use Rattle.meaning.proofs.Turns.{orElse, fails-++}
+use Rattle.meaning.proofs.Turns.{fails-++}
 use Rattle.measures.specs.Measures.{joined}
 use Rattle.sums.specs.Sums.{Sum, Asks, Leaves, due, Enough, Sums}
 use Rattle.sums.specs.Parts.{Kept}

@@ -3,6 +3,7 @@ use Prim.Native.Nat.{ℕ, zero, suc}
 use native.Mathlib.Nat.{mul-zero}
 use native.Mathlib.Omega.{arith}
 use mathlib.Core.Path.{_≡_, refl, sym, ap, ap₂, _∙_, subst}
+use mathlib.Core.Option.{orElse}
 use mathlib.Core.Bool.{true}
 use mathlib.Core.List.{[], append-nil}
 use lib.ListN.{length, drop, length-replicate, drop-of-length-le}
@@ -11,7 +12,7 @@ use Rattle.meaning.specs.Timing.{Tables}
 use Rattle.meaning.specs.Body.{Args, Kind, macro, procedure, listed, looped, entered, Body, done, inner, outside, inShift, shifting, argOf}
 use Rattle.meaning.specs.Run.{shiftOf, State, Played, bare, follow, again, entering, playing, play}
 use Rattle.meaning.specs.Meaning.{firstFailing}
-use Rattle.meaning.proofs.Turns.{Plain, keeps, plain-twice, copies, loop-turns, orElse, fails-++, fails-copies}
+use Rattle.meaning.proofs.Turns.{Plain, keeps, plain-twice, copies, loop-turns, fails-++, fails-copies}
 use Rattle.measures.specs.Measures.{joined}
 use Rattle.sums.specs.Sums.{Sum, Asks, Leaves, due, Enough, Sums}
 use Rattle.sums.specs.Parts.{Kept, InPlace, Called, Exact, noArgs, Looped}

@@ -2,7 +2,7 @@
 use Prim.Native.Nat.{ℕ, _+_, _*_, _≤_, _<_}
 use native.Mathlib.Omega.{arith}
 use mathlib.Core.Path.{_≡_, refl, sym, ap, _∙_, subst}
-use mathlib.Core.Bool.{Bool, true, false, _&&_}
+use mathlib.Core.Bool.{Bool, true, false, _&&_, and-false}
 use mathlib.Core.Option.{Option, none, some}
 use mathlib.Core.List.{List}
 use lib.Dec.{ltb}
@@ -66,10 +66,6 @@ module _ (sums : List ℕ) (r i : ℕ) (t : Option ℕ) where
 -- and what is not
 pub under-off : (sums : List ℕ) (r i : ℕ) (t : Option ℕ) → byteAt sums r (i * slots + slotOf t) ≡ 0 → sumAt sums r .under i t ≡ false
 under-off sums r i t e = rw (e, sumAt) (and-false (ltb i signalsMost && isSlot t))
-  where
-    and-false : (x : Bool) → (x && false) ≡ false
-    and-false true = refl
-    and-false false = refl
 
 -- what stands on signal i
 pub pin-at : (sums : List ℕ) (r i : ℕ) → i < signalsMost → sumAt sums r .pin i ≡ shownOf (byteAt sums r (pinsFrom + i))

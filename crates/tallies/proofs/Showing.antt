@@ -2,7 +2,7 @@
 use Prim.Native.Nat.{ℕ, _+_, _*_, _≤_, _<_}
 use native.Mathlib.Omega.{arith}
 use mathlib.Core.Path.{_≡_, refl, sym, ap, _∙_, subst}
-use mathlib.Core.Bool.{Bool, true, false, _||_}
+use mathlib.Core.Bool.{Bool, true, false, _||_, or-true}
 use mathlib.Core.Option.{Option, none, some}
 use mathlib.Core.List.{List}
 use lib.Dec.{ltb, eqb}
@@ -46,10 +46,6 @@ slot-of-table t h = by (ltb t tablesMost) refl
 ok-wave : (tabs : Tables) (i k c : ℕ) → hasWave i c (tableAt tabs k) ≡ true → okAt tabs (some k) i c ≡ true
 unfolding okAt
 ok-wave tabs i k c e = rw e (or-true (eqb c 0))
-  where
-    or-true : (z : Bool) → (z || true) ≡ true
-    or-true true = refl
-    or-true false = refl
 
 same-char : {x y : ℕ} → char x ≡ char y → x ≡ y
 same-char e = cc

@@ -20,6 +20,7 @@ use Rattle.meaning.specs.Timing.{Wave, allChars, taken, blanks, event, wavesFor
 use Rattle.meaning.proofs.Takes.{Takes}
 use Rattle.meaning.proofs.Taking.{takes-keeps, takes-due, takes-word, takes-old, takes-bind, keeps-bind, keeps-if, keeps-give, takes-until}
 use Rattle.meaning.proofs.Gives.{Gives, gives-bind, gives-after, gives-give, known-ok}
+use Rattle.meaning.proofs.SameTokens.{stands-there}
 use Rattle.words.specs.Cursor.{ahead, alive, stream, Goes, Checked}
 use Rattle.words.specs.declared.Cursor.{Cursor}
 use Rattle.words.specs.Table.{names}
@@ -37,7 +38,6 @@ use Rattle.timing.specs.declared.Sight.{Sight}
 use Rattle.timing.proofs.Making.{made, first, first-then, onward}
 use Rattle.timing.proofs.EventReading.{takes-event}
 use Rattle.timing.proofs.Marking.{taken-marks, marks-more}
-use Rattle.timing.proofs.Places.{token-there}
 use Rattle.timing.proofs.Watching.{watched-more}
 
 -- ---- CHARS
@@ -116,7 +116,7 @@ module _ {text : List ℕ} {c d : Cursor} {sigs table : List ℕ} {ws : List Wav
             → charsEvents (toks text (c .at)) ≡ ok (ahead text c, x .it) (stream text r)
         by true q o g =
             let s = stream-on text c q in
-            ap charsEvents (token-there text (placed .from) (sym (placed .there o) ∙ s) ∙ sym s) ∙ g
+            ap charsEvents (stands-there text (ahead text c) (toks text (c .end)) (record { at = placed .from; is = sym (sym (placed .there o) ∙ s) }) ∙ sym s) ∙ g
         by false q o g =
             let v = sym (ap charsEvents (stream-stop text c q)) ∙ g in
             let z : _≡_ {A = ℕ} 0 1 = cc in

@@ -5,7 +5,7 @@ use native.Mathlib.Omega.{arith}
 use native.Mathlib.Numerals.{add-one}
 use mathlib.Core.Path.{_≡_, refl, sym, ap, _∙_, subst}
 use mathlib.Core.Logic.{_⊎_, inl, inr, ⊎-elim}
-use mathlib.Core.Bool.{Bool, true, false, cond, not, _&&_, _||_}
+use mathlib.Core.Bool.{Bool, true, false, cond, not, _&&_, _||_, and-true, and-false, and-assoc}
 use mathlib.Core.Option.{Option, none, some}
 use mathlib.Core.List.{List, [], _∷_, _++_}
 use lib.ListN.{length, getD, set, replicate, length-set}
@@ -16,15 +16,11 @@ use Rattle.tokens.specs.Written.{bytes}
 use Rattle.meaning.specs.Bounds.{entryMost}
 use Rattle.meaning.specs.Lists.{has, meets}
 use Rattle.meaning.specs.Timing.{Event, Events, drives, compares, alike, rises, addEvents, blanks, spread}
+use Rattle.words.proofs.Words.{zeros}
 use Rattle.timing.specs.Events.{isEvent, allEvents, Lettered, slot, Timed, Adding}
 use Rattle.timing.proofs.EventLetters.{spread-many, spread-real}
 
 -- ---- no events
-
-pub zeros : (n i : ℕ) → _≡_ {A = ℕ} (getD (replicate n 0) i 0) 0
-zeros zero i = refl
-zeros (suc n) zero = refl
-zeros (suc n) (suc i) = zeros n i
 
 pub blank : (cs : List ℕ) (i : ℕ) → getD (blanks cs) i [] ≡ []
 unfolding blanks
@@ -88,17 +84,9 @@ slots e f i h k = rw (one-category e h, one-category f k) (by (drives e) (drives
 abbrev pub at : ℕ → ℕ → Event
 at t e = record { time = t; letter = e }
 
-and-assoc : (x y z : Bool) → ((x && y) && z) ≡ (x && (y && z))
-and-assoc true y z = refl
-and-assoc false y z = refl
-
 rises-more : (u f t e : ℕ) (c : List Event) → rises u f (c ++ at t e ∷ []) ≡ (rises u f c && (not (alike f e) || ltb t u))
 unfolding rises
-rises-more u f t e [] = by (not (alike f e) || ltb t u)
-  where
-    by : (x : Bool) → (x && true) ≡ x
-    by true = refl
-    by false = refl
+rises-more u f t e [] = and-true (not (alike f e) || ltb t u)
 rises-more u f t e (x ∷ c) =
     ap (λ (b : Bool). (not (alike f (x .letter)) || ltb (x .time) u) && b) (rises-more u f t e c)
     ∙ sym (and-assoc (not (alike f (x .letter)) || ltb (x .time) u) (rises u f c) (not (alike f e) || ltb t u))
@@ -109,15 +97,7 @@ above-both l t u h = by (ltb t u) refl
   where
     by : (b : Bool) → ltb t u ≡ b → (leb l u && ltb t u) ≡ leb (t + 1) u
     by true k = let o : t < u = ltb-true t u k in rw (k, le-leb l u (omega arith), le-leb (t + 1) u (omega arith))
-    by false k = let o : u ≤ t = ltb-false t u k in rw (k, lt-leb (t + 1) u (omega arith)) (no (leb l u))
-      where
-        no : (x : Bool) → (x && false) ≡ false
-        no true = refl
-        no false = refl
-
-and-true : (x : Bool) → (x && true) ≡ x
-and-true true = refl
-and-true false = refl
+    by false k = let o : u ≤ t = ltb-false t u k in rw (k, lt-leb (t + 1) u (omega arith)) (and-false (leb l u))
 
 -- the first i characters have the event already
 abbrev pub added : ℕ → ℕ → List ℕ → List (List Event) → List (List Event)

@@ -3,19 +3,20 @@ use Prim.Native.Nat.{ℕ, zero, suc, _+_, _*_, _-_, _≤_, _<_, min}
 use native.Mathlib.Omega.{arith}
 use native.Mathlib.Numerals.{add-one}
 use mathlib.Core.Path.{_≡_, refl, sym, ap, _∙_}
-use mathlib.Core.Bool.{Bool, true, false, _&&_, _||_}
+use mathlib.Core.Bool.{Bool, true, false, _&&_, _||_, and-false, or-true, or-false}
 use mathlib.Core.List.{List, [], _∷_, _++_}
 use lib.ListN.{length, getD, take, drop, set, drop-of-length-le, length-take, length-drop}
 use lib.Seq.{getD-set-same, getD-set-other, take-suc, take-all, take-take}
 use lib.Dec.{eqb, ltb, leb}
-use borrow.Author.Tests.{eqb-true, eqb-false, eq-eqb, ne-eqb, ltb-true, lt-ltb, leb-true, leb-false}
+use borrow.Author.Tests.{eqb-true, eqb-false, ltb-true, lt-ltb, leb-true, leb-false}
 use Rattle.tokens.specs.Bytes.{digit, letter, between}
+use Rattle.tokens.proofs.Bools.{both, eqb-comm}
 use Rattle.meaning.specs.Bounds.{signalsMost}
 use Rattle.meaning.specs.Lists.{has, repeats}
 use Rattle.meaning.specs.Timing.{Event, Wave, waveChar, allChars, taken, wavesOf, wavesFor}
 use Rattle.meaning.specs.Meaning.{hasWave}
+use Rattle.meaning.proofs.Lists.{has-append}
 use Rattle.words.proofs.Words.{cut}
-use Rattle.words.proofs.Loops.{both}
 use Rattle.timing.specs.Marks.{charsMost, tableSize, mark, Marks, any, markAmong, Marked, Below}
 
 -- ---- loops over characters and signals
@@ -73,27 +74,12 @@ chars-below (b ∷ w) (suc i) h k = chars-below w i (both (waveChar b) (allChars
 
 -- ---- one mark more
 
-eqb-comm : (a b : ℕ) → eqb a b ≡ eqb b a
-eqb-comm a b = by (eqb b a) refl
-  where
-    by : (x : Bool) → eqb b a ≡ x → eqb a b ≡ x
-    by true e = eq-eqb a b (sym (eqb-true b a e))
-    by false e = ne-eqb a b λ q. eqb-false b a e (sym q)
-
 mark-set : (t : List ℕ) (s b s′ b′ : ℕ) → length t ≡ tableSize → s < signalsMost → b < charsMost
     → mark (set t (s * charsMost + b) 1) s′ b′ ≡ (mark t s′ b′ || eqb s s′ && eqb b b′)
 mark-set t s b s′ b′ l h k = by (ltb b′ charsMost) refl (eqb s s′) refl (eqb b b′) refl
   where
     at : ℕ
     at = s * charsMost + b
-
-    no : (x : Bool) → x ≡ (x || false)
-    no true = refl
-    no false = refl
-
-    yes : (x : Bool) → true ≡ (x || true)
-    yes true = refl
-    yes false = refl
 
     apart : b′ < charsMost → (s′ * charsMost + b′ ≡ at → ⊥) → eqb (getD (set t at 1) (s′ * charsMost + b′) 0) 1 ≡ eqb (getD t (s′ * charsMost + b′) 0) 1
     apart g n = ap (λ (x : ℕ). eqb x 1) (getD-set-other t at (s′ * charsMost + b′) 1 0 n)
@@ -102,11 +88,11 @@ mark-set t s b s′ b′ l h k = by (ltb b′ charsMost) refl (eqb s s′) refl 
         → (x && eqb (getD (set t at 1) (s′ * charsMost + b′) 0) 1) ≡ ((x && eqb (getD t (s′ * charsMost + b′) 0) 1) || y && z)
     by true e true f true g =
         let p : s′ * charsMost + b′ ≡ at = omega (arith, eqb-true s s′ f, eqb-true b b′ g) in
-        ap (λ (x : ℕ). eqb (getD (set t at 1) x 0) 1) p ∙ ap (λ (x : ℕ). eqb x 1) (getD-set-same t at 1 0 (omega arith)) ∙ yes (eqb (getD t (s′ * charsMost + b′) 0) 1)
+        ap (λ (x : ℕ). eqb (getD (set t at 1) x 0) 1) p ∙ ap (λ (x : ℕ). eqb x 1) (getD-set-same t at 1 0 (omega arith)) ∙ sym (or-true (eqb (getD t (s′ * charsMost + b′) 0) 1))
     by true e true f false g =
-        apart (ltb-true b′ charsMost e) (λ p. eqb-false b b′ g (omega (arith, eqb-true s s′ f))) ∙ no (eqb (getD t (s′ * charsMost + b′) 0) 1)
+        apart (ltb-true b′ charsMost e) (λ p. eqb-false b b′ g (omega (arith, eqb-true s s′ f))) ∙ sym (or-false (eqb (getD t (s′ * charsMost + b′) 0) 1))
     by true e false f z g =
-        apart (ltb-true b′ charsMost e) (λ p. eqb-false s s′ f (omega (arith, ltb-true b′ charsMost e))) ∙ no (eqb (getD t (s′ * charsMost + b′) 0) 1)
+        apart (ltb-true b′ charsMost e) (λ p. eqb-false s s′ f (omega (arith, ltb-true b′ charsMost e))) ∙ sym (or-false (eqb (getD t (s′ * charsMost + b′) 0) 1))
     by false e true f true g =
         let o : true ≡ false = sym (lt-ltb b′ charsMost (omega (arith, eqb-true b b′ g))) ∙ e in
         let z : _≡_ {A = ℕ} 0 1 = cc in
@@ -118,16 +104,7 @@ mark-set t s b s′ b′ l h k = by (ltb b′ charsMost) refl (eqb s s′) refl 
 
 has-more : (x : ℕ) (xs : List ℕ) (y : ℕ) → has x (xs ++ y ∷ []) ≡ (has x xs || eqb y x)
 unfolding has
-has-more x [] y = by (eqb y x)
-  where
-    by : (b : Bool) → (b || false) ≡ b
-    by true = refl
-    by false = refl
-has-more x (z ∷ xs) y = ap (λ (b : Bool). eqb z x || b) (has-more x xs y) ∙ by (eqb z x)
-  where
-    by : (b : Bool) → (b || (has x xs || eqb y x)) ≡ ((b || has x xs) || eqb y x)
-    by true = refl
-    by false = refl
+has-more x xs y = has-append x xs (y ∷ []) ∙ ap (λ (b : Bool). has x xs || b) (or-false (eqb y x))
 
 pub has-taken : (x : ℕ) (xs : List ℕ) (i : ℕ) → i < length xs → has x (take (i + 1) xs) ≡ (has x (take i xs) || eqb (getD xs i 0) x)
 has-taken x xs i h = rw (add-one, take-suc xs i 0 h) (has-more x (take i xs) (getD xs i 0))
@@ -143,11 +120,7 @@ marked-no-chars t sigs = record { each = λ s b h. or-none (mark t s b) (has s s
 
 pub marked-no-signals : (t w : List ℕ) → Marked t [] w t
 unfolding has
-marked-no-signals t w = record { each = λ s b h. by (mark t s b) }
-  where
-    by : (x : Bool) → x ≡ (x || false)
-    by true = refl
-    by false = refl
+marked-no-signals t w = record { each = λ s b h. sym (or-false (mark t s b)) }
 
 pub marked-char : {t₀ t : List ℕ} (w : List ℕ) (s i : ℕ) → length t ≡ tableSize → s < signalsMost → i < length w → getD w i 0 < charsMost
     → Marked t₀ (s ∷ []) (take i w) t → Marked t₀ (s ∷ []) (take (i + 1) w) (set t (s * charsMost + getD w i 0) 1)
@@ -222,11 +195,7 @@ wave-append s b (w ∷ ws) vs = ap (λ (x : Bool). eqb (w .signal) s && eqb (w .
 
 wave-one : (s b s₀ : ℕ) (cs : List ℕ) (es : List (List Event)) → length es ≡ length cs → hasWave s b (wavesOf s₀ cs es) ≡ (eqb s₀ s && has b cs)
 unfolding hasWave wavesOf has
-wave-one s b s₀ [] es h = by (eqb s₀ s)
-  where
-    by : (x : Bool) → false ≡ (x && false)
-    by true = refl
-    by false = refl
+wave-one s b s₀ [] es h = sym (and-false (eqb s₀ s))
 wave-one s b s₀ (c ∷ cs) [] h = absurd (omega arith)
 wave-one s b s₀ (c ∷ cs) (e ∷ es) h = ap (λ (x : Bool). eqb s₀ s && eqb c b || x) (wave-one s b s₀ cs es (omega arith)) ∙ by (eqb s₀ s)
   where

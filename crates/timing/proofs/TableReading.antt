@@ -18,6 +18,7 @@ use Rattle.meaning.specs.Timing.{Wave, Table, Tables, waveforms, table}
 use Rattle.meaning.specs.Meaning.{hasWave, tableAt, firsts}
 use Rattle.meaning.proofs.Takes.{Takes}
 use Rattle.meaning.proofs.Taking.{takes-keeps, takes-due, takes-new, takes-bind, keeps-bind, keeps-if, keeps-give, takes-until}
+use Rattle.meaning.proofs.Listed.{length-firsts}
 use Rattle.words.specs.Cursor.{ahead, alive, Goes, Checked}
 use Rattle.words.specs.declared.Cursor.{Cursor}
 use Rattle.words.specs.Table.{namesFrom, names}
@@ -37,11 +38,6 @@ use Rattle.timing.proofs.Watching.{watched-none}
 
 -- ---- names
 
-pub firsts-length : {A : Type 0} (xs : List (Tok × A)) → length (firsts xs) ≡ length xs
-unfolding firsts
-firsts-length [] = refl
-firsts-length (x ∷ xs) = ap suc (firsts-length xs)
-
 names-length : (text places : List ℕ) (i k : ℕ) → length (namesFrom text places i k) ≡ k
 unfolding namesFrom
 names-length text places i zero = refl
@@ -50,7 +46,7 @@ names-length text places i (suc k) = ap suc (names-length text places (suc i) k)
 module _ {text tplaces waves : List ℕ} {k : ℕ} {tabs : Tables} (a : Held text tplaces waves k tabs) where
   pub held-count : length tabs ≡ k
   held-count =
-      sym (firsts-length tabs) ∙ ap length (a .named) ∙ firsts-length (names text tplaces k) ∙ names-length text tplaces 0 k
+      sym (length-firsts tabs) ∙ ap length (a .named) ∙ length-firsts (names text tplaces k) ∙ names-length text tplaces 0 k
 
   held-names : firsts tabs ≡ firsts (names text tplaces k)
   held-names = a .named

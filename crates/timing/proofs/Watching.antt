@@ -3,7 +3,7 @@ use Prim.Native.Nat.{ℕ, suc, _≤_}
 use native.Mathlib.Omega.{arith}
 use mathlib.Core.Path.{_≡_, refl, sym, ap, _∙_, subst}
 use mathlib.Core.Bool.{Bool, true, false, cond, not, _&&_, _||_}
-use mathlib.Core.Option.{Option, none, some}
+use mathlib.Core.Option.{Option, none, some, orElse}
 use mathlib.Core.List.{List, [], _∷_, _++_}
 use lib.ListN.{length, getD}
 use lib.Dec.{eqb}
@@ -14,6 +14,7 @@ use Rattle.meaning.specs.Lists.{has}
 use Rattle.meaning.specs.Reader.{ok, refuse, give}
 use Rattle.meaning.specs.Timing.{Event, Wave, Events, wavesOf, wavesFor}
 use Rattle.meaning.specs.Services.{waveOf}
+use Rattle.meaning.proofs.Lists.{wave-append}
 use Rattle.words.specs.Cursor.{stream, Stands, alive, from, Goes}
 use Rattle.words.specs.declared.Cursor.{Cursor}
 use Rattle.words.proofs.Flow.{from-on, from-stop}
@@ -24,23 +25,7 @@ use Rattle.timing.specs.declared.Sight.{Sight}
 
 -- ---- the waveform among those of an entry
 
--- the first that is there
-abbrev orElse : {A : Type 0} → Option A → Option A → Option A
-orElse none p = p
-orElse (some a) p = some a
-
 module _ (s b : ℕ) where
-  wave-append : (ws vs : List Wave) → waveOf s b (ws ++ vs) ≡ orElse (waveOf s b ws) (waveOf s b vs)
-  unfolding waveOf
-  wave-append [] vs = refl
-  wave-append (w ∷ ws) vs = by (eqb (w .signal) s && eqb (w .char) b) (wave-append ws vs)
-    where
-      by : (x : Bool) → waveOf s b (ws ++ vs) ≡ orElse (waveOf s b ws) (waveOf s b vs)
-          → _≡_ {A = Option (List Event)} (elim x [ true ↦ some (w .events) | false ↦ waveOf s b (ws ++ vs) ])
-          (orElse (elim x [ true ↦ some (w .events) | false ↦ waveOf s b ws ]) (waveOf s b vs))
-      by true ih = refl
-      by false ih = ih
-
   -- the events of the character b, if the test holds
   abbrev giving : Bool → List ℕ → List (List Event) → Option (List Event)
   giving x cs es = cond x (some (getD es (numberOf b cs) [])) none
@@ -63,10 +48,10 @@ module _ (s b : ℕ) where
       by false y ih = ih
 
   wave-all : (sigs cs : List ℕ) (es : List (List Event)) → length es ≡ length cs → waveOf s b (wavesFor sigs cs es) ≡ giving (has s sigs && has b cs) cs es
-  unfolding waveOf wavesFor has
+  unfolding waveOf wavesFor has orElse
   wave-all [] cs es h = refl
   wave-all (s₀ ∷ sigs) cs es h =
-      wave-append (wavesOf s₀ cs es) (wavesFor sigs cs es) ∙ ap (λ (o : Option (List Event)). orElse o (waveOf s b (wavesFor sigs cs es))) (wave-one s₀ cs es h)
+      wave-append s b (wavesOf s₀ cs es) (wavesFor sigs cs es) ∙ ap (λ (o : Option (List Event)). orElse o (waveOf s b (wavesFor sigs cs es))) (wave-one s₀ cs es h)
       ∙ ap (orElse (giving (eqb s₀ s && has b cs) cs es)) (wave-all sigs cs es h) ∙ by (eqb s₀ s) (has s sigs) (has b cs)
     where
       by : (x y z : Bool) → orElse (giving (x && z) cs es) (giving (y && z) cs es) ≡ giving ((x || y) && z) cs es
@@ -80,6 +65,7 @@ module _ (s b : ℕ) where
 pub watched-more : {text : List ℕ} {w : Watch} {s s′ : Sight} {ws : List Wave} {us : Toks} (sigs cs : List ℕ) (es : Events) (place : ℕ) → length (es .0) ≡ length cs
     → length cs ≤ entryMost → charsEvents (toks text place) ≡ ok (record { at = place; word = cs }, es) us → s′ ≡ looked w s sigs cs place
     → Watched text w (s .found) (s .place) ws → Watched text w (s′ .found) (s′ .place) (ws ++ wavesFor sigs cs (es .0))
+unfolding orElse
 watched-more {text} {w} {s} {s′} {ws} {us} sigs cs es place sized few there q h =
     subst (λ (x : Sight). Watched text w (x .found) (x .place) all) (sym q) (by (s .found) refl)
   where

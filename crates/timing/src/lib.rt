@@ -19,6 +19,12 @@ ghost use Rattle.timing.specs.Marks.{tableSize, mark, Marks, Described, 
 ghost use Rattle.timing.specs.Parts.{Chars, entries as entriesOf, block as blockOf, headThen};
 ghost use Rattle.timing.specs.Held.{Held};
 ghost use Rattle.timing.specs.Watch.{Placed, looked, Noted, Kept};
+use words::BAD_DATA;
+use words::NOT_HERE;
+use words::TOO_MANY;
+
+// Refusal: a character that has a waveform, alternatives that do not fit, or a time that does not rise.
+const BAD_WAVEFORM: u8 = 11;
 
 // ---- letters of events
 
@@ -62,7 +68,7 @@ fn letter(text: &[u8], c: words::Cursor) -> LetterRead
 {
     let d = words::step(text, c);
     let e = event_letter(words::bytes_of(text, c.at, c.end));
-    let cursor = words::refuse_if(d, e == 0, 4, c.at);
+    let cursor = words::refuse_if(d, e == 0, NOT_HERE, c.at);
     LetterRead { cursor, e }
 }
 
@@ -206,12 +212,12 @@ fn one_event(text: &[u8], c: words::Cursor, n: usize, times: Times) -> TimesRead
     let behind = l.cursor;
     let a = l.a;
     let d = words::due(text, behind, b";");
-    let e = words::refuse_if(d, (a.n != 1) & (a.n != n), 11, behind.at);
+    let e = words::refuse_if(d, (a.n != 1) & (a.n != n), BAD_WAVEFORM, behind.at);
     if e.no != 0 {
         return TimesRead { cursor: e, times };
     }
     let added = add(times, t.n, a, n);
-    let cursor = words::refuse_if(e, !added.right, 11, behind.at);
+    let cursor = words::refuse_if(e, !added.right, BAD_WAVEFORM, behind.at);
     let times = added.times;
     TimesRead { cursor, times }
 }
@@ -223,7 +229,7 @@ fn event(text: &[u8], c: words::Cursor, n: usize, times: Times) -> TimesRead
 {
     if words::is(text, c, b"'") & (ENTRY <= times.count) {
         let d = words::due(text, c, b"'");
-        let cursor = words::refuse_if(d, true, 8, c.at);
+        let cursor = words::refuse_if(d, true, TOO_MANY, c.at);
         return TimesRead { cursor, times };
     }
     one_event(text, c, n, times)
@@ -404,8 +410,7 @@ pub const WAVES: usize = TABLES * TABLE;
 fn fewer(n: u16) -> usize
     ensures { λ r. ⌜ r ≡ min n signalsMost ⌝ }
 {
-    let n = n as usize;
-    if n < sets::MOST { n } else { sets::MOST }
+    sets::least(n as usize, sets::MOST)
 }
 
 // The signals of the name of number i.
@@ -429,9 +434,9 @@ fn chars(text: &[u8], c: words::Cursor, sigs: &[u16], table: &[u8]) -> words::Cu
 {
     let d = words::word(text, c);
     let w = words::bytes_of(text, c.at, c.end);
-    let e = words::refuse_if(d, ENTRY + 1 <= w.len(), 8, c.at);
-    let f = words::refuse_if(e, repeats(w) | taken(table, sigs, w), 11, c.at);
-    words::refuse_if(f, !words::all_chars(w), 12, c.at)
+    let e = words::refuse_if(d, ENTRY + 1 <= w.len(), TOO_MANY, c.at);
+    let f = words::refuse_if(e, repeats(w) | taken(table, sigs, w), BAD_WAVEFORM, c.at);
+    words::refuse_if(f, !words::all_chars(w), BAD_DATA, c.at)
 }
 
 // CHARS and their events, for these signals.
@@ -548,7 +553,7 @@ fn table<'a>(
     let c = x.cursor;
     let sight = x.sight;
     let a = words::due(text, c, b"WaveformTable");
-    let b = words::refuse_if(a, TABLES <= k, 8, c.at);
+    let b = words::refuse_if(a, TABLES <= k, TOO_MANY, c.at);
     let d = words::new_name(text, b, &tplaces[..], k);
     let headed = head(text, d);
     let e = headed.cursor;

@@ -2,8 +2,8 @@
 use Prim.Native.Nat.{ℕ, _<_}
 use mathlib.Core.Path.{_≡_, refl, sym, _∙_}
 use mathlib.Core.Bool.{Bool, true, false, _&&_, _||_, true≢false, false≢true}
-use lib.Dec.{ltb}
-use borrow.Author.Tests.{ltb-true}
+use lib.Dec.{eqb, ltb}
+use borrow.Author.Tests.{ltb-true, eqb-true, eqb-false, eq-eqb, ne-eqb}
 
 pub both : (x y : Bool) → (x && y) ≡ true → (x ≡ true) × (y ≡ true)
 both true y h = (refl, h)
@@ -34,6 +34,13 @@ contra false y h e = refl
 
 pub true-false : {A : Type 0} {x : Bool} → x ≡ true → x ≡ false → A
 true-false p q = absurd (true≢false (sym p ∙ q))
+
+pub eqb-comm : (a b : ℕ) → eqb a b ≡ eqb b a
+eqb-comm a b = by (eqb b a) refl
+  where
+    by : (x : Bool) → eqb b a ≡ x → eqb a b ≡ x
+    by true e = eq-eqb a b (sym (eqb-true b a e))
+    by false e = ne-eqb a b λ q. eqb-false b a e (sym q)
 
 pub never : {A : Type 0} → false ≡ true → A
 never e = absurd (false≢true e)

@@ -2,7 +2,7 @@
 -- cannot be played.
 use mathlib.Core.Path.{_≡_, refl, sym, ap, _∙_}
 use Prim.Native.Nat.{ℕ, suc}
-use mathlib.Core.Option.{none}
+use mathlib.Core.Option.{none, orElse}
 use mathlib.Core.List.{[]}
 use lib.ListN.{length}
 use lib.Seq.{ext-getD}
@@ -10,7 +10,7 @@ use Rattle.meaning.specs.Timing.{Tables}
 use Rattle.meaning.specs.Body.{Args, Body}
 use Rattle.meaning.specs.Run.{unassigned, State, follow, play}
 use Rattle.meaning.specs.Meaning.{firstFailing}
-use Rattle.meaning.proofs.Turns.{orElse, keeps, Plain, Good, fails-++}
+use Rattle.meaning.proofs.Turns.{keeps, Plain, Good, fails-++}
 use Rattle.turns.specs.Few.{loopFew, playFew, openMost}
 use Rattle.turns.proofs.Known.{Known}
 use Rattle.turns.proofs.Thins.{most-forgive, or-first}

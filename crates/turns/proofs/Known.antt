@@ -4,10 +4,10 @@ use mathlib.Core.Path.{_≡_, refl, ap, ap₂}
 use Prim.Native.Nat.{ℕ, zero, suc}
 use native.Mathlib.Omega.{arith}
 use mathlib.Core.Bool.{Bool, true, false, _&&_}
-use mathlib.Core.Option.{Option, none, some}
+use mathlib.Core.Option.{Option, none, some, orElse}
 use mathlib.Core.List.{List, [], _∷_, _++_}
 use Rattle.tokens.proofs.Bools.{both}
-use Rattle.meaning.proofs.Turns.{later, orElse}
+use Rattle.meaning.proofs.Turns.{later}
 
 pub record Known : Type 0 where
   pub pins : ℕ → Option ℕ

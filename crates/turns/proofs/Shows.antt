@@ -5,7 +5,7 @@ use native.Mathlib.Nat.{zero-add, add-zero, add-suc, suc-add}
 use native.Mathlib.Omega.{arith}
 use native.Mathlib.Decide.{ℕ-discrete, decLt}
 use mathlib.Core.Bool.{Bool, true, false, _&&_, _||_}
-use mathlib.Core.Option.{Option, none, some}
+use mathlib.Core.Option.{Option, none, some, orElse}
 use mathlib.Core.List.{List, [], _∷_, _++_}
 use lib.ListN.{length, set, getD, replicate, length-set, length-replicate}
 use lib.Seq.{getD-set-same, getD-set-other, set-out}
@@ -14,7 +14,7 @@ use Rattle.meaning.specs.Timing.{Wave, Tables}
 use Rattle.meaning.specs.Body.{Assigns, Args, mark, Setting, assigning, choosing, macro, procedure, listed, argOf}
 use Rattle.meaning.specs.Run.{unassigned, State, Played, next, taken, put, puts, changed, cycleAt, follow, bare, entering}
 use Rattle.meaning.specs.Meaning.{hasWave, allWaves, tableAt, playable, firstFailing}
-use Rattle.meaning.proofs.Turns.{over, over-later, orElse, fails-++}
+use Rattle.meaning.proofs.Turns.{over, over-later, fails-++}
 use Rattle.turns.proofs.Known.{Known, nothing, after, Met, behind, Test, from, every, passes, first, first-++, first-behind}
 
 -- ---- what is tested of a cycle: each signal's character with the table

@@ -1,14 +1,14 @@
 -- Every body shows a row of V's, and played with fewer turns that row thinned; both leave the same.
 use mathlib.Core.Path.{_≡_, refl, sym, ap, _∙_, subst}
 use Prim.Native.Nat.{ℕ, zero, suc}
-use mathlib.Core.Option.{Option, none, some}
+use mathlib.Core.Option.{Option, none, some, orElse}
 use mathlib.Core.List.{List, [], _++_, append-nil}
 use lib.ListN.{replicate, length-replicate}
 use Rattle.meaning.specs.Timing.{Tables}
 use Rattle.meaning.specs.Body.{Args, Kind, macro, procedure, listed, Way, looped, shifted, entered, Body, done, vec, set′, inner}
 use Rattle.meaning.specs.Run.{shiftOf, unassigned, State, Cycle, Played, follow, again, entering, playing, play}
 use Rattle.meaning.specs.Meaning.{firstFailing}
-use Rattle.meaning.proofs.Turns.{later, orElse, Keeps, keeps, plain-twice, IfLoop, Plain, Good, copies, turns-repeat, fails-++, fails-copies}
+use Rattle.meaning.proofs.Turns.{later, Keeps, keeps, plain-twice, IfLoop, Plain, Good, copies, turns-repeat, fails-++, fails-copies}
 use Rattle.turns.specs.Few.{loopFew, playingFew, playFew}
 use Rattle.turns.proofs.Known.{Known, nothing, after, Met, behind}
 use Rattle.turns.proofs.Thins.{Thins, thins-all, thins-then, secondFew, thins-loop}

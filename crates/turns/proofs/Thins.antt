@@ -5,11 +5,11 @@ use mathlib.Core.Path.{_≡_, refl, sym, ap, ap₂, _∙_}
 use Prim.Native.Nat.{ℕ, zero, suc, _+_, _<_, _≤_}
 use native.Mathlib.Omega.{arith}
 use mathlib.Core.Bool.{Bool, true, false, _||_}
-use mathlib.Core.Option.{Option, none, some}
+use mathlib.Core.Option.{Option, none, some, orElse}
 use mathlib.Core.List.{List, _++_}
 use lib.Dec.{leb}
 use borrow.Author.Tests.{le-leb, leb-true}
-use Rattle.meaning.proofs.Turns.{later, orElse}
+use Rattle.meaning.proofs.Turns.{later}
 use Rattle.meaning.proofs.Options.{or-both, or-alike}
 use Rattle.turns.specs.Few.{openMost}
 use Rattle.turns.proofs.Known.{Known, Met, behind, Test, from, first, first-++, first-behind, first-alike}

@@ -5,8 +5,8 @@ ghost use Rattle.meaning.specs.Services.{badMark, window as windowOf};
 ghost use Rattle.verdicts.specs.Found.{SomeFound};
 ghost use Rattle.verdicts.specs.Buffers.{spared};
 ghost use Rattle.views.specs.Views.{Views};
-use assigns::BAD_DATA;
 use texts::Verdict;
+use words::BAD_DATA;
 use words::NO_ROOM;
 
 pub enum Shown {

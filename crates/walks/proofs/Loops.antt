@@ -12,7 +12,7 @@ use lib.Seq.{take-append-add}
 use Rattle.meaning.specs.Body.{Body}
 use Rattle.meaning.specs.Run.{State, Cycle, Played, cycles, follow, again, play}
 use Rattle.meaning.proofs.Rows.{length-play, length-again}
-use Rattle.meaning.proofs.Turns.{Plain, plain-twice, copies, loop-turns}
+use Rattle.meaning.proofs.Turns.{Plain, plain-twice, copies, loop-turns, loop-left}
 use Rattle.walks.specs.Seen.{seen, Through}
 use Rattle.walks.specs.Turns.{begins}
 use Rattle.walks.proofs.Seen.{seen-behind, seen-from, through-both}
@@ -107,13 +107,10 @@ module _ (f : State → Played) where
 -- ---- the turns of a Loop
 
 module _ (t : ℕ) (b : Body) (plain : Plain b) (s : State) where
-  pub loop-left : (k : ℕ) → again (suc k) (play t b) s .0 ≡ play t b s .0
-  loop-left k = ap (λ (y : Played). y .0) (loop-turns t b plain k s)
-
   pub loop-begins : (j : ℕ) → again j (play t b) s .0 ≡ begins t b j s
   unfolding begins again
   loop-begins zero = refl
-  loop-begins (suc j) = loop-left j
+  loop-begins (suc j) = loop-left t b plain s j
 
   -- the state behind the Loop, from any turn on
   pub loop-behind : (j k : ℕ) → j ≤ k → again (k - j) (play t b) (begins t b j s) .0 ≡ again k (play t b) s .0

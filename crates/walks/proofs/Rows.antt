@@ -14,7 +14,6 @@ use Rattle.meaning.specs.Services.{badMark, row, rows, rowWidth, window, window
 use Rattle.meaning.proofs.Rows.{row-width, rows-are-cycles}
 use Rattle.meaning.proofs.Turns.{copies}
 use Rattle.meaning.proofs.Windows.{rows-++, take-min, window-rows}
-pub use Rattle.meaning.proofs.Windows.{row-room}
 use Rattle.walks.specs.Seen.{seen}
 use Rattle.walks.specs.Written.{Even, Written}
 use Rattle.walks.proofs.Seen.{length-seen, seen-++}

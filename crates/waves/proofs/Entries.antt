@@ -15,6 +15,7 @@ use Rattle.meaning.specs.Services.{waveOf}
 use Rattle.meaning.proofs.Gives.{bind-ok, give-ok}
 use Rattle.words.specs.Cursor.{alive, stream, Stands, Goes, ahead as aheadTok}
 use Rattle.words.specs.declared.Cursor.{Cursor}
+use Rattle.words.proofs.Flow.{went}
 use Rattle.timing.specs.Events.{events}
 use Rattle.timing.specs.Watch.{charsEvents, numberOf, Found}
 use Rattle.timing.specs.declared.Watch.{Watch}
@@ -24,7 +25,7 @@ use Rattle.waves.specs.declared.EventRead.{EventRead}
 use Rattle.waves.specs.Waves.{EntryAt, Reads, Adds, OneEvent}
 use Rattle.waves.proofs.Numbers.{number-below}
 use Rattle.waves.proofs.Turns.{until-on, until-end}
-use Rattle.waves.proofs.Lines.{Line, line, quote-ahead, added-length, went}
+use Rattle.waves.proofs.Lines.{Line, line, quote-ahead, added-length}
 use Rattle.waves.proofs.Fronts.{reads-none, reads-more, times-kept, letters-kept}
 
 -- ---- the entry

@@ -9,33 +9,20 @@ use lib.Dec.{eqb, leb}
 use lib.ListN.{length, getD}
 use borrow.Author.Tests.{leb-false}
 use Rattle.tokens.specs.Written.{bytes, same}
-use Rattle.tokens.specs.Refusals.{notHere}
 use Rattle.tokens.specs.Tokens.{Toks, stop, tok}
 use Rattle.meaning.specs.Bounds.{entryMost}
 use Rattle.meaning.specs.Refusals.{tooMany}
-use Rattle.meaning.specs.Reader.{Res, Reader, ok, refuse, after, _>>=_, give, refuseIf, any, aheadOf, ahead, dueOf, due}
-use Rattle.meaning.specs.Names.{known}
+use Rattle.meaning.specs.Reader.{Res, ok, refuse, _>>=_, aheadOf, ahead, due}
 use Rattle.meaning.specs.Timing.{Event, Events, signedQuoted, letters, spread, rises, addEvents, oneEvent, event}
-use Rattle.meaning.proofs.Gives.{bind-ok, give-ok, if-ok, gives-if, known-ok}
+use Rattle.meaning.proofs.Gives.{bind-ok, give-ok, if-ok, gives-if, known-ok, known-rest, due-ahead}
+use Rattle.meaning.proofs.Others.{same-eq}
 use Rattle.words.specs.Cursor.{alive, stream, Goes}
 use Rattle.words.specs.declared.Cursor.{Cursor}
-use Rattle.words.proofs.Flow.{from-on, from-stop, read}
-use Rattle.words.proofs.Words.{same-eq}
+use Rattle.words.proofs.Flow.{went}
 use Rattle.timing.specs.Makes.{Makes}
 use Rattle.timing.specs.Events.{Lettered}
 use Rattle.timing.proofs.EventReading.{same-counts}
 use Rattle.waves.specs.Waves.{Adds, OneEvent}
-
--- ---- a token that was due was ahead
-
-due-ahead : (w : List ℕ) (ts : Toks) {p : ℕ} {us : Toks} → dueOf w ts ≡ ok p us → aheadOf w ts ≡ true
-unfolding dueOf any aheadOf _>>=_ after refuseIf give
-due-ahead w (stop n q) e = let z : _≡_ {A = ℕ} 0 1 = cc in absurd (omega arith)
-due-ahead w (tok t ts) {p} {us} e = by (same (t .word) w) e
-  where
-    by : (x : Bool) → after (refuseIf (not x) notHere (t .at) ts) (λ u. give (t .at)) ≡ ok p us → x ≡ true
-    by true e = refl
-    by false e = let z : _≡_ {A = ℕ} 0 1 = cc in absurd (omega arith)
 
 -- a quote is no closing brace
 pub quote-ahead : (ts : Toks) → ahead "'" ts ≡ true → ahead "}" ts ≡ false
@@ -99,11 +86,6 @@ pub record Line (n : ℕ) (s : Events) (ts : Toks) (s′ : Events) (us : Toks) :
   pub few : s .1 < entryMost
   pub quote : ahead "'" ts ≡ true
 
-known-rest : {A : Type 0} (o : Option A) (n p : ℕ) (ts : Toks) {a : A} {us : Toks} → known o n p ts ≡ ok a us → ts ≡ us
-unfolding known
-known-rest none n p ts e = let z : _≡_ {A = ℕ} 0 1 = cc in absurd (omega arith)
-known-rest (some x) n p ts e = cc
-
 -- one too many would be refused
 pub line : (n : ℕ) (s : Events) (ts : Toks) {s′ : Events} {us : Toks} → event n s ts ≡ ok s′ us → Line n s ts s′ us
 unfolding event oneEvent signedQuoted
@@ -115,7 +97,7 @@ line n s ts {s′} {us} e =
     let counted = bind-ok _ _ (ended .1) s′ us (ended .3) in
     let known′ = bind-ok _ _ (counted .1) s′ us (counted .3) in
     let given = give-ok (known′ .3) in
-    let quote = due-ahead (bytes "'") ts (bind-ok _ _ ts (timed .0) (timed .1) (timed .2) .2) in
+    let quote = due-ahead (bytes "'") ts _ _ (bind-ok _ _ ts (timed .0) (timed .1) (timed .2) .2) in
     let behind : ended .1 ≡ us = if-ok _ _ _ (counted .2) ∙ known-rest _ _ _ (counted .1) (known′ .2) ∙ given .1 in
     record {
       t = timed .0;
@@ -140,24 +122,6 @@ line n s ts {s′} {us} e =
     by false q h = (h, q)
 
 -- ---- what the code has of it
-
--- where the definition's reader answers, the code's goes on behind what that took, with the same answer
-pub record Went {A : Type 0} (text : List ℕ) (r : Cursor) (a b : A) (us : Toks) : Type 0 where
-  pub on : alive r ≡ true
-  pub is : a ≡ b
-  pub behind : stream text r ≡ us
-
-pub went : {A : Type 0} {text : List ℕ} {c r : Cursor} {m : Reader A} {a b : A} {us : Toks} → Goes text c m r a → alive c ≡ true → m (stream text c) ≡ ok b us
-    → Went text r a b us
-unfolding give
-went {A} {text} {c} {r} {m} {a} {b} {us} g h e = by (alive r) refl
-  where
-    by : (x : Bool) → alive r ≡ x → Went text r a b us
-    by true k = let q = sym (read g k .gave) ∙ e in record { on = k; is = cc; behind = cc }
-    by false k =
-        let q = sym (from-stop text r (give a) k) ∙ g .same ∙ from-on text c m h ∙ e in
-        let z : _≡_ {A = ℕ} 0 1 = cc in
-        absurd (omega arith)
 
 pub event-adds : {text : List ℕ} {c d e r : Cursor} {t m i x p : ℕ} {l : List ℕ} → Goes text c signedQuoted d t → Makes text d letters e (Lettered m l)
     → Goes text e (due ";") r p

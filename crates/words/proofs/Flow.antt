@@ -9,8 +9,9 @@ use lib.Dec.{eqb, ltb}
 use borrow.Author.Tests.{eq-eqb, ne-eqb, lt-ltb}
 use Rattle.tokens.specs.Refusals.{notHere}
 use Rattle.tokens.specs.Tokens.{Tok, Toks, stop, tok, toks, left}
-use Rattle.meaning.specs.Reader.{Res, Reader, ok, refuse, after, _>>=_, give, refuseIf, any}
+use Rattle.meaning.specs.Reader.{Res, Reader, ok, refuse, after, _>>=_, give, refuseIf, any, dueOf}
 use Rattle.meaning.specs.Names.{isSome, known}
+use Rattle.meaning.proofs.Gives.{due-rest}
 use Rattle.words.specs.Cursor.{ahead, stopNo, stream, Stands, alive, from, Goes, Checked, taking}
 use Rattle.words.specs.declared.Cursor.{Cursor}
 
@@ -211,6 +212,18 @@ taken {text} {c} {r} e h s =
           from-on text r (give (ahead text c)) q ∙ ap (ok (ahead text c)) (s .there)
           ∙ sym (from-on text c any e ∙ ap any (stream-on text c h));
     }
+
+-- behind a token that was due the text goes on from its end
+pub behind-due : {text : List ℕ} {c r : Cursor} {p : ℕ} (w : List ℕ) → Goes text c (dueOf w) r p → alive r ≡ true → stream text r ≡ toks text (c .end)
+unfolding dueOf any _>>=_ after
+behind-due {text} {c} {r} {p} w g h = by (ltb (c .at) (c .end)) refl (read g h .gave)
+  where
+    by : (b : Bool) → ltb (c .at) (c .end) ≡ b → dueOf w (stream text c) ≡ ok p (stream text r) → stream text r ≡ toks text (c .end)
+    by true q e = due-rest w (ahead text c) (toks text (c .end)) (sym (ap (dueOf w) (stream-on text c q)) ∙ e)
+    by false q e =
+        let o = sym (ap (dueOf w) (stream-stop text c q)) ∙ e in
+        let z : _≡_ {A = ℕ} 0 1 = cc in
+        absurd (omega arith)
 
 -- none could be taken
 pub halted : {text : List ℕ} {c : Cursor} {t : Tok} {n : ℕ} → alive c ≡ true → ltb (c .at) (c .end) ≡ false → stopNo c ≡ n → eqb n 0 ≡ false

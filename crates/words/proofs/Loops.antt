@@ -9,7 +9,7 @@ use lib.Dec.{ltb}
 use lib.ListN.{length}
 use Rattle.tokens.specs.Tokens.{Toks, left}
 use Rattle.tokens.proofs.Laws.{left-most}
-pub use Rattle.tokens.proofs.Bools.{both}
+use Rattle.tokens.proofs.Bools.{both}
 use Rattle.meaning.specs.Reader.{Reader, _>>=_, give, ahead, due, while, closed, until}
 use Rattle.meaning.proofs.Takes.{Takes, Keeps, while-done, while-on}
 use Rattle.words.specs.Cursor.{stream, alive, from, Goes}

@@ -14,13 +14,12 @@ use lib.ListN.{length, getD, take, drop, length-take, length-drop, drop-of-lengt
 use Rattle.tokens.specs.Written.{bytes, same}
 use Rattle.tokens.specs.Bytes.{between, wordy, digit}
 pub use Rattle.tokens.proofs.Reading.{cut}
-pub use Rattle.tokens.proofs.Bools.{neither}
 use Rattle.meaning.specs.Bounds.{nameMost}
 use Rattle.meaning.specs.Reader.{isWord}
 use Rattle.meaning.specs.Lists.{has}
 use Rattle.meaning.specs.Names.{reserved, among, isName, isSome}
 use Rattle.meaning.specs.Timing.{waveChar, allChars}
-pub use Rattle.meaning.proofs.Others.{same-eq}
+use Rattle.meaning.proofs.Others.{same-eq}
 use Rattle.words.specs.Cursor.{span}
 use Rattle.words.specs.Packed.{capital, EndsWith}
 use Rattle.words.specs.Values.{told}

@@ -21,7 +21,7 @@ ghost use Rattle.words.specs.Table.{nameOf, names};
 ghost use Rattle.words.specs.Packed.{packed, capital, EndsWith, ZerosFrom};
 ghost use Rattle.words.specs.Chains.{mixedOf, chainOf, InChain};
 
-// Refusals: the token is not allowed here; no name; a name that is unknown; one that is used; one too many; a bad number; no room for what is due.
+// Refusals: the token is not allowed here; no name; a name that is unknown; one that is used; one too many; a bad number; bad data; no room for what is due.
 pub const NOT_HERE: u8 = 4;
 
 const NO_NAME: u8 = 5;
@@ -33,6 +33,8 @@ pub const USED: u8 = 7;
 pub const TOO_MANY: u8 = 8;
 
 pub const BAD_NUMBER: u8 = 9;
+
+pub const BAD_DATA: u8 = 12;
 
 pub const NO_ROOM: u8 = 19;
 

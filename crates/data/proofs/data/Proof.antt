@@ -4,7 +4,7 @@ use mathlib.Core.Bool.{not}
 use lib.ListN.{length}
 use borrow.Author.Tests.{ltb-true, not-true}
 use Rattle.tokens.specs.Written.{bytes}
-use Rattle.words.proofs.Loops.{both}
+use Rattle.tokens.proofs.Bools.{both}
 use Rattle.data.proofs.Single.{single-fills}
 use borrow.Author.Needs.{needs}
 use Rattle.data.proofs.data.Statement.{statement}

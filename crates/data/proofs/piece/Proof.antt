@@ -3,7 +3,7 @@ use mathlib.Core.Path.{refl, sym, _∙_}
 use mathlib.Core.List.{[], _∷_}
 use Rattle.tokens.specs.Written.{bytes}
 use Rattle.meaning.specs.Body.{mark}
-use Rattle.words.proofs.Words.{same-eq}
+use Rattle.meaning.proofs.Others.{same-eq}
 use Rattle.words.proofs.Flow.{then, given, checked, refused-by}
 use Rattle.data.proofs.Over.{adds-none, adds-same}
 use Rattle.data.proofs.Pieces.{chars-read, piece-word, piece-mark, piece-repeat, piece-none}

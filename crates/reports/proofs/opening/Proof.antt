@@ -1,8 +1,7 @@
 -- `opening` meets its contract: seven tokens one behind the other, and behind the last of them the report from there on.
 use Rattle.tokens.specs.Written.{bytes}
-use Rattle.words.proofs.Flow.{then, given}
+use Rattle.words.proofs.Flow.{then, given, behind-due}
 use Rattle.reports.specs.Report.{opening as openingDue}
-use Rattle.reports.proofs.Laws.{behind-due}
 use borrow.Author.Needs.{needs}
 use Rattle.reports.proofs.opening.Statement.{statement}
 use Rattle.reports.proofs.opening.Tie as tie

@@ -16,35 +16,35 @@ Inv-loop spots₀ w v set n i₀ spots i = (i ≤ n) × (length spots ≡ length
 abbrev μ-loop : tie.MeasureT-loop
 μ-loop spots₀ w v set n i₀ spots i = n - i
 
-fewer-requires : tie.Need-fewer-requires Inv-loop μ-loop
-fewer-requires c κs = search needs
+least-requires : tie.Need-least-requires Inv-loop μ-loop
+least-requires c κs = search needs
 
 loop-holds : tie.Need-loop-holds Inv-loop μ-loop
 loop-holds c = (omega arith, refl, stored-no-signals _ _ _)
 
 mul-keep : tie.Need-mul-keep Inv-loop μ-loop
-mul-keep c = omega (arith, c .before .before .before .fewer .ensures)
+mul-keep c = omega (arith, c .before .before .before .least .ensures)
 
 element-copy-out-keep : tie.Need-element-copy-out-keep Inv-loop μ-loop
-element-copy-out-keep c = omega (arith, c .before .before .before .fewer .ensures)
+element-copy-out-keep c = omega (arith, c .before .before .before .least .ensures)
 
 keep-requires : tie.Need-keep-requires Inv-loop μ-loop
-keep-requires c κs = (c .before .before .before .loop .inv .1 ∙ c .before .before .before .before .before .before .before .pre .0, below-at (c .before .before .before .before .before .before .before .args .t2 .n) (c .before .before .before .loop .i) (c .before .before .before .before .before .before .before .args .t2 .v) (sized (c .before .before .before .before .before .before .before .args .t2) (c .before .before .before .before .before .before .before .good .1 .0)) (c .before .before .before .before .before .before .before .pre .1) (omega (arith, c .before .before .before .before .fewer .ensures)))
+keep-requires c κs = (c .before .before .before .loop .inv .1 ∙ c .before .before .before .before .before .before .before .pre .0, below-at (c .before .before .before .before .before .before .before .args .t2 .n) (c .before .before .before .loop .i) (c .before .before .before .before .before .before .before .args .t2 .v) (sized (c .before .before .before .before .before .before .before .args .t2) (c .before .before .before .before .before .before .before .good .1 .0)) (c .before .before .before .before .before .before .before .pre .1) (omega (arith, c .before .before .before .before .least .ensures)))
 
 add-i : tie.Need-add-i Inv-loop μ-loop
-add-i c = omega (arith, c .before .before .before .before .before .before .before .fewer .ensures)
+add-i c = omega (arith, c .before .before .before .before .before .before .before .least .ensures)
 
 loop-less : tie.Need-loop-less Inv-loop μ-loop
 loop-less c = search needs
 
 loop-again : tie.Need-loop-again Inv-loop μ-loop
-loop-again c = (omega arith, c .before .before .keep .kept .0 ∙ c .before .before .before .before .before .before .loop .inv .1, stored-signal (c .before .before .before .before .before .before .before .before .before .before .args .t2 .v) (c .before .before .before .before .before .before .loop .i) (omega (arith, c .before .before .before .before .before .before .before .fewer .ensures, sized (c .before .before .before .before .before .before .before .before .before .before .args .t2) (c .before .before .before .before .before .before .before .before .before .before .good .1 .0))) (c .before .before .before .before .before .before .loop .inv .2) (c .before .before .keep .ensures))
+loop-again c = (omega arith, c .before .before .keep .kept .0 ∙ c .before .before .before .before .before .before .loop .inv .1, stored-signal (c .before .before .before .before .before .before .before .before .before .before .args .t2 .v) (c .before .before .before .before .before .before .loop .i) (omega (arith, c .before .before .before .before .before .before .before .least .ensures, sized (c .before .before .before .before .before .before .before .before .before .before .args .t2) (c .before .before .before .before .before .before .before .before .before .before .good .1 .0))) (c .before .before .before .before .before .before .loop .inv .2) (c .before .before .keep .ensures))
 
 same-length : tie.Need-same-length Inv-loop μ-loop
 same-length c = c .before .loop .inv .1
 
 returns : tie.Need-returns Inv-loop μ-loop
-returns c = stored-all {i = c .before .loop .i} (c .before .before .before .before .before .args .t2 .n) (c .before .before .before .before .before .args .t2 .v) (sized (c .before .before .before .before .before .args .t2) (c .before .before .before .before .before .good .1 .0)) (omega (arith, c .before .before .fewer .ensures)) (c .before .loop .inv .2)
+returns c = stored-all {i = c .before .loop .i} (c .before .before .before .before .before .args .t2 .n) (c .before .before .before .before .before .args .t2 .v) (sized (c .before .before .before .before .before .args .t2) (c .before .before .before .before .before .good .1 .0)) (omega (arith, c .before .before .least .ensures)) (c .before .loop .inv .2)
 
 pub keep-all-spec : {M : Type 1} → statement M
 keep-all-spec =
@@ -52,7 +52,7 @@ keep-all-spec =
     (tie.spec
     Inv-loop
     μ-loop
-    fewer-requires
+    least-requires
     loop-holds
     mul-keep
     element-copy-out-keep

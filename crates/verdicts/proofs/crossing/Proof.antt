@@ -3,7 +3,7 @@ use Prim.Native.Nat.{ℕ}
 use mathlib.Core.Path.{_∙_}
 use lib.ListN.{length-replicate}
 use borrow.Author.Needs.{needs}
-use Rattle.declared.proofs.Numbers.{zeros}
+use Rattle.words.proofs.Words.{zeros}
 use Rattle.meaning.specs.Bounds.{tablesMost}
 use Rattle.texts.proofs.Sounds.{sound-runs}
 use Rattle.spans.specs.Spans.{timesMost, Sized}
