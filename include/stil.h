@@ -32,7 +32,7 @@
  * Stack      A call keeps its tables on the stack. With texts that have bodies 8 deep, the widest and the longest ones
  *            among them, these were measured, the caller's own with them: 1,470,000 bytes, and 1,540,000 for lutemeteor_save;
  *            1,940,000 for lutemeteor_waveforms and lutemeteor_report, and 2,070,000 for lutemeteor_fold. A text with an
- *            event outside its own cycle, at or behind its period or before its start, takes up to 2,400,000 bytes more. That
+ *            event outside its own cycle, at or behind its period or before its start, takes 2,440,000 bytes more. That
  *            is a measurement and no bound: have 5 MiB, more than many systems give a thread by themselves.
  *            lutemeteor_token, lutemeteor_line and the intake take less than 4,000 bytes.
  */
