@@ -1,5 +1,5 @@
 -- Events across the cycle's edge (request 8; source document 000, 18.4, rule c): within a category, a cycle's last event comes before the next
--- cycle's first, counting periods. Times may be counted from any zero, the same for all: `Signed` has the one for times with a sign.
+-- cycle's first, counting periods. Times may be counted from any zero, the same for all: `Timing` has the one for times with a sign.
 use Prim.Native.Nat.{ℕ, zero, suc, _+_}
 use mathlib.Core.Bool.{Bool, true, false, _&&_}
 use mathlib.Core.Option.{Option, none, some}
