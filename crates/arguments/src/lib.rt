@@ -1,4 +1,6 @@
 // Arguments of a used body: `;`, or `{ NAME = DATA; .. }`, held against the uses of `#` in it.
+#![tactic(auto)]
+
 ghost use Rattle.std.specs.Prelude.{◌≡◌, true, ◌&&◌, List, [], ◌++◌, ℕ, ◌+◌, ◌*◌, ◌≤◌, ◌<◌, length, get_or};
 ghost use Rattle.meaning.specs.Bounds.{signals_most};
 ghost use Rattle.meaning.specs.Lists.{has, inside};
@@ -21,14 +23,14 @@ const ARGUMENT_MOST: usize = 4_096;
 const BLOCK: usize = 16;
 
 // The cursor behind the arguments, and where their last token stands.
-#[derive(Drop)]
+#[derive(Clone, Copy)]
 pub struct Closed {
     pub cursor: Cursor,
     pub last: usize,
 }
 
 // Do the arguments fit, and if so how often does the Shift play?
-#[derive(Drop)]
+#[derive(Clone, Copy)]
 pub struct Fit {
     pub fits: bool,
     pub turns: usize,

@@ -1,4 +1,6 @@
 // Assignments, `V { NAME = DATA; .. }`, read into a table that the caller lends: each signal's character, 0 where none is given.
+#![tactic(auto)]
+
 ghost use Rattle.std.specs.Prelude.{◌≡◌, [], ◌*◌, ◌≤◌, ◌<◌, length};
 ghost use Rattle.meaning.specs.Bounds.{signals_most};
 ghost use Rattle.meaning.specs.Lists.{meets};

@@ -1,4 +1,6 @@
 // Bodies: statements up to their `}`, and the macros and procedures of a text, kept in a book.
+#![tactic(auto)]
+
 ghost use Rattle.std.specs.Prelude.{◌≡◌, ◌&&◌, ℕ, ◌+◌, ◌*◌, ◌<◌, ◌≤◌, length};
 ghost use Rattle.tokens.specs.Written.{bytes};
 ghost use Rattle.meaning.specs.Bounds.{signals_most, depth_most, bodies_most};
@@ -24,7 +26,7 @@ use measures::{DEPTH, Measure};
 use words::{Cursor, TOO_MANY};
 
 // The cursor behind statements, and their measure.
-#[derive(Drop)]
+#[derive(Clone, Copy)]
 pub struct Measured {
     pub cursor: Cursor,
     pub measure: Measure,
@@ -32,7 +34,7 @@ pub struct Measured {
 
 // One statement was read: the cursor behind it, the measure with it; was it `}`, and has a Shift come? Where `turns` is not 0 it is a Loop of so
 // many turns, of which the head was read.
-#[derive(Drop)]
+#[derive(Clone, Copy)]
 struct Turn {
     cursor: Cursor,
     measure: Measure,
@@ -42,7 +44,7 @@ struct Turn {
 }
 
 // The cursor behind MacroDefs and Procedures, and how many there are.
-#[derive(Drop)]
+#[derive(Clone, Copy)]
 pub struct Blocks {
     pub cursor: Cursor,
     pub known: Known,

@@ -1,4 +1,6 @@
 // PatternBurst and PatternExec: the burst's name, and the names that it lists.
+#![tactic(auto)]
+
 ghost use Rattle.std.specs.Prelude.{◌≡◌, ◌+◌, ◌≤◌, length};
 ghost use Rattle.meaning.specs.Bounds.{list_most};
 ghost use Rattle.meaning.specs.Document.{list_entry, burst as burst_due, exec as exec_due};
@@ -12,7 +14,7 @@ const LIST: usize = 16;
 pub const LISTED: usize = LIST * 2;
 
 // The cursor behind the block, the burst's name by its place and end, and how many names it lists.
-#[derive(Drop)]
+#[derive(Clone, Copy)]
 pub struct Named {
     pub cursor: Cursor,
     pub at: usize,
@@ -21,7 +23,7 @@ pub struct Named {
 }
 
 // The cursor behind the block, and where its last token stands.
-#[derive(Drop)]
+#[derive(Clone, Copy)]
 pub struct Closed {
     pub cursor: Cursor,
     pub last: usize,

@@ -1,5 +1,7 @@
 // Waveforms by the list, of an accepted text: single calls made in order, each on the room that those before it left. The text isn't judged again: for each
 // waveform its declarations are read once more, up to where its entry stands.
+#![tactic(auto)]
+
 ghost use Rattle.std.specs.Prelude.{◌≡◌, List, ◌∷◌, ◌++◌, ◌*◌, ◌≤◌, ◌<◌, length, take, drop, leb, not};
 ghost use Rattle.meaning.specs.Timing.{Event, uncounted};
 ghost use Rattle.meaning.specs.Services.{bits_of, events_out, waveform};
@@ -25,21 +27,21 @@ const CHAR: u64 = 255;
 pub const NO_SUCH: u8 = 18;
 
 // Where a waveform's entry stands, if there is one (`found`).
-#[derive(Drop)]
+#[derive(Clone, Copy)]
 struct Sighted {
     found: bool,
     place: usize,
 }
 
 // The refusal's number, 0 for none; or else how many events there are.
-#[derive(Drop)]
+#[derive(Clone, Copy)]
 pub struct Outline {
     pub no: u8,
     pub count: usize,
 }
 
 // The number of the refusal that stopped them, 0 for none; how many were served, and their events.
-#[derive(Drop)]
+#[derive(Clone, Copy)]
 pub struct Served {
     pub no: u8,
     pub served: usize,

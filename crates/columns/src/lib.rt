@@ -1,4 +1,6 @@
 // The line and the column of a place: what an editor shows for it.
+#![tactic(auto)]
+
 ghost use Rattle.std.specs.Prelude.{◌≡◌, ◌+◌, min};
 ghost use Rattle.columns.specs.Columns.{start as start_of, past as past_of, onward as onwardOf, position, number_most, capped};
 
@@ -7,7 +9,7 @@ const LF: u8 = 10;
 const MOST: usize = 18_446_744_073_709_551_615;
 
 // Both from 1; a column is counted in bytes.
-#[derive(Drop)]
+#[derive(Clone, Copy)]
 pub struct Position {
     pub line: usize,
     pub column: usize,

@@ -4,7 +4,7 @@ ghost use Rattle.std.specs.Prelude.{◌≡◌, ◌+◌, ◌≤◌, ◌<◌, leng
 use crate::{asked, files};
 use services::Checked;
 
-#[derive(Drop)]
+#[derive(Clone, Copy)]
 enum Found {
     Good,
     Hurt,
@@ -12,21 +12,21 @@ enum Found {
 }
 
 // A file's line at the front of a page: what was found, and where the line ends.
-#[derive(Drop)]
+#[derive(Clone, Copy)]
 struct Line {
     found: Found,
     end: usize,
 }
 
 // What was found; was the line written?
-#[derive(Drop)]
+#[derive(Clone, Copy)]
 struct Told {
     found: Found,
     written: bool,
 }
 
 // How many files were found so.
-#[derive(Drop)]
+#[derive(Clone, Copy)]
 struct Tally {
     good: usize,
     hurt: usize,

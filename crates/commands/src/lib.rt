@@ -1,4 +1,6 @@
 // The commands that need no rows, the words of the command line and the answers' lines: what most of the program `reels` is.
+#![tactic(auto)]
+
 pub mod answers;
 pub mod asked;
 pub mod checked;

@@ -8,7 +8,7 @@ use tokens::Step;
 const HALF: usize = 131_072;
 
 // How far the page is filled, and whether there is more to do.
-#[derive(Drop)]
+#[derive(Clone, Copy)]
 pub struct Filled {
     pub going: bool,
     pub end: usize,

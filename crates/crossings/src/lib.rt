@@ -1,6 +1,8 @@
 // Playing the listed patterns where the text holds them, to find the first pair of neighbouring cycles that is not in order: in a category, the earlier one's
 // last event does not come before the later one's first. Of a Loop two turns are played, and the first cycle of the second is held against its last, for so the
 // third begins; one turn, where it leaves what it found.
+#![tactic(auto)]
+
 ghost use Rattle.std.specs.Prelude.{◌≡◌, true, false, List, [], ◌∷◌, ℕ, ◌+◌, ◌*◌, ◌-◌, ◌<◌, ◌≤◌, length, get_or};
 ghost use Rattle.std.proofs.Math.Option.{none, some};
 ghost use Rattle.words.specs.Cursor.{alive, stream};
@@ -30,7 +32,7 @@ const ROWS: usize = DEPTH * 2 + 1;
 const NUMBERS: usize = 3;
 
 // How a body is played: its Shift so often, in so many levels of bodies at most, at a level of its own.
-#[derive(Drop)]
+#[derive(Clone, Copy)]
 struct Frame {
     turns: usize,
     depth: usize,

@@ -1,4 +1,6 @@
 // DATA: words, repeats and `#`, spelled out into a buffer that the caller lends.
+#![tactic(auto)]
+
 ghost use Rattle.std.specs.Prelude.{◌≡◌, true, ◌+◌, ◌*◌, ◌-◌, min, replicate};
 ghost use Rattle.meaning.specs.Data.{stretched, repeated, data_read};
 ghost use Rattle.words.specs.Cursor.{Goes};
@@ -13,14 +15,14 @@ const COUNT_MOST: usize = 9_223_372_036_854_775_808;
 pub const BAD_ARGUMENT: u8 = 13;
 
 // The cursor behind a piece, and how many characters there are with it.
-#[derive(Drop)]
+#[derive(Clone, Copy)]
 struct Put {
     cursor: Cursor,
     n: usize,
 }
 
 // The cursor behind the `;`, how many characters there are, and where the `;` stands.
-#[derive(Drop)]
+#[derive(Clone, Copy)]
 pub struct Filled {
     pub cursor: Cursor,
     pub n: usize,

@@ -1,4 +1,6 @@
 // All declarations of a text: `STIL 1.0;`, Signals, SignalGroups and Timing, read into arrays that the caller lends.
+#![tactic(auto)]
+
 ghost use Rattle.std.specs.Prelude.{◌≡◌};
 ghost use Rattle.tokens.specs.Tokens.{toks};
 ghost use Rattle.words.specs.Cursor.{Goes};
@@ -8,7 +10,7 @@ ghost use Rattle.declared.specs.Numbers.{refusal, numbers_of, told_of, written};
 use words::Cursor;
 
 // How many signals, names and tables there are, where the watched waveform is found, and the cursor behind them.
-#[derive(Drop)]
+#[derive(Clone, Copy)]
 pub struct Read {
     pub cursor: Cursor,
     pub signals: usize,
@@ -19,7 +21,7 @@ pub struct Read {
 }
 
 // The cursor behind `STIL 1.0;`, and where its `;` stands.
-#[derive(Drop)]
+#[derive(Clone, Copy)]
 pub struct Versioned {
     pub cursor: Cursor,
     pub last: usize,
@@ -64,7 +66,7 @@ pub fn declarations(
 }
 
 // What is told of a text's declarations: the number of the refusal, 0 for none; its place, or that of the token behind them; and how many there are.
-#[derive(Drop)]
+#[derive(Clone, Copy)]
 pub struct Told {
     pub no: usize,
     pub place: usize,

@@ -1,4 +1,6 @@
 // The service for fail reports: a text and a report to the run's cycle, the signal's number and the letter of each offset.
+#![tactic(auto)]
+
 ghost use Rattle.std.specs.Prelude.{◌≡◌, true, false, List, ◌∷◌, [], ℕ, ◌+◌, ◌-◌, ◌≤◌, min, length};
 ghost use Rattle.meaning.specs.Bounds.{cycles_most};
 ghost use Rattle.meaning.specs.Body.{Body};
@@ -30,7 +32,7 @@ const NOT_IN_PATTERN: u8 = 24;
 const CYCLES_MOST: u64 = measures::CYCLES_MOST as u64;
 
 // How often a pattern is listed, 2 for more than once; the run's cycle at which it begins the last time, and how many it has.
-#[derive(Drop)]
+#[derive(Clone, Copy)]
 struct Times {
     times: u8,
     first: usize,
@@ -38,7 +40,7 @@ struct Times {
 }
 
 // A record: the cursor behind it; does it have a 24, and where; or else how many answers are due to it.
-#[derive(Drop)]
+#[derive(Clone, Copy)]
 struct Judged {
     cursor: Cursor,
     outside: bool,
@@ -47,14 +49,14 @@ struct Judged {
 }
 
 // What is left of the rows: how many answers have room, or that there are more than have.
-#[derive(Drop)]
+#[derive(Clone, Copy)]
 struct Room {
     left: usize,
     full: bool,
 }
 
 // All records: is there a 24, and where is the first; or else are there more answers than have room?
-#[derive(Drop)]
+#[derive(Clone, Copy)]
 struct Verdict {
     outside: bool,
     place: usize,
@@ -62,13 +64,13 @@ struct Verdict {
 }
 
 // The cursor behind what was read, and how many answers are written.
-#[derive(Drop)]
+#[derive(Clone, Copy)]
 struct Wrote {
     cursor: Cursor,
     at: usize,
 }
 
-#[derive(Drop)]
+#[derive(Clone, Copy)]
 pub enum Failures {
     // how many answers were written
     Answers(usize),

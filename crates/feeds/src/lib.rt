@@ -1,4 +1,6 @@
 // The characters of an argument, one after the other, read from the text where its DATA stands.
+#![tactic(auto)]
+
 ghost use Rattle.std.specs.Prelude.{◌≡◌, List, ℕ, ◌+◌, ◌*◌, ◌-◌, ◌≤◌, ◌<◌, min, length, false};
 ghost use Rattle.tokens.specs.Tokens.{Toks, toks};
 ghost use Rattle.meaning.specs.Reader.{ok};
@@ -10,7 +12,7 @@ use words::Cursor;
 
 // Where the next character stands: in the word up to `end`, at `at`. Behind its end the word is said `left` times more, each time from its first byte `from` on.
 // With no word there, the DATA goes on at `end`.
-#[derive(Drop)]
+#[derive(Clone, Copy)]
 pub struct Feed {
     pub at: usize,
     pub end: usize,
@@ -19,14 +21,14 @@ pub struct Feed {
 }
 
 // The feed behind the next character, and that character, 0 where none is left.
-#[derive(Drop)]
+#[derive(Clone, Copy)]
 pub struct Fed {
     pub feed: Feed,
     pub char: u8,
 }
 
 // The feed behind characters of its word, and how many of them are to be passed in the next words.
-#[derive(Drop)]
+#[derive(Clone, Copy)]
 struct Passed {
     feed: Feed,
     n: usize,

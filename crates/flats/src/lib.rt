@@ -1,5 +1,7 @@
 // The service Fold: a text folded flat, for any text and any buffer. The listed patterns are played once, window by window, and their Patterns written to a
 // page of their own, since the burst's line before them has their count.
+#![tactic(auto)]
+
 ghost use Rattle.std.specs.Prelude.{◌≡◌, true, false, ◌++◌, [], ◌+◌, ◌*◌, ◌-◌, ◌≤◌, min, length};
 ghost use Rattle.tokens.specs.Refusals.{text_most};
 ghost use Rattle.meaning.specs.Meaning.{Meaning};
@@ -35,21 +37,21 @@ const MANY_CYCLES: u8 = 23;
 const MARK: u8 = 0;
 
 // The Patterns so far: the pen behind them, and how many they are.
-#[derive(Drop)]
+#[derive(Clone, Copy)]
 pub struct Part {
     pub pen: Pen,
     pub pattern: usize,
 }
 
 // The refusal's number, 0 for none, and its place; or else the length of the folded text.
-#[derive(Drop)]
+#[derive(Clone, Copy)]
 struct Flat {
     no: u8,
     place: usize,
     length: usize,
 }
 
-#[derive(Drop)]
+#[derive(Clone, Copy)]
 pub enum Folded {
     // the folded text's length
     Text(usize),

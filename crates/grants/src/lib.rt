@@ -1,6 +1,8 @@
 // Is it plain that no cycle of a text's run fails? It is from the marks of all that the text assigns, where every table has a waveform for each and every listed
 // pattern begins with a table. Else every body that the run uses is summed up once, where the text holds it: what it asks of the state in which it begins. Where no
 // listed pattern asks for anything that isn't there, no cycle fails. The sums may ask for too much; then nothing is said, and the run is played.
+#![tactic(auto)]
+
 ghost use Rattle.std.specs.Prelude.{◌≡◌, true, false, ℕ, ◌+◌, ◌*◌, ◌≤◌, List, length};
 ghost use Rattle.std.proofs.Math.Option.{none};
 ghost use Rattle.words.specs.Cursor.{alive, stream};
@@ -38,7 +40,7 @@ pub const SUMS: usize = (LOOPS + DEPTH) * tallies::ROW;
 const BEGUN: u8 = 3;
 
 // The cursor behind what was summed up; was it the `}`, was there a Shift, and were there two?
-#[derive(Drop)]
+#[derive(Clone, Copy)]
 pub struct Tallied {
     pub cursor: Cursor,
     pub ends: bool,

@@ -1,4 +1,6 @@
 // The head of one statement, up to where the statements in it or behind it begin. The check and the player both read statements by it.
+#![tactic(auto)]
+
 ghost use Rattle.std.specs.Prelude.{◌≡◌, List, [], ℕ, ◌*◌, ◌≤◌, length};
 ghost use Rattle.meaning.specs.Bounds.{signals_most, depth_most};
 ghost use Rattle.meaning.specs.Meaning.{firsts};
@@ -24,7 +26,7 @@ const TOO_DEEP: u8 = 14;
 const LOOP_MOST: u32 = 16_777_215;
 
 // How many names, tables, macros and procedures are declared; and do the statements stand in a pattern?
-#[derive(Drop)]
+#[derive(Clone, Copy)]
 pub struct Known {
     pub names: usize,
     pub tables: usize,
@@ -34,14 +36,14 @@ pub struct Known {
 }
 
 // Where the bodies of one kind stand in the book: the number of the first, and how many there are.
-#[derive(Drop)]
+#[derive(Clone, Copy)]
 pub struct Part {
     pub first: usize,
     pub count: usize,
 }
 
 // A statement's head. The characters of `V` and `C` are in a table beside it, and so are the arguments of a used body.
-#[derive(Drop)]
+#[derive(Clone, Copy)]
 pub enum What {
     // `}`
     Ends,
@@ -59,7 +61,7 @@ pub enum What {
     Uses(usize, usize),
 }
 
-#[derive(Drop)]
+#[derive(Clone, Copy)]
 pub struct Headed {
     pub cursor: Cursor,
     pub what: What,

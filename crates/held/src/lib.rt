@@ -1,1 +1,2 @@
 // Where a text holds its bodies: what a player reads at each use (specs/, proofs/); no code.
+#![tactic(auto)]

@@ -1,4 +1,6 @@
 // A text's index: a line for each listed pattern, then the tables; and which listed pattern holds a cycle.
+#![tactic(auto)]
+
 ghost use Rattle.std.specs.Prelude.{◌≡◌, ◌∷◌, ◌+◌, ◌*◌, ◌≤◌, length, take};
 ghost use Rattle.tokens.specs.Tokens.{toks};
 ghost use Rattle.meaning.specs.Bounds.{name_most, tables_most, patterns_most};
@@ -20,21 +22,21 @@ use words::Cursor;
 pub const INDEX: usize = 1_858;
 
 // The place of a Pattern keyword, and the cursor at the name behind it.
-#[derive(Drop)]
+#[derive(Clone, Copy)]
 struct Keyword {
     at: usize,
     cursor: Cursor,
 }
 
 // A listed pattern's number among the patterns, and its cycles.
-#[derive(Drop)]
+#[derive(Clone, Copy)]
 pub struct Share {
     pub number: usize,
     pub cycles: usize,
 }
 
 // The number in the list of the pattern that holds a cycle, if there is one (`held`).
-#[derive(Drop)]
+#[derive(Clone, Copy)]
 pub struct Held {
     pub held: bool,
     pub number: usize,

@@ -1,4 +1,6 @@
 // A raw text in chunks of any length, squeezed into a lent store: each longest run of blanks and comments becomes one LF if it holds an LF, else one space.
+#![tactic(auto)]
+
 ghost use Rattle.std.specs.Prelude.{◌≡◌, true, false, ℕ, ◌<◌, min, length};
 ghost use Rattle.tokens.specs.Refusals.{text_most};
 ghost use Rattle.intake.specs.Intake.{raw_most, room_of, mark_with, outside as outsideOf, behind_slash, in_line, in_block, behind_star, step as step_of, lacks as lacksOf, refusal_of, takes, written, chunked, closed as closedOf, begun};
@@ -26,7 +28,7 @@ const BLOCK: u8 = 3;
 const STAR: u8 = 4;
 
 // How many bytes were taken and stored, the mark of the run that waits (0: none), where the intake stands, and the place of the `/` before it.
-#[derive(Drop)]
+#[derive(Clone, Copy)]
 pub struct Intake {
     pub taken: usize,
     pub stored: usize,
@@ -36,7 +38,7 @@ pub struct Intake {
 }
 
 // What the last call answered. A refusal, or the stored length after the close, stays.
-#[derive(Drop)]
+#[derive(Clone, Copy)]
 pub enum Progress {
     Open(Intake),
     // the number of the refusal, and the place in the raw text
@@ -45,7 +47,7 @@ pub enum Progress {
 }
 
 // What a byte changes: whether the mark that waits, the `/` that waits and the byte itself are stored; then the mark behind it, and where the intake stands.
-#[derive(Drop)]
+#[derive(Clone, Copy)]
 struct Change {
     mark: bool,
     slash: bool,

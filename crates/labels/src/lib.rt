@@ -1,4 +1,6 @@
 // Labels: the names of patterns and X names, and the first that is used already, in one pass over the tokens.
+#![tactic(auto)]
+
 ghost use Rattle.std.specs.Prelude.{◌≡◌, ◌+◌, ◌*◌, ◌≤◌, ◌<◌, length, ltb};
 ghost use Rattle.tokens.specs.Written.{same};
 ghost use Rattle.tokens.specs.Refusals.{text_most};
@@ -30,21 +32,21 @@ const BEGINS: u8 = 1;
 const DUE: u8 = 2;
 
 // Is there one, and where does it stand?
-#[derive(Drop)]
+#[derive(Clone, Copy)]
 pub struct Found {
     pub is: bool,
     pub place: usize,
 }
 
 // Is the label ahead used already, and how many are in the table?
-#[derive(Drop)]
+#[derive(Clone, Copy)]
 struct Noted {
     again: bool,
     count: usize,
 }
 
 // Is a label used already, where does it stand, and how many are in the table?
-#[derive(Drop)]
+#[derive(Clone, Copy)]
 pub struct Gathered {
     pub again: bool,
     pub place: usize,

@@ -1,4 +1,6 @@
 // The lines of docs/COMMANDS.md, put into a page, and words as numbers.
+#![tactic(auto)]
+
 ghost use Rattle.std.specs.Prelude.{◌≡◌, ◌&&◌, ◌+◌, ◌*◌, ◌≤◌, leb, ltb, length};
 ghost use Rattle.std.proofs.Math.Option.{none};
 ghost use Rattle.tokens.specs.Written.{bytes};
@@ -250,7 +252,7 @@ pub fn fault(page: &mut [u8], at: usize, what: &[u8], word: &[u8]) -> usize
 // ---- numbers
 
 // A word as a number. Where it is none (not `right`) the value is 0.
-#[derive(Drop)]
+#[derive(Clone, Copy)]
 pub struct Value {
     pub right: bool,
     pub value: u64,

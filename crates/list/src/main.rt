@@ -1,4 +1,6 @@
 // A text from standard input, and its listing (document 01).
+#![tactic(auto)]
+
 fn main() {
     let mut text = streams::room();
     let t = streams::read(libc::STDIN_FILENO, &mut text);

@@ -1,4 +1,6 @@
 // A text's listing, page by page: the sections, then the rows; and all pages to standard output.
+#![tactic(auto)]
+
 ghost use Rattle.std.specs.Prelude.{◌≡◌, ◌≤◌, length};
 ghost use Rattle.verdicts.specs.Found.{SomeFound};
 ghost use Rattle.sections.specs.Listing.{front_most};

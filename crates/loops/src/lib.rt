@@ -1,4 +1,6 @@
 // What the statements in a Loop measure, read where the text holds them: a window needs it to know in which turn its cycle is.
+#![tactic(auto)]
+
 ghost use Rattle.std.specs.Prelude.{◌≡◌, true, false, ◌*◌, length};
 ghost use Rattle.words.specs.Cursor.{alive, stream};
 ghost use Rattle.meaning.specs.Bounds.{signals_most};
@@ -9,7 +11,7 @@ use measures::{DEPTH, Measure};
 use words::Cursor;
 
 // The measure of what was read, and the cursor behind it; was it the `}`?
-#[derive(Drop)]
+#[derive(Clone, Copy)]
 pub struct Measured {
     pub cursor: Cursor,
     pub measure: Measure,

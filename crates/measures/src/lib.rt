@@ -1,4 +1,6 @@
 // What is kept of a body: its depth, its size, its cycles, and its uses of `#`. Each number is held up to one above its bound, so that nothing wraps.
+#![tactic(auto)]
+
 ghost use Rattle.std.specs.Prelude.{◌≡◌, not, ℕ, ◌+◌, ◌*◌, ◌<◌, min, max, length};
 ghost use Rattle.meaning.specs.Bounds.{signals_most};
 ghost use Rattle.meaning.specs.Lists.{empty};
@@ -46,7 +48,7 @@ pub const ROWS: usize = BODIES * ROW;
 const NUMBERS: usize = 5;
 
 // A body's depth, size and cycles; `shifts` is what a turn of its Shift adds to them.
-#[derive(Drop)]
+#[derive(Clone, Copy)]
 pub struct Measure {
     pub depth: usize,
     pub size: usize,

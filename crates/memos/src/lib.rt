@@ -1,6 +1,8 @@
 // Uses that were played before, in which no cycle failed: rows of numbers, each of one use, from a table to a table and pins. A use is a statement with a body in it: Macro,
 // Call, or Loop. While a use is played it is
 // tracked, for each signal, under which tables what stood there before is shown, and whether it is assigned: so a row holds for all pins that could be shown so.
+#![tactic(auto)]
+
 ghost use Rattle.std.specs.Prelude.{◌≡◌, true, false, ℕ, ◌+◌, ◌*◌, ◌%◌, ◌<◌, ◌≤◌, length, get_or, set};
 ghost use Rattle.meaning.specs.Bounds.{signals_most, depth_most};
 ghost use Rattle.memos.specs.Tracks.{bit_of, is_marked, assigned_mark, marks_most, Marks, Joins, shown_marks, tracks_length, marks_from, marks_at};
@@ -9,7 +11,7 @@ ghost use Rattle.memos.specs.Memo.{row_at, memo_row, before_at, picture_size, Sh
 use words::Cursor;
 
 // A statement with a body in it, where it stands in the text, and how many second turns may be open in it.
-#[derive(Drop)]
+#[derive(Clone, Copy)]
 pub struct Use {
     pub seconds: usize,
     pub fault: usize,
@@ -18,14 +20,14 @@ pub struct Use {
 }
 
 // Is a use remembered, and where does its row begin?
-#[derive(Drop)]
+#[derive(Clone, Copy)]
 pub struct Found {
     pub is: bool,
     pub at: usize,
 }
 
 // The table and the cursor behind a use.
-#[derive(Drop)]
+#[derive(Clone, Copy)]
 pub struct Recalled {
     pub table: usize,
     pub cursor: Cursor,

@@ -1,4 +1,6 @@
 // What a text assigns at all: a mark for each signal and character that one of its V's, C's or arguments gives it.
+#![tactic(auto)]
+
 ghost use Rattle.std.specs.Prelude.{◌≡◌, true, List, ℕ, ◌*◌, ◌<◌, ◌≤◌, length};
 ghost use Rattle.meaning.specs.Bounds.{signals_most, tables_most};
 ghost use Rattle.meaning.specs.Timing.{Tables};

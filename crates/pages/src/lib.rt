@@ -1,4 +1,6 @@
 // A page that is filled from its front: bytes, and numbers as decimal digits.
+#![tactic(auto)]
+
 ghost use Rattle.std.specs.Prelude.{◌+◌, ◌≤◌, length};
 ghost use Rattle.pages.specs.Pages.{decimal, digits_most, Puts};
 

@@ -1,4 +1,6 @@
 // A page that is filled from its front until it is full: bytes, numbers and times one behind the other. Once something has no room, nothing more is written.
+#![tactic(auto)]
+
 ghost use Rattle.std.specs.Prelude.{◌≤◌, List, ◌++◌};
 ghost use Rattle.pages.specs.Pages.{decimal};
 ghost use Rattle.folded.specs.Layout.{timed};
@@ -8,7 +10,7 @@ ghost use Rattle.pens.specs.Pens.{signed_timed, Writes};
 use words::START;
 
 // How many bytes stand in the page; or there was no room for all (`full`).
-#[derive(Drop)]
+#[derive(Clone, Copy)]
 pub struct Pen {
     pub at: usize,
     pub full: bool,

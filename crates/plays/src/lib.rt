@@ -2,6 +2,8 @@
 // in it. A used body whose sum is known (`marks`, `sums`) and granted is passed; only one that may fail is entered, and once for each table, as long as that is remembered:
 // what it shows of the pins before it and what it assigns is tracked (`memos`), so that it is known for which other pins it would play as well. A Loop is remembered as a use
 // is; it plays its first turn, which is tracked so too, and its second where fewer than two second turns are open and the first would not play as well from what it left.
+#![tactic(auto)]
+
 ghost use Rattle.std.specs.Prelude.{◌≡◌, true, false, List, ℕ, ◌+◌, ◌-◌, ◌*◌, ◌%◌, ◌<◌, ◌≤◌, length, get_or};
 ghost use Rattle.pins.specs.Shown.{table_of};
 ghost use Rattle.sums.specs.Sums.{ok_at};
@@ -36,7 +38,7 @@ const SECONDS: usize = 2;
 
 // How a body is played: with so many second turns open in it at most, its Shift so often, in so many levels of bodies at most, at a level of its own.
 // What is tracked of it stands DEPTH - depth deep, in the nest of Loops and uses around it.
-#[derive(Drop)]
+#[derive(Clone, Copy)]
 pub struct Frame {
     pub seconds: usize,
     pub turns: usize,
@@ -45,7 +47,7 @@ pub struct Frame {
 }
 
 // The cursor behind what was played, whether a cycle of it failed and where its V stands, the table in force; and was it the `}`?
-#[derive(Drop)]
+#[derive(Clone, Copy)]
 pub struct Played {
     pub cursor: Cursor,
     pub failed: bool,
@@ -55,14 +57,14 @@ pub struct Played {
 }
 
 // Was a used body passed, and what table is in force behind it?
-#[derive(Drop)]
+#[derive(Clone, Copy)]
 pub struct Passed {
     pub done: bool,
     pub table: usize,
 }
 
 // Does a cycle of the run fail, and where does the first one's V stand?
-#[derive(Drop)]
+#[derive(Clone, Copy)]
 pub struct Failing {
     pub failed: bool,
     pub place: usize,

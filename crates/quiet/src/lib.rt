@@ -1,5 +1,7 @@
 // Quiet texts: every event lies within its own cycle, so that no cycle's last event reaches the next one's first (refusal 25). The tables of a text that was
 // read before are read once more; no name is looked up.
+#![tactic(auto)]
+
 ghost use Rattle.std.specs.Prelude.{◌≡◌, true, List, ℕ, ◌≤◌, ◌<◌};
 ghost use Rattle.std.proofs.Math.Option.{none};
 ghost use Rattle.tokens.specs.Tokens.{Toks, toks};
@@ -29,7 +31,7 @@ fn within(t: u64, start: u64, period: u64) -> bool
 }
 
 // Do all events that were read lie within their cycles; where they do, the cursor stands behind them.
-#[derive(Drop)]
+#[derive(Clone, Copy)]
 struct Look {
     cursor: Cursor,
     inside: bool,

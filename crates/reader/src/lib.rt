@@ -1,10 +1,12 @@
 // A reader that holds a text and a place: the token rules alone, for other tools. Each function over it only takes it apart; the work is done on the text and numbers.
+#![tactic(auto)]
+
 ghost use Rattle.std.specs.Prelude.{◌≡◌, ◌+◌, ◌≤◌, length};
 ghost use Rattle.reader.specs.Pass.{seen as seenOf, ahead_of, ahead_at, held, standing, passed};
 ghost use Rattle.tokens.specs.Tokens.{found};
 
 // Line and column are those of the place, moved on with it: each byte is counted once. Whatever they are, reading goes on from them.
-#[derive(Drop)]
+#[derive(Clone, Copy)]
 pub struct Reader<'a> {
     pub text: &'a [u8],
     pub at: usize,
@@ -12,7 +14,7 @@ pub struct Reader<'a> {
     pub column: usize,
 }
 
-#[derive(Drop)]
+#[derive(Clone, Copy)]
 pub enum Seen {
     // its place in the whole text, its length, its line and its column
     Token(usize, usize, usize, usize),
@@ -22,7 +24,7 @@ pub enum Seen {
 }
 
 // What is next, and the place behind it with its line and column.
-#[derive(Drop)]
+#[derive(Clone, Copy)]
 struct Ahead {
     seen: Seen,
     behind: usize,

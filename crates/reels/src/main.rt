@@ -1,4 +1,6 @@
 // Asks files of STIL test patterns: the command lines of docs/COMMANDS.md.
+#![tactic(auto)]
+
 mod failed;
 mod flattened;
 mod listed;

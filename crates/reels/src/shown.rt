@@ -12,7 +12,7 @@ use views::Shown;
 const QUESTION: u64 = 63;
 
 // Were the rows written? Then the visits at their first cycle.
-#[derive(Drop)]
+#[derive(Clone, Copy)]
 struct Piece {
     going: bool,
     visits: usize,

@@ -1,4 +1,6 @@
 // References: how many cycles of a pattern come before each X in it, at its first execution, read where the text holds the pattern's statements.
+#![tactic(auto)]
+
 ghost use Rattle.std.specs.Prelude.{◌≡◌, true, false, ◌+◌, ◌*◌, ◌-◌, ◌≤◌, length};
 ghost use Rattle.words.specs.Cursor.{alive, stream};
 ghost use Rattle.meaning.specs.Bounds.{signals_most, cycles_most};
@@ -11,7 +13,7 @@ use measures::DEPTH;
 use words::Cursor;
 
 // The cursor behind what was read, and how many cycles come before it; was it the `}`?
-#[derive(Drop)]
+#[derive(Clone, Copy)]
 pub struct Passed {
     pub cursor: Cursor,
     pub cycles: usize,
@@ -19,7 +21,7 @@ pub struct Passed {
 }
 
 // How many cycles come before a reference, if it is known.
-#[derive(Drop)]
+#[derive(Clone, Copy)]
 pub struct Before {
     pub known: bool,
     pub cycles: usize,

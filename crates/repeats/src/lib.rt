@@ -1,4 +1,6 @@
 // Bytes in a buffer, said again behind themselves.
+#![tactic(auto)]
+
 ghost use Rattle.std.specs.Prelude.{◌+◌, ◌<◌, ◌≤◌, length};
 ghost use Rattle.repeats.specs.Copied.{Copies, Extends};
 

@@ -1,4 +1,6 @@
 // A fail report: read once for its own faults, and again record by record.
+#![tactic(auto)]
+
 ghost use Rattle.std.specs.Prelude.{◌≡◌, ◌-◌, List, [], get_or};
 ghost use Rattle.meaning.specs.Reader.{until};
 ghost use Rattle.meaning.specs.Names.{number as number_of};
@@ -13,14 +15,14 @@ use words::{BAD_NUMBER, Cursor, NOT_HERE, UNKNOWN, Value};
 const OFFSET_MOST: u64 = 1_099_511_627_776;
 
 // A state letter, and the cursor behind its quotes.
-#[derive(Drop)]
+#[derive(Clone, Copy)]
 struct Stated {
     cursor: Cursor,
     letter: u8,
 }
 
 // An offset's number and letter (0 for none), and the cursor behind it. Its place is that of the cursor before it.
-#[derive(Drop)]
+#[derive(Clone, Copy)]
 pub struct Counted {
     pub cursor: Cursor,
     pub n: u64,
@@ -28,21 +30,21 @@ pub struct Counted {
 }
 
 // A record's signal, and the cursor behind it. Its reference is the token ahead of the cursor before it.
-#[derive(Drop)]
+#[derive(Clone, Copy)]
 pub struct Headed {
     pub cursor: Cursor,
     pub signal: usize,
 }
 
 // Is there an offset that falls outside the pattern, and where does the first such stand?
-#[derive(Drop)]
+#[derive(Clone, Copy)]
 struct Outside {
     is: bool,
     place: usize,
 }
 
 // A record's offsets: how many there are, the first that falls outside the pattern, and the cursor behind the record.
-#[derive(Drop)]
+#[derive(Clone, Copy)]
 pub struct Placed {
     pub cursor: Cursor,
     pub count: usize,
@@ -51,7 +53,7 @@ pub struct Placed {
 }
 
 // The pattern's name by its place and end; the place behind `FailData {` and the cursor there.
-#[derive(Drop)]
+#[derive(Clone, Copy)]
 struct Opened {
     cursor: Cursor,
     at: usize,
@@ -60,7 +62,7 @@ struct Opened {
 }
 
 // What is found of a report as a text of its own.
-#[derive(Drop)]
+#[derive(Clone, Copy)]
 pub enum Finding {
     // the number of the refusal, and its place in the report
     Refused(u8, usize),

@@ -1,4 +1,6 @@
 // How far a window is, and its rows in the lent buffer.
+#![tactic(auto)]
+
 ghost use Rattle.std.specs.Prelude.{◌≡◌, true, false, [], ◌∷◌, ◌++◌, ◌+◌, ◌*◌, ◌<◌, ◌≤◌, length, drop};
 ghost use Rattle.meaning.specs.Bounds.{signals_most, cycles_most};
 ghost use Rattle.meaning.specs.Run.{Cycle};
@@ -9,7 +11,7 @@ ghost use Rattle.rows.specs.Again.{Again};
 
 // How far a window is: cycles still to pass; rows written, and rows still to show; what may still be spent on the way; is the cycle that it begins with
 // still to be reached? And the mark that stands in its rows for an unassigned pin.
-#[derive(Drop)]
+#[derive(Clone, Copy)]
 pub struct Walk {
     pub pass: usize,
     pub row: usize,

@@ -1,4 +1,6 @@
 // Hurt reels: the span that a refusal overwrites, and the overwriting.
+#![tactic(auto)]
+
 ghost use Rattle.std.specs.Prelude.{◌≡◌, ◌++◌, false, ◌+◌, ◌≤◌, ◌<◌, length, take, drop};
 ghost use Rattle.tokens.specs.Written.{bytes, same};
 ghost use Rattle.tokens.specs.Refusals.{text_most};
@@ -13,7 +15,7 @@ use words::Cursor;
 const SPACE: u8 = 32;
 
 // A span, if there is one (`found`): its first byte, and the one behind its last.
-#[derive(Drop)]
+#[derive(Clone, Copy)]
 pub struct Hurt {
     pub found: bool,
     pub first: usize,
@@ -21,7 +23,7 @@ pub struct Hurt {
 }
 
 // What the check makes of a text: what it overwrites (`hurt`), or the refusal's number, 0 for none, and its place.
-#[derive(Drop)]
+#[derive(Clone, Copy)]
 pub struct Turn {
     pub hurt: Hurt,
     pub no: u8,
@@ -29,7 +31,7 @@ pub struct Turn {
 }
 
 // Turn after turn to the last refusal, its number 0 for none, and its place; and how many spans were overwritten.
-#[derive(Drop)]
+#[derive(Clone, Copy)]
 pub struct Mended {
     pub no: u8,
     pub place: usize,
@@ -37,7 +39,7 @@ pub struct Mended {
 }
 
 // How many braces are open, and where a Pattern block has begun, if one has (`begun`); or (`ended`) one that began there has just ended.
-#[derive(Drop)]
+#[derive(Clone, Copy)]
 struct Scan {
     depth: usize,
     begun: bool,

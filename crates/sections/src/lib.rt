@@ -1,4 +1,6 @@
 // The sections of a listing, in fixed order, each after its count; and what is written for a refusal.
+#![tactic(auto)]
+
 ghost use Rattle.std.specs.Prelude.{◌≡◌, ◌++◌, ◌+◌, ◌*◌, ◌≤◌, length};
 ghost use Rattle.meaning.specs.Bounds.{signals_most, tables_most};
 ghost use Rattle.meaning.specs.Meaning.{firsts};
@@ -16,7 +18,7 @@ const NAME: usize = 33;
 pub const FRONT: usize = 1_024 + sets::MOST * NAME;
 
 // The bytes that were written to the front of a page; the next row's cycle, how many rows are left, and their width. No `room`: the page is too small.
-#[derive(Drop)]
+#[derive(Clone, Copy)]
 pub struct Page {
     pub room: bool,
     pub length: usize,

@@ -1,5 +1,7 @@
 // The services without rows: Check, Name, Waveform, waveforms by the list, the index and the saving of hurt texts, for any text, any numbers and any
 // buffers. Callers in C have more handed out, and ask those with a `spare`.
+#![tactic(auto)]
+
 ghost use Rattle.std.specs.Prelude.{◌≡◌, true, ◌≤◌, length, take};
 ghost use Rattle.tokens.specs.Refusals.{text_most};
 ghost use Rattle.meaning.specs.Bounds.{entry_most};
@@ -36,7 +38,7 @@ const LOG: usize = 128;
 const NOT_THE_INDEX: u8 = 21;
 
 // The refusal's number, 0 for none, and its place; or else how many events there are.
-#[derive(Drop)]
+#[derive(Clone, Copy)]
 pub struct Outline {
     pub no: u8,
     pub place: usize,
@@ -44,7 +46,7 @@ pub struct Outline {
 }
 
 // The refusal's number, 0 for none, and its place; or else the length of the index, and the listed pattern that holds a cycle.
-#[derive(Drop)]
+#[derive(Clone, Copy)]
 struct Rebuilt {
     no: u8,
     place: usize,
@@ -52,7 +54,7 @@ struct Rebuilt {
     holder: Held,
 }
 
-#[derive(Drop)]
+#[derive(Clone, Copy)]
 pub enum Checked {
     // signals, tables, listed patterns, cycles, size of the run
     Counted(usize, usize, usize, usize, usize),
@@ -60,21 +62,21 @@ pub enum Checked {
     Refused(u8, usize),
 }
 
-#[derive(Drop)]
+#[derive(Clone, Copy)]
 pub enum Located {
     // the name's place in the text, and its length
     Found(usize, usize),
     Refused(u8, usize),
 }
 
-#[derive(Drop)]
+#[derive(Clone, Copy)]
 pub enum Shaped {
     // how many events were written
     Events(usize),
     Refused(u8, usize),
 }
 
-#[derive(Drop)]
+#[derive(Clone, Copy)]
 pub enum Charted {
     // all were served: how many events were written
     Drawn(usize),
@@ -84,20 +86,20 @@ pub enum Charted {
     Refused(u8, usize),
 }
 
-#[derive(Drop)]
+#[derive(Clone, Copy)]
 pub enum Indexed {
     // the index's length
     Written(usize),
     Refused(u8, usize),
 }
 
-#[derive(Drop)]
+#[derive(Clone, Copy)]
 pub enum Belonging {
     Belongs,
     Refused(u8, usize),
 }
 
-#[derive(Drop)]
+#[derive(Clone, Copy)]
 pub enum Holding {
     // the pattern's number in the list
     Pattern(usize),
@@ -105,7 +107,7 @@ pub enum Holding {
     Refused(u8, usize),
 }
 
-#[derive(Drop)]
+#[derive(Clone, Copy)]
 pub enum Saved {
     // how many spans were overwritten
     Spans(usize),

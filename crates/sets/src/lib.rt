@@ -1,4 +1,6 @@
 // Ordered sets of signals, by value.
+#![tactic(auto)]
+
 ghost use Rattle.std.specs.Prelude.{◌≡◌, ◌+◌, ◌≤◌, min, [], ◌∷◌, ◌++◌, length, take};
 ghost use Rattle.meaning.specs.Bounds.{signals_most};
 ghost use Rattle.meaning.specs.Lists.{has as has_of, meets as meetsOf, inside as insideOf, without as withoutOf, empty};
@@ -8,7 +10,7 @@ ghost use Rattle.sets.specs.Sets.{list_of, Pushed};
 pub const MOST: usize = 256;
 
 // The first n numbers of v.
-#[derive(Drop)]
+#[derive(Clone, Copy)]
 pub struct Set {
     pub n: usize,
     pub v: [u16; MOST],

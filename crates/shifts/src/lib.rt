@@ -1,4 +1,6 @@
 // A Shift's V, turn by turn, from the turn that has the cycle looked for on.
+#![tactic(auto)]
+
 ghost use Rattle.std.specs.Prelude.{◌≡◌, true, ◌<◌, ◌≤◌, length};
 ghost use Rattle.meaning.specs.Bounds.{signals_most};
 ghost use Rattle.pins.specs.Shown.{Roomy, Others};

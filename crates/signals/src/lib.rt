@@ -1,4 +1,6 @@
 // The blocks Signals and SignalGroups, read into two tables that the caller lends: place and end of each name, and its signals in a row.
+#![tactic(auto)]
+
 ghost use Rattle.std.specs.Prelude.{◌≡◌, true, false, cond, ◌&&◌, List, ℕ, ◌+◌, ◌*◌, ◌≤◌, ◌<◌, min, length, ltb};
 ghost use Rattle.meaning.specs.Bounds.{signals_most};
 ghost use Rattle.meaning.specs.Lists.{meets};
@@ -41,21 +43,21 @@ const BRACKETS: usize = 8;
 const BAD_GROUP: u8 = 10;
 
 // How many names there are, and the cursor behind them.
-#[derive(Drop)]
+#[derive(Clone, Copy)]
 struct Counted {
     cursor: Cursor,
     count: usize,
 }
 
 // Is it `+`, and the cursor behind it.
-#[derive(Drop)]
+#[derive(Clone, Copy)]
 struct Signed {
     cursor: Cursor,
     plus: bool,
 }
 
 // A term's signals, the place of its last token, and the cursor behind it.
-#[derive(Drop)]
+#[derive(Clone, Copy)]
 struct Placed {
     cursor: Cursor,
     set: Set,
@@ -63,14 +65,14 @@ struct Placed {
 }
 
 // An expression's signals, and the cursor behind it.
-#[derive(Drop)]
+#[derive(Clone, Copy)]
 struct Listed {
     cursor: Cursor,
     set: Set,
 }
 
 // How many signals there are, how many names, and the cursor behind both blocks.
-#[derive(Drop)]
+#[derive(Clone, Copy)]
 pub struct Blocks {
     pub cursor: Cursor,
     pub signals: usize,

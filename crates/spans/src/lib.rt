@@ -1,4 +1,6 @@
 // The first and last time of each waveform in each category, read from Timing once more: tables for holding a cycle against the one before.
+#![tactic(auto)]
+
 ghost use Rattle.std.specs.Prelude.{◌≡◌, ℕ, suc, ◌+◌, ◌-◌, ◌*◌, ◌/◌, ◌%◌, ◌<◌, true, cond, not, ◌&&◌, List, [], ◌∷◌, ◌++◌, length, get_or, eqb};
 ghost use Rattle.std.proofs.Math.Option.{Option};
 ghost use Rattle.tokens.specs.Tokens.{Toks, toks};
@@ -112,7 +114,7 @@ fn last(here: bool, old: u32, new: u32) -> u32
 }
 
 // The first and last time of a category, each one more, 0 for none.
-#[derive(Drop)]
+#[derive(Clone, Copy)]
 struct Span {
     first: u32,
     last: u32,
@@ -129,7 +131,7 @@ fn more(x: Span, here: bool, n: u32) -> Span
 }
 
 // Those of drive and of compare events.
-#[derive(Drop)]
+#[derive(Clone, Copy)]
 struct Both {
     drive: Span,
     compare: Span,

@@ -1,4 +1,6 @@
 // Where the entries of a table stand: the tables of a text that was read before, read once more. Nothing is tested again.
+#![tactic(auto)]
+
 ghost use Rattle.std.specs.Prelude.{◌≡◌, ℕ, ◌≤◌, ◌<◌, List, [], ◌∷◌, length};
 ghost use Rattle.tokens.specs.Tokens.{Toks};
 ghost use Rattle.meaning.specs.Bounds.{entry_most, signals_most};

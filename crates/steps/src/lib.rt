@@ -1,6 +1,8 @@
 // The walk to a window's first cycle, in single steps under a budget, and from there the rows: one by one, or copied from the turn of a Loop before. A step
 // goes past a statement whose cycles all lie before the cycle, or into the one that has it, and spends what that costs; a statement that is passed is played
 // once, as a check without second turns plays it, so that pins and table are what its cycles would have left.
+#![tactic(auto)]
+
 ghost use Rattle.std.specs.Prelude.{◌≡◌, true, false, ◌-◌, ◌<◌, ◌≤◌, length};
 ghost use Rattle.tokens.specs.Tokens.{toks};
 ghost use Rattle.words.specs.Cursor.{alive, stream};
@@ -15,7 +17,7 @@ use rows::Walk;
 use words::Cursor;
 
 // The cursor behind what was gone through, the table in force, and how far the window is; and was it the `}`?
-#[derive(Drop)]
+#[derive(Clone, Copy)]
 pub struct Walked {
     pub cursor: Cursor,
     pub table: usize,

@@ -1,5 +1,7 @@
 // The services, folding (`flats`), fail reports (`fails`), the next token, the line of a place and the intake for callers in C or Rust: the answer is 0, with what it holds at the front of buffers,
 // or a refusal, and all buffers are as they were; but a list of waveforms leaves those that were served before it, and the intake its state.
+#![tactic(auto)]
+
 ghost use Rattle.std.specs.Prelude.{◌≡◌, ◌∷◌, [], not, ◌≤◌, length, eqb};
 ghost use Rattle.tokens.specs.Tokens.{next_token};
 ghost use Rattle.columns.specs.Columns.{position};

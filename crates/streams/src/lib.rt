@@ -1,4 +1,6 @@
 // A text from a descriptor, and pages to standard output. No contract can say what is read or written: the work is done by functions on slices, which have theirs.
+#![tactic(auto)]
+
 ghost use Rattle.std.specs.Prelude.{◌≡◌, length};
 ghost use Rattle.streams.specs.Pages.{room_most, raw_room, rows_most};
 ghost use Rattle.io.specs.Counts.{IsPrefixLen};
@@ -32,7 +34,7 @@ pub fn rows() -> [u8; ROWS]
 }
 
 // Was the text read to its end, or to the buffer's? Then so many bytes stand at the buffer's front.
-#[derive(Drop)]
+#[derive(Clone, Copy)]
 pub struct Text {
     pub read: bool,
     pub length: usize,

@@ -1,5 +1,7 @@
 // The rows of a listed pattern, folded one after the other into the statements of Patterns, into a page. A row is a character for each signal, 0 for a pin
 // without a value, the table's digit and LF.
+#![tactic(auto)]
+
 ghost use Rattle.std.specs.Prelude.{◌≡◌, [], ◌∷◌, ◌++◌, true, false, ◌+◌, ◌*◌, ◌-◌, ◌≤◌, ◌<◌, suc, length, get_or};
 ghost use Rattle.meaning.specs.Bounds.{cycles_most};
 ghost use Rattle.words.specs.Table.{name_of};
@@ -23,7 +25,7 @@ const ZERO: u8 = 48;
 
 // Where folding stands in a listed pattern: the pen, the number of the Pattern, the table in force if one was chosen, and how often the row in hand came; 0
 // before the first row.
-#[derive(Drop)]
+#[derive(Clone, Copy)]
 pub struct Folding {
     pub pen: Pen,
     pub pattern: usize,

@@ -1,4 +1,6 @@
 // Sums of bodies, a row of bytes each: what a body asks of the state in which it begins, so that no cycle of it fails, and what it leaves.
+#![tactic(auto)]
+
 ghost use Rattle.std.specs.Prelude.{◌≡◌, true, false, not, ◌||◌, ◌&&◌, eqb, List, ℕ, ◌+◌, ◌*◌, ◌<◌, ◌≤◌, length};
 ghost use Rattle.std.proofs.Math.Option.{none, some};
 ghost use Rattle.meaning.specs.Bounds.{signals_most, tables_most};
@@ -42,7 +44,7 @@ pub const SUMMED: u8 = 1;
 pub const SHIFTED: u8 = 2;
 
 // A signal as a body entered from a state leaves it, if its pin and its argument could be shown wherever the body shows them.
-#[derive(Drop)]
+#[derive(Clone, Copy)]
 struct On {
     fits: bool,
     pin: u8,

@@ -1,4 +1,6 @@
 // A whole text: all its blocks in order, read into tables that the caller lends; and what refuses it before it is played, 1 to 16.
+#![tactic(auto)]
+
 ghost use Rattle.std.specs.Prelude.{◌≡◌, List, [], ℕ, ◌+◌, ◌*◌, ◌≤◌, length};
 ghost use Rattle.tokens.specs.Tokens.{Tok, toks};
 ghost use Rattle.tokens.specs.Refusals.{text_most};
@@ -39,7 +41,7 @@ const TOO_LARGE: u8 = 16;
 const NO_ROOM: usize = words::NO_ROOM as usize;
 
 // The blocks of a text: the cursor behind them, how many there are of what they declare, and where the watched waveform is found.
-#[derive(Drop)]
+#[derive(Clone, Copy)]
 pub struct Parts {
     pub cursor: Cursor,
     pub signals: usize,
@@ -51,14 +53,14 @@ pub struct Parts {
 }
 
 // How many patterns were read, and the cursor behind them.
-#[derive(Drop)]
+#[derive(Clone, Copy)]
 struct Counted {
     cursor: Cursor,
     count: usize,
 }
 
 // The blocks behind the bodies: the cursor behind them, how many names the burst lists, how many patterns there are, and what their statements know.
-#[derive(Drop)]
+#[derive(Clone, Copy)]
 struct Ended {
     cursor: Cursor,
     listed: usize,
@@ -67,7 +69,7 @@ struct Ended {
 }
 
 // What refuses a text, 0 for nothing, and its place; else the measure of the listed patterns as one run.
-#[derive(Drop)]
+#[derive(Clone, Copy)]
 struct Total {
     no: u8,
     place: usize,
@@ -75,7 +77,7 @@ struct Total {
 }
 
 // What was decided: the refusal's number, 0 for none, and its place; the blocks, and the measure of the run.
-#[derive(Drop)]
+#[derive(Clone, Copy)]
 pub struct Verdict {
     pub no: u8,
     pub place: usize,
@@ -391,7 +393,7 @@ pub fn decide(
 
 // ---- for a caller without tables
 
-#[derive(Drop)]
+#[derive(Clone, Copy)]
 pub enum Finding {
     // signals, tables, listed patterns, cycles, size
     Sound(usize, usize, usize, usize, usize),

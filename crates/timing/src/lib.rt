@@ -1,5 +1,7 @@
 // Timing: tables of waveforms. Of each the code keeps its name, and a mark for each signal and character that has a waveform; and of
 // one waveform that is wanted, where its entry stands.
+#![tactic(auto)]
+
 ghost use Rattle.std.specs.Prelude.{◌≡◌, ℕ, ◌+◌, ◌*◌, ◌≤◌, ◌<◌, min, Bool, true, false, cond, not, ◌&&◌, List, [], ◌∷◌, ◌++◌, length, get_or, eqb};
 ghost use Rattle.meaning.specs.Bounds.{entry_most, signals_most, tables_most};
 ghost use Rattle.meaning.specs.Lists.{has, repeats as repeatsOf};
@@ -51,7 +53,7 @@ fn event_letter(w: &[u8]) -> u8
 }
 
 // A letter that was read, and the cursor behind it.
-#[derive(Drop)]
+#[derive(Clone, Copy)]
 struct LetterRead {
     cursor: words::Cursor,
     e: u8,
@@ -71,7 +73,7 @@ fn letter(text: &[u8], c: words::Cursor) -> LetterRead
 const ENTRY: usize = 16;
 
 // Alternatives of one event: how many, up to one too many, and the first of them.
-#[derive(Drop)]
+#[derive(Clone, Copy)]
 pub struct Alternatives {
     pub n: usize,
     pub l: [u8; ENTRY],
@@ -102,7 +104,7 @@ fn more(a: Alternatives, e: u8) -> Alternatives
 }
 
 // Alternatives that were read, and the cursor behind them.
-#[derive(Drop)]
+#[derive(Clone, Copy)]
 pub struct LettersRead {
     pub cursor: words::Cursor,
     pub a: Alternatives,
@@ -135,7 +137,7 @@ pub fn letter_at(a: Alternatives, i: usize) -> u8
 // ---- events
 
 // Of the events of each character: how many there are, and the least time that the next one of each category may have.
-#[derive(Drop)]
+#[derive(Clone, Copy)]
 struct Times {
     count: usize,
     least: [u64; 2 * ENTRY],
@@ -166,7 +168,7 @@ fn next(count: usize) -> usize
 }
 
 // Events with one more, where every time rises (`right`).
-#[derive(Drop)]
+#[derive(Clone, Copy)]
 struct Added {
     right: bool,
     times: Times,
@@ -196,7 +198,7 @@ fn add(times: Times, t: u64, a: Alternatives, n: usize) -> Added
 }
 
 // Events that were read, and the cursor behind them.
-#[derive(Drop)]
+#[derive(Clone, Copy)]
 struct TimesRead {
     cursor: words::Cursor,
     times: Times,
@@ -346,7 +348,7 @@ fn mark_all(table: &mut [u8], sigs: &[u16], w: &[u8])
 // ---- the watch
 
 // A waveform that is wanted, by the numbers of its table and signal and its character. Any numbers: what there is not is not found.
-#[derive(Drop)]
+#[derive(Clone, Copy)]
 pub struct Watch {
     pub table: usize,
     pub signal: usize,
@@ -354,7 +356,7 @@ pub struct Watch {
 }
 
 // Is it found, and at which place: where the CHARS of the entry that gives it stand.
-#[derive(Drop)]
+#[derive(Clone, Copy)]
 struct Sight {
     found: bool,
     place: usize,
@@ -393,7 +395,7 @@ fn either(test: bool, yes: Sight, no: Sight) -> Sight
 }
 
 // Where reading stands, and what was seen up to there.
-#[derive(Drop)]
+#[derive(Clone, Copy)]
 struct Seen {
     cursor: words::Cursor,
     sight: Sight,
@@ -582,7 +584,7 @@ fn table<'a>(
 }
 
 // How many tables were read, is the watched waveform found and at which place its entry stands, and the cursor behind them.
-#[derive(Drop)]
+#[derive(Clone, Copy)]
 pub struct Tables {
     pub cursor: words::Cursor,
     pub count: usize,

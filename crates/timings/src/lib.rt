@@ -1,4 +1,6 @@
 // Timing of a folded text: the tables of an accepted text, read once more and written to a page, each signal's characters in the order of their bytes.
+#![tactic(auto)]
+
 ghost use Rattle.std.specs.Prelude.{◌≡◌, ◌≤◌, ◌<◌, List, [], length};
 ghost use Rattle.tokens.specs.Tokens.{Toks};
 ghost use Rattle.meaning.specs.Bounds.{signals_most};
@@ -131,7 +133,7 @@ fn title(page: &mut [u8], pen: Pen, name: &[u8], period: u64) -> Pen
 // ---- tables
 
 // Behind a table that was read and written.
-#[derive(Drop)]
+#[derive(Clone, Copy)]
 struct Sheet {
     cursor: Cursor,
     pen: Pen,

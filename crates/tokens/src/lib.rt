@@ -1,4 +1,6 @@
 // The token rules: the next token from a place, and what is wrong with a whole text as bytes.
+#![tactic(auto)]
+
 ghost use Rattle.std.specs.Prelude.{◌≡◌, ◌+◌, ◌<◌, get_or, length, drop, ltb};
 ghost use Rattle.tokens.specs.Bytes.{allowed, blank, wordy};
 ghost use Rattle.tokens.specs.Refusals.{text_most};
@@ -15,7 +17,7 @@ pub const BAD_BYTE: u8 = 2;
 
 pub const OPEN_COMMENT: u8 = 3;
 
-#[derive(Drop)]
+#[derive(Clone, Copy)]
 pub enum Step {
     // its place in the whole text and its length
     Token(usize, usize),
@@ -24,7 +26,7 @@ pub enum Step {
     Refused(u8, usize),
 }
 
-#[derive(Drop)]
+#[derive(Clone, Copy)]
 pub enum Fault {
     Clean,
     // the number of the refusal, and the place
@@ -32,7 +34,7 @@ pub enum Fault {
 }
 
 // Where reading is led: on to a place outside comments, or to an answer.
-#[derive(Drop)]
+#[derive(Clone, Copy)]
 pub enum Lead {
     On(usize),
     To(Step),

@@ -1,4 +1,6 @@
 // Any text, judged once: its refusal by 1 to 17 and 25, or its counts, a name by its number and where a waveform stands.
+#![tactic(auto)]
+
 ghost use Rattle.std.specs.Prelude.{◌≡◌, false, ◌≤◌, length};
 ghost use Rattle.meaning.specs.Bounds.{signals_most, tables_most};
 ghost use Rattle.meaning.specs.Meaning.{firsts};
@@ -19,7 +21,7 @@ const NOT_PLAYABLE: u8 = 17;
 const ACROSS_EDGE: u8 = 25;
 
 // What is wanted of a text beside its counts: a name by its number, and where a waveform stands.
-#[derive(Drop)]
+#[derive(Clone, Copy)]
 pub struct Wanted {
     pub table: bool,
     pub number: usize,
@@ -27,7 +29,7 @@ pub struct Wanted {
 }
 
 // A name by its number, if there is one (`named`): its place in the text, and its length.
-#[derive(Drop)]
+#[derive(Clone, Copy)]
 pub struct Named {
     pub named: bool,
     pub at: usize,
@@ -36,7 +38,7 @@ pub struct Named {
 
 // The refusal's number, 0 for none, and its place; or else the counts, the name that is wanted, and where the waveform's entry stands (`found`: there is
 // one).
-#[derive(Drop)]
+#[derive(Clone, Copy)]
 pub struct Judged {
     pub no: u8,
     pub place: usize,
@@ -51,7 +53,7 @@ pub struct Judged {
 }
 
 // Is the run of a text refused, 17 or 25 (0: it is not), and where does the V stand?
-#[derive(Drop)]
+#[derive(Clone, Copy)]
 pub struct Unfit {
     pub no: u8,
     pub place: usize,

@@ -1,4 +1,6 @@
 // The service Window, for any text, any numbers and any buffer.
+#![tactic(auto)]
+
 ghost use Rattle.std.specs.Prelude.{◌≡◌, ◌-◌, min};
 ghost use Rattle.meaning.specs.Services.{bad_mark, window as window_of};
 ghost use Rattle.verdicts.specs.Found.{SomeFound};
@@ -8,7 +10,7 @@ ghost use Rattle.views.specs.Views.{Views};
 use texts::Verdict;
 use words::{BAD_DATA, NO_ROOM};
 
-#[derive(Drop)]
+#[derive(Clone, Copy)]
 pub enum Shown {
     // how many rows were written, and the visits
     Rows(usize, usize),

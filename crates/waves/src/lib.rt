@@ -1,4 +1,6 @@
 // The events of one character of a signal, read again where its entry stands. The entry was read before and not refused, so that nothing is tested again.
+#![tactic(auto)]
+
 ghost use Rattle.std.specs.Prelude.{◌≡◌, ◌<◌, List, length};
 ghost use Rattle.meaning.specs.Bounds.{entry_most};
 ghost use Rattle.meaning.specs.Timing.{Event};
@@ -25,7 +27,7 @@ fn number_of(w: &[u8], b: u8) -> usize
 }
 
 // An event that was read: its time in ps, counted from the earliest that there may be, and the letter of one character, and the cursor behind it.
-#[derive(Drop)]
+#[derive(Clone, Copy)]
 pub struct EventRead {
     pub cursor: Cursor,
     pub time: u64,

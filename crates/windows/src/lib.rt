@@ -1,4 +1,6 @@
 // A window over the run: the listed patterns in order, up to its last row.
+#![tactic(auto)]
+
 ghost use Rattle.meaning.specs.Meaning.{Meaning};
 ghost use Rattle.meaning.specs.Document.{Read};
 ghost use Rattle.texts.specs.declared.Parts.{Parts};

@@ -1,4 +1,6 @@
 // Readers of single tokens: a cursor over the text, names, reserved words, numbers and times.
+#![tactic(auto)]
+
 ghost use Rattle.std.specs.Prelude.{◌≡◌, ℕ, ◌+◌, ◌≤◌, ◌<◌, min, List, get_or, length, false, ◌&&◌, not, eqb, ltb};
 ghost use Rattle.std.proofs.Math.Option.{Option};
 ghost use Rattle.tokens.specs.Written.{same};
@@ -38,7 +40,7 @@ pub const CHAINS: usize = 509;
 
 // Where reading stands. With `no` 0 the token ahead is the text from `at` to `end`; where `end` is not behind `at` there is none: the text has
 // ended at `at`, or has the fault `fault` there. With another `no` reading was refused so at `at`, and every reader hands that on.
-#[derive(Drop)]
+#[derive(Clone, Copy)]
 pub struct Cursor {
     pub no: u8,
     pub fault: u8,
@@ -47,21 +49,21 @@ pub struct Cursor {
 }
 
 // A number, if it is one (`right`), and at most the largest that the code holds.
-#[derive(Drop)]
+#[derive(Clone, Copy)]
 pub struct Value {
     pub right: bool,
     pub n: u64,
 }
 
 // The number of a name in its table, and the cursor behind it.
-#[derive(Drop)]
+#[derive(Clone, Copy)]
 pub struct Named {
     pub cursor: Cursor,
     pub number: usize,
 }
 
 // A number that was read, and the cursor behind it.
-#[derive(Drop)]
+#[derive(Clone, Copy)]
 pub struct Numbered {
     pub cursor: Cursor,
     pub n: u64,
