@@ -1,0 +1,25 @@
+use Prim.Native.Nat.{◌*◌}
+use mathlib.Core.Path.{◌≡◌}
+use lib.ListN.{length}
+use Rattle.meaning.specs.Bounds.{signals_most}
+use Rattle.meaning.specs.Statements.{Env}
+use Rattle.words.proofs.Loops.{room}
+use Rattle.measures.specs.Uses.{row_length}
+use Rattle.timing.specs.Marks.{table_size}
+use Rattle.noted.specs.Noted.{Grows}
+use Rattle.heads.specs.Known.{Describes}
+use Rattle.bodies.specs.Bodies.{Notes}
+use Rattle.bodies.proofs.Reading.{Reading}
+use Rattle.bodies.proofs.+statement_statements.Given as goal
+
+abbrev pub invariant-statements-loop-cursor : goal.invariant-statements-loop-cursor
+invariant-statements-loop-cursor l =
+    (length l.row ≡ row_length)
+    × (length l.args ≡ signals_most * 2)
+    × (length l.used ≡ table_size)
+    × Grows l.initial.used l.used
+    × ((e : Env) → Describes l.text l.places l.lists l.tplaces l.book l.rows l.known e → Reading l.text e l.own l.d l.initial.cursor l.cursor l.ends l.seen l.measure l.initial.row l.row (Notes l.known.tables e l.initial.used l.used))
+
+abbrev pub decreases-statements-loop-cursor : goal.decreases-statements-loop-cursor
+decreases-statements-loop-cursor l =
+    room l.text l.cursor

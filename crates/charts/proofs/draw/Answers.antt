@@ -1,0 +1,21 @@
+-- `draw` meets its contract: 19, or the events that were read at the front of both buffers.
+use native.Mathlib.Omega.{arith}
+use mathlib.Core.Path.{refl}
+use Rattle.charts.proofs.Rooms.{roomy}
+use Rattle.charts.proofs.Drawing.{events_full, events_put}
+use Rattle.charts.proofs.draw.Lts as lts
+use Rattle.charts.proofs.draw.Goals as goal
+
+pub returns-then-times-n : goal.returns-then-times-n
+returns-then-times-n c = λ es x. events_full (c.read-n.ensures es x) _ _ c.if-times-n.true refl
+
+pub put-requires : goal.put-requires
+put-requires c =
+    let read = c.read-n in
+    let d = read.ensures c.requires.0 c.requires.1 in
+    ((omega (arith, d.count, d.few, read.auto.1.1.1.0), omega (arith, d.count, d.few, read.auto.1.1.1.1.0)), roomy _ _ _ c.if-times-n.false)
+
+pub returns : goal.returns
+returns c =
+    let read = c.read-n in λ es x.
+    events_put (read.ensures es x) _ _ c.if-times-n.false refl refl refl c.put.ensures

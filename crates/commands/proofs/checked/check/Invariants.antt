@@ -1,0 +1,9 @@
+-- `check` is safe and ends: no more files are counted than there are words.
+use Prim.Native.Nat.{◌+◌, ◌-◌, ◌≤◌}
+use Rattle.commands.proofs.checked.check.Given as goal
+
+abbrev pub invariant-loop-i : goal.invariant-loop-i
+invariant-loop-i l = (2 ≤ l.i) × (l.tally.good + l.tally.hurt + l.tally.unread ≤ l.i)
+
+abbrev pub decreases-loop-i : goal.decreases-loop-i
+decreases-loop-i l = l.words - l.i

@@ -1,0 +1,12 @@
+use Prim.Native.Nat.{◌-◌}
+use Rattle.plays.specs.Plays.{arrays}
+use Rattle.crossings.specs.Rows.{seen, clock}
+use Rattle.crossings.proofs.Running.{Unplayed}
+use Rattle.crossings.proofs.first_failing_pair.Lts as lts
+use Rattle.crossings.proofs.first_failing_pair.Given as goal
+
+abbrev pub invariant-loop-k : goal.invariant-loop-k
+invariant-loop-k l = Unplayed l.text l.places l.lists l.tplaces l.waves l.book l.rows l.list l.known l.signals l.listed l.patterns (clock l.firsts l.lasts l.periods) l.k (arrays l.values l.feeds l.args) (seen l.shown l.marks)
+
+abbrev pub decreases-loop-k : goal.decreases-loop-k
+decreases-loop-k l = l.listed - l.k

@@ -1,0 +1,6 @@
+-- One store.
+use Rattle.crossings.proofs.Storing.{forgotten}
+use Rattle.crossings.proofs.forget.Goals as goal
+
+pub returns : goal.returns
+returns c = λ n shown. forgotten n shown c.requires.0 c.requires.1

@@ -1,0 +1,46 @@
+-- Each turn looks at the next signal.
+use Prim.Native.Nat.{◌-◌}
+use native.Mathlib.Omega.{arith}
+use mathlib.Core.Path.{sym}
+use Rattle.crossings.proofs.Ordering.{first_none, second_none, looked_none, looked_next, looked_fails, looked_all}
+use Rattle.crossings.proofs.in_order.Lts as lts
+use Rattle.crossings.proofs.in_order.Goals as goal
+
+pub returns-then-j-ge-TABLES : goal.returns-then-j-ge-TABLES
+returns-then-j-ge-TABLES c = λ tabs h p q. sym (first_none tabs c.args.signals p c.args.j c.args.first.now c.args.a q c.args.k c.args.second.now c.args.b (omega arith))
+
+pub returns-then-k-ge-TABLES : goal.returns-then-k-ge-TABLES
+returns-then-k-ge-TABLES c = λ tabs h p q. sym (second_none tabs c.args.signals p c.args.j c.args.first.now c.args.a q c.args.k c.args.second.now c.args.b (omega arith))
+
+pub loop-s-init : goal.loop-s-init
+loop-s-init c = (omega arith, λ tabs h p q. looked_none tabs c.args.signals p c.args.j c.args.first.now c.args.a q c.args.k c.args.second.now c.args.b (omega arith) (omega arith))
+
+pub overflow_add-a : goal.overflow_add-a
+overflow_add-a c = omega arith
+
+pub bounds-first-a : goal.bounds-first-a
+bounds-first-a c = omega arith
+
+pub overflow_add-b : goal.overflow_add-b
+overflow_add-b c = omega arith
+
+pub bounds-second-b : goal.bounds-second-b
+bounds-second-b c = omega arith
+
+pub fine-requires : goal.fine-requires
+fine-requires c = (c.requires.0, omega arith, omega arith, omega arith)
+
+pub returns-then-not-fine : goal.returns-then-not-fine
+returns-then-not-fine c = λ tabs h p q. sym (looked_fails (c.loop-s.invariant.1 tabs h p q) (omega arith) (omega arith) (omega arith) (c.fine.ensures tabs h) c.if-not-fine.true-raw)
+
+pub overflow_add-s : goal.overflow_add-s
+overflow_add-s c = omega arith
+
+pub loop-s-smaller : goal.loop-s-smaller
+loop-s-smaller c = omega arith
+
+pub loop-s-preserved : goal.loop-s-preserved
+loop-s-preserved c = (omega arith, λ tabs h p q. looked_next (c.loop-s.invariant.1 tabs h p q) (omega arith) (omega arith) (omega arith) (c.fine.ensures tabs h) c.if-not-fine.false-raw)
+
+pub returns : goal.returns
+returns c = λ tabs h p q. sym (looked_all (c.loop-s.invariant.1 tabs h p q) (omega arith) (omega arith) (omega arith))

@@ -1,0 +1,14 @@
+-- `judge_record` meets its contract: 24 for the reference, or by its offsets.
+use Rattle.references.specs.References.{past_by}
+use Rattle.references.specs.Filled.{noted}
+use Rattle.fails.proofs.Judging.{at_word, judges_out, judges_in}
+use Rattle.fails.proofs.judge_record.Lts as lts
+use Rattle.fails.proofs.judge_record.Goals as goal
+
+-- src/lib.rt:167:9
+pub returns-then-b-p : goal.returns-then-b-p
+returns-then-b-p c = judges_out _ _ _ _ c.head-h.ensures c.count_offsets-p.ensures (at_word (past_by c.args.name.now (noted c.args.text.now c.args.labels.now c.args.count c.args.table.now)) c.past-b.ensures.0 c.bytes_of.ensures) c.left_behind-left.ensures c.if-b-p.true
+
+-- src/lib.rt:133:1
+pub returns : goal.returns
+returns c = judges_in _ _ _ _ c.head-h.ensures c.count_offsets-p.ensures (at_word (past_by c.args.name.now (noted c.args.text.now c.args.labels.now c.args.count c.args.table.now)) c.past-b.ensures.0 c.bytes_of.ensures) c.left_behind-left.ensures c.if-b-p.false c.or_one.ensures

@@ -1,0 +1,31 @@
+-- `burst` meets its contract. The invariant: behind the line's beginning the names up to number i are written.
+use Prim.Native.Nat.{◌-◌}
+use native.Mathlib.Omega.{arith}
+use mathlib.Core.Path.{◌≡◌, ◌∙◌}
+use Rattle.tokens.specs.Written.{bytes}
+use Rattle.folds.proofs.Laws.{no_listed, listed_more, burst_writes}
+use Rattle.folds.proofs.burst.Goals as goal
+
+pub loop-i-init : goal.loop-i-init
+loop-i-init c = (omega arith, no_listed _ _)
+
+pub overflow_add-i : goal.overflow_add-i
+overflow_add-i c = omega arith
+
+pub loop-i-smaller : goal.loop-i-smaller
+loop-i-smaller c = omega arith
+
+pub loop-i-preserved : goal.loop-i-preserved
+loop-i-preserved c =
+    let loop = c.loop-i in
+    (omega arith, listed_more loop.i loop.invariant.1 c.listed-p.ensures)
+
+pub shape_of-page : goal.shape_of-page
+shape_of-page c = c.add.ensures.kept ∙ c.loop-i.invariant.1.kept ∙ c.add-p.ensures.kept
+
+pub returns : goal.returns
+unfolding bytes
+returns c =
+    let loop = c.loop-i in
+    let e : loop.i ≡ c.args.count = omega arith in
+    rw (← e) (burst_writes loop.i c.add-p.ensures loop.invariant.1 c.add.ensures)

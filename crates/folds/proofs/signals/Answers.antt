@@ -1,0 +1,35 @@
+-- `signals` meets its contract. The invariant: behind `Signals{` the signals up to number i are written.
+use Prim.Native.Nat.{◌-◌}
+use native.Mathlib.Omega.{arith}
+use mathlib.Core.Path.{◌≡◌, ◌∙◌}
+use Rattle.tokens.specs.Written.{bytes}
+use Rattle.folds.proofs.Laws.{no_signals, signals_more, signals_write}
+use Rattle.folds.proofs.signals.Goals as goal
+
+pub loop-i-init : goal.loop-i-init
+loop-i-init c = (omega arith, no_signals c.args.text.now c.args.places.now _ _)
+
+pub signal-p-requires : goal.signal-p-requires
+signal-p-requires c = omega (arith, c.requires)
+
+pub overflow_add-i : goal.overflow_add-i
+overflow_add-i c = omega (arith, c.requires)
+
+pub loop-i-smaller : goal.loop-i-smaller
+loop-i-smaller c = omega arith
+
+pub loop-i-preserved : goal.loop-i-preserved
+loop-i-preserved c =
+    let loop = c.loop-i in
+    (omega arith, signals_more c.args.text.now c.args.places.now loop.i loop.invariant.1 c.signal-p.ensures)
+
+pub shape_of-page : goal.shape_of-page
+shape_of-page c = c.add.ensures.kept ∙ c.loop-i.invariant.1.kept ∙ c.add-p.ensures.kept
+
+pub returns : goal.returns
+unfolding bytes
+returns c =
+    let loop = c.loop-i in
+    let e : loop.i ≡ c.args.count = omega arith in
+    rw (← e)
+    (signals_write c.args.text.now c.args.places.now loop.i c.add-p.ensures loop.invariant.1 c.add.ensures)

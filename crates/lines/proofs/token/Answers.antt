@@ -1,0 +1,17 @@
+-- `token` meets its contract: its five pieces are the line.
+use Rattle.tokens.specs.Written.{bytes}
+use native.Mathlib.Omega.{arith}
+use Rattle.sections.proofs.Pieces.{adds_both, adds_whole, word_adds}
+use Rattle.lines.proofs.Laws.{token_is}
+use Rattle.lines.proofs.token.Goals as goal
+
+pub returns : goal.returns
+unfolding bytes
+returns c =
+    let a = c.args in
+    adds_whole
+    (adds_both c.with_number-end.ensures
+    (adds_both c.with_number-end-2.ensures
+    (adds_both (word_adds c.put-end.ensures)
+    (adds_both (word_adds c.put-end-2.ensures) (word_adds c.put.ensures)))))
+    (token_is a.place a.token.now) (omega arith)

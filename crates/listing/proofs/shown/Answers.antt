@@ -1,0 +1,21 @@
+-- `shown` meets its contract: 17 or 25, or the sections of the text that the tables hold.
+use Rattle.index.proofs.Names.{tables_short}
+use Rattle.listing.proofs.Beginning.{begins_refused, begins_sections, signals_short}
+use native.Mathlib.Omega.{arith}
+use Rattle.listing.proofs.shown.Goals as goal
+
+pub returns-then-f-ne0 : goal.returns-then-f-ne0
+returns-then-f-ne0 c =
+    let found = c.requires.1.found in
+    begins_refused c.requires.0 (c.failing-f.ensures.refuses found c.if-f-ne0.true) c.refused.ensures
+
+pub sections-requires : goal.sections-requires
+sections-requires c =
+    let pre = c.requires in
+    let found = pre.1.found in
+    (pre.0, found.tabled.few_signals, omega (arith, found.tabled.held), signals_short found, tables_short found)
+
+pub returns : goal.returns
+returns c =
+    let found = c.requires.1.found in
+    begins_sections found c.requires.0 (c.failing-f.ensures.accepts found c.if-f-ne0.false) c.sections.ensures

@@ -1,0 +1,12 @@
+-- C and W are one statement and no cycle.
+use mathlib.Core.Path.{refl}
+use native.Mathlib.Nat.{mul-zero}
+use native.Mathlib.Omega.{arith}
+use Rattle.meaning.specs.Body.{depth}
+use Rattle.meaning.specs.Run.{size, turns_of, shift_of, cycles}
+use Rattle.measures.proofs.setting.Goals as goal
+
+pub returns : goal.returns
+unfolding depth size cycles turns_of shift_of
+returns c =
+    λ x. record { depth_is = refl; size_is = refl; cycles_is = λ t. omega (arith, mul-zero t) }

@@ -1,0 +1,31 @@
+-- Each turn takes the next signal.
+use Prim.Native.Nat.{◌-◌}
+use native.Mathlib.Omega.{arith}
+use mathlib.Core.Logic.{⊎_elim}
+use Rattle.meaning.specs.Bounds.{signals_most}
+use Rattle.noted.proofs.Marking.{args_none, args_kept, args_next, args_rest, args_all}
+use Rattle.noted.proofs.note_args.Goals as goal
+
+pub loop-s-init : goal.loop-s-init
+loop-s-init c = (omega arith, args_none)
+
+pub note_data-requires : goal.note_data-requires
+note_data-requires c =
+    let pre' = c.requires in
+    (omega (arith, c.loop-s.invariant.1.grows.long), omega (arith, c.zeros_from-n.ensures.within, pre'.0))
+
+pub loop-s-preserved : goal.loop-s-preserved
+loop-s-preserved c =
+    let x = c.loop-s.invariant.1 in (
+      omega arith,
+      ⊎_elim (λ w. rw w.6 (args_next x w.3.ensures.0 w.3.ensures.1)) (λ w. rw w.1 (args_kept x w.0.left)) c.if-given-s-ne0.branch,
+    )
+
+pub shape_of-used : goal.shape_of-used
+shape_of-used c = c.loop-s.invariant.1.grows.long
+
+pub returns : goal.returns
+returns c =
+    let y = c.loop-s.invariant.1 in
+    let zeros = c.zeros_from-n.ensures in
+    (y.grows, args_all (args_rest y (λ i l. zeros.none i (omega arith)) signals_most) (omega arith))

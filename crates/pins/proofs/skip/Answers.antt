@@ -1,0 +1,33 @@
+-- Each turn takes the next signal.
+use Prim.Native.Nat.{◌-◌}
+use native.Mathlib.Omega.{arith}
+use mathlib.Core.Logic.{⊎_elim}
+use Rattle.pins.proofs.Skipping.{skipped_none, skipped_mark, skipped_other, skipped_others, skipped_shows}
+use Rattle.pins.proofs.skip.Goals as goal
+
+pub loop-s-init : goal.loop-s-init
+loop-s-init c = (omega arith, skipped_none)
+
+pub feed_at-requires : goal.feed_at-requires
+feed_at-requires c = omega (arith, c.loop-s.invariant.1.long)
+
+pub put_feed-requires : goal.put_feed-requires
+put_feed-requires c = omega (arith, c.loop-s.invariant.1.long)
+
+pub loop-s-preserved : goal.loop-s-preserved
+loop-s-preserved c =
+    let x = c.loop-s.invariant.1 in (
+      omega arith,
+      ⊎_elim
+          (λ w. rw w.8 (skipped_mark x (omega arith) w.0.taken w.2.ensures w.3.ensures w.5.ensures))
+          (λ w. rw w.1 (skipped_other x (omega arith) w.0.left))
+          c.if-given-s-eq-MARK.branch,
+    )
+
+pub shape_of-feeds : goal.shape_of-feeds
+shape_of-feeds c = c.loop-s.invariant.1.long
+
+pub returns : goal.returns
+returns c =
+    let x = c.loop-s.invariant.1 in
+    (skipped_others x, record { shows = λ a s table g p h. skipped_shows x (omega arith) g p h })

@@ -1,0 +1,13 @@
+use Prim.Native.Nat.{◌-◌}
+use mathlib.Core.Path.{◌≡◌}
+use lib.ListN.{length}
+use Rattle.memos.specs.Memo.{memo_length}
+use Rattle.plays.specs.Plays.{arrays}
+use Rattle.plays.proofs.Texts.{Unplayed}
+use Rattle.plays.proofs.first_failing.Given as goal
+
+abbrev pub invariant-loop-k : goal.invariant-loop-k
+invariant-loop-k l = (memo_length ≡ length l.memo) × Unplayed l.text l.places l.lists l.tplaces l.waves l.book l.rows l.list l.known l.signals l.listed l.patterns l.marks l.sums l.memo l.k (arrays l.values l.feeds l.args)
+
+abbrev pub decreases-loop-k : goal.decreases-loop-k
+decreases-loop-k l = l.listed - l.k

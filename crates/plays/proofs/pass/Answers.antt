@@ -1,0 +1,66 @@
+-- A used body is passed only where its sum is known and the state grants it; else nothing is done.
+use Prim.Native.Nat.{ℕ}
+use native.Mathlib.Omega.{arith}
+use mathlib.Core.Path.{sym, ◌∙◌}
+use lib.ListN.{length-replicate}
+use borrow.Author.Tests.{not-false}
+use Rattle.meaning.specs.Bounds.{signals_most}
+use Rattle.plays.proofs.Passing.{room, stays, passes_macro, passes_procedure}
+use Rattle.plays.proofs.pass.Goals as goal
+
+pub returns-then-marks-i : goal.returns-then-marks-i
+returns-then-marks-i c = λ places lists tplaces book rows known. stays
+
+pub bounds-marks-i : goal.bounds-marks-i
+bounds-marks-i c =
+    let args' = c.args in
+    (room args'.marks.now args'.sums.now args'.i c.if-marks-i.false).0
+
+pub returns-then-not-usable : goal.returns-then-not-usable
+returns-then-not-usable c = λ places lists tplaces book rows known. stays
+
+pub asks-requires : goal.asks-requires
+asks-requires c =
+    let pre' = c.requires in
+    let args' = c.args in
+    let if1' = c.if-marks-i in
+    ((room args'.marks.now args'.sums.now args'.i if1'.false).1, pre'.0, pre'.1, pre'.3, pre'.4, omega (arith, pre'.5), length-replicate {A = ℕ} signals_most 0)
+
+pub returns-then-not-asks : goal.returns-then-not-asks
+returns-then-not-asks c = λ places lists tplaces book rows known. stays
+
+pub table_behind-requires : goal.table_behind-requires
+table_behind-requires c =
+    let args' = c.args in
+    let if1' = c.if-marks-i in
+    (room args'.marks.now args'.sums.now args'.i if1'.false).1
+
+pub returns-then-i-lt-PROCEDURES : goal.returns-then-i-lt-PROCEDURES
+returns-then-i-lt-PROCEDURES c =
+    let pre' = c.requires in
+    let usable' = c.usable in
+    let if2' = c.if-not-usable in
+    let if3' = c.if-i-lt-PROCEDURES in
+    let asks' = c.asks in
+    let if4' = c.if-not-asks in
+    let settle' = c.settle in
+    let Known-is = sym usable'.ensures ∙ not-false _ if2'.false-raw in
+    λ places lists tplaces book rows known.
+    passes_macro Known-is pre'.1 pre'.5 (room c.args.marks.now c.args.sums.now c.args.i c.if-marks-i.false).1 if3'.true (asks'.ensures.1 (not-false _ if4'.false-raw)) settle'.ensures c.table_behind.ensures
+
+pub asks-done-requires : goal.asks-done-requires
+asks-done-requires c =
+    let pre' = c.requires in
+    let args' = c.args in
+    let if1' = c.if-marks-i in
+    ((room args'.marks.now args'.sums.now args'.i if1'.false).1, pre'.0, pre'.1, pre'.3, pre'.4, omega (arith, length-replicate {A = ℕ} signals_most 0), length-replicate {A = ℕ} signals_most 0)
+
+pub returns : goal.returns
+returns c =
+    let pre' = c.requires in
+    let usable' = c.usable in
+    let if2' = c.if-not-usable in
+    let if3' = c.if-i-lt-PROCEDURES in
+    let asks2' = c.asks-done in
+    let Known-is = sym usable'.ensures ∙ not-false _ if2'.false-raw in
+    λ places lists tplaces book rows known. passes_procedure Known-is pre'.1 pre'.5 (room c.args.marks.now c.args.sums.now c.args.i c.if-marks-i.false).1 if3'.false pre'.2 asks2'.ensures.1

@@ -1,0 +1,55 @@
+-- `extend` meets its contract: until the last one, every run is as long as all that is there, so that it ends as the bytes before the place do.
+use Prim.Native.Nat.{◌+◌, ◌-◌, min}
+use native.Mathlib.Omega.{arith}
+use mathlib.Core.Logic.{⊎_elim}
+use mathlib.Core.Path.{◌≡◌}
+use Rattle.repeats.proofs.Copying.{extends_none, extends_more, extends_all, whole_none, whole_more}
+use Rattle.repeats.proofs.extend.Tie as tie
+use Rattle.repeats.proofs.extend.Goals as goal
+
+pub loop-done-init : goal.loop-done-init
+loop-done-init c = (omega arith, extends_none, λ h. whole_none)
+
+pub overflow_add-run : goal.overflow_add-run
+overflow_add-run c = omega arith
+
+pub overflow_sub-count : goal.overflow_sub-count
+overflow_sub-count c = omega arith
+
+pub overflow_sub-run : goal.overflow_sub-run
+overflow_sub-run c = omega arith
+
+pub overflow_sub-at : goal.overflow_sub-at
+overflow_sub-at c = omega arith
+
+pub overflow_add-at : goal.overflow_add-at
+overflow_add-at c = omega arith
+
+-- as much as is there, or as is left
+run_is : (c : tie.Joined-count-done goal.the-invariant-loop-done goal.the-decreases-loop-done)
+    → c.if-count-done.run
+    ≡ min (c.args.step + c.loop-done.done) (c.args.count - c.loop-done.done)
+run_is c = ⊎_elim (λ w. omega arith) (λ w. omega arith) c.if-count-done.branch
+
+pub copy-requires : goal.copy-requires
+copy-requires c = let is = run_is c.before in (omega arith, omega (arith, c.loop-done.invariant.1.long))
+
+pub overflow_add-done : goal.overflow_add-done
+overflow_add-done c = let is = run_is c.before.before.before.before.before in omega arith
+
+pub loop-done-smaller : goal.loop-done-smaller
+loop-done-smaller c = let is = run_is c.before.before.before.before.before in omega arith
+
+pub loop-done-preserved : goal.loop-done-preserved
+loop-done-preserved c =
+    let is = run_is c.before.before.before.before.before in
+    let below = c.requires.1 in
+    let whole = c.loop-done.invariant.2 c.loop-done-test.true in
+    let copied = c.copy.ensures in
+    (omega arith, extends_more below c.loop-done.invariant.1 whole copied (omega arith), λ h. whole_more below c.loop-done.invariant.1 whole copied (omega arith))
+
+pub shape_of-buffer : goal.shape_of-buffer
+shape_of-buffer c = c.loop-done.invariant.1.long
+
+pub returns : goal.returns
+returns c = extends_all c.loop-done.invariant.1 c.args.count (omega arith)

@@ -1,0 +1,69 @@
+-- `put_row` meets its contract. The invariant: the first s signals' characters stand over the front.
+use Prim.Native.Nat.{◌-◌, ◌<◌}
+use native.Mathlib.Omega.{arith}
+use mathlib.Core.Logic.{⊎_elim}
+use mathlib.Core.Path.{◌≡◌, sym, ◌∙◌}
+use lib.ListN.{length, length-set}
+use Rattle.meaning.specs.Services.{digit_of, row_width}
+use Rattle.pins.specs.Shown.{table_of}
+use Rattle.rows.proofs.Showing.{showed_none, showed_more, showed_all, showed_length, showed_row, shown_none, shown_char, digit_some, digit_none}
+use Rattle.rows.proofs.put_row.Tie as tie
+use Rattle.rows.proofs.put_row.Goals as goal
+
+pub loop-s-init : goal.loop-s-init
+loop-s-init c = (omega arith, showed_none)
+
+pub bounds-values-s : goal.bounds-values-s
+bounds-values-s c = omega arith
+
+pub bounds-part-s : goal.bounds-part-s
+unfolding row_width
+bounds-part-s c = omega (arith, showed_length c.loop-s.invariant.1)
+
+pub bounds-part-s-else-b-eq0 : goal.bounds-part-s-else-b-eq0
+unfolding row_width
+bounds-part-s-else-b-eq0 c = omega (arith, showed_length c.loop-s.invariant.1)
+
+pub overflow_add-s : goal.overflow_add-s
+overflow_add-s c = omega arith
+
+pub loop-s-smaller : goal.loop-s-smaller
+loop-s-smaller c = omega arith
+
+pub loop-s-preserved : goal.loop-s-preserved
+loop-s-preserved c =
+    let x = c.loop-s.invariant.1 in
+    let inside : c.loop-s.s < length c.args.values.now = omega arith in (
+      omega arith,
+      ⊎_elim (λ w. rw w.1 (showed_more x inside _ (sym (shown_none _ _ w.0.taken)))) (λ w. rw w.1 (showed_more x inside _ (sym (shown_char _ _ w.0.left))))
+          c.if-b-eq0.branch,
+    )
+
+pub overflow_cast-digit : goal.overflow_cast-digit
+overflow_cast-digit c = omega arith
+
+pub overflow_add-digit : goal.overflow_add-digit
+overflow_add-digit c = omega arith
+
+digit : (c : tie.Joined-table-lt-TABLES goal.the-invariant-loop-s goal.the-decreases-loop-s) → c.if-table-lt-TABLES.digit ≡ digit_of (table_of c.args.table)
+digit c = ⊎_elim (λ w. w.1 ∙ sym (digit_some _ w.0.taken)) (λ w. w.1 ∙ sym (digit_none _ w.0.left)) c.if-table-lt-TABLES.branch
+
+pub bounds-part-signals : goal.bounds-part-signals
+unfolding row_width
+bounds-part-signals c = omega (arith, showed_length c.loop-s.invariant.1)
+
+pub overflow_add-part : goal.overflow_add-part
+overflow_add-part c = omega arith
+
+pub bounds-part-signals-2 : goal.bounds-part-signals-2
+unfolding row_width
+bounds-part-signals-2 c = simp length-set (omega (arith, showed_length c.loop-s.invariant.1))
+
+pub shape_of-part : goal.shape_of-part
+shape_of-part c = simp length-set (showed_length c.loop-s.invariant.1)
+
+pub returns : goal.returns
+returns c =
+    let n = c.args.signals in
+    let x = showed_all c.loop-s.invariant.1 n (omega arith) in
+    (λ k z. showed_row x (omega arith) c.if-table-lt-TABLES.digit z (digit c) c.requires.2, simp length-set (showed_length x))

@@ -1,0 +1,47 @@
+-- `lines` meets its contract. The invariant: the names up to number i have their lines, and there is room for a line for each other.
+use Prim.Native.Nat.{◌-◌, ◌≤◌}
+use native.Mathlib.Omega.{arith}
+use mathlib.Core.Path.{◌≡◌, refl, ap}
+use lib.ListN.{length}
+use Rattle.meaning.specs.Bounds.{name_most}
+use Rattle.sections.proofs.Laws.{no_lines, name_short, line_adds}
+use Rattle.sections.proofs.lines.Goals as goal
+
+pub loop-i-init : goal.loop-i-init
+loop-i-init c = (omega arith, refl, no_lines _ _ _ _)
+
+pub put-end-requires : goal.put-end-requires
+put-end-requires c =
+    let a = c.args in
+    let short = name_short a.text.now a.places.now c.loop-i.i c.requires.0 c.loop-i-test.true in
+    omega (arith, ap length c.name_bytes.ensures)
+
+pub put-end-requires-in-loop-i : goal.put-end-requires-in-loop-i
+put-end-requires-in-loop-i c =
+    let a = c.args in
+    let short = name_short a.text.now a.places.now c.loop-i.i c.requires.0 c.loop-i-test.true in
+    omega (arith, ap length c.name_bytes.ensures, c.put-end, c.requires)
+
+pub overflow_add-i : goal.overflow_add-i
+overflow_add-i c = omega (arith, c.requires)
+
+pub loop-i-smaller : goal.loop-i-smaller
+loop-i-smaller c = omega arith
+
+pub loop-i-preserved : goal.loop-i-preserved
+loop-i-preserved c =
+    let a = c.args in
+    let loop = c.loop-i in
+    let name = c.name_bytes in
+    let short = name_short a.text.now a.places.now loop.i c.requires.0 c.loop-i-test.true in
+    let fits : length name.result.now ≤ name_most = omega (arith, ap length name.ensures) in
+    let line = line_adds a.text.now a.places.now loop.i loop.invariant.2 name.ensures fits c.put-end.ensures c.put-end-in-loop-i.ensures in
+    (omega arith, omega (arith, c.put-end-in-loop-i.auto.0, c.put-end.auto.0), line)
+
+pub shape_of-page : goal.shape_of-page
+shape_of-page c = c.loop-i.invariant.1
+
+pub returns : goal.returns
+returns c =
+    let e : c.loop-i.i ≡ c.args.count = omega (arith, c.requires) in
+    rw (← e) c.loop-i.invariant.2

@@ -1,0 +1,12 @@
+use mathlib.Core.Path.{◌≡◌}
+use Prim.Native.Nat.{◌-◌}
+use Rattle.meaning.specs.Lists.{meets}
+use Rattle.sets.specs.Sets.{list_of}
+use Rattle.sets.proofs.Sets.{rest}
+use Rattle.sets.proofs.meets.Given as goal
+
+abbrev pub invariant-loop-i : goal.invariant-loop-i
+invariant-loop-i l = meets (list_of l.x) (list_of l.g) ≡ meets (rest l.x.v l.x.n l.i) (list_of l.g)
+
+abbrev pub decreases-loop-i : goal.decreases-loop-i
+decreases-loop-i l = l.n - l.i

@@ -1,0 +1,8 @@
+-- `raw` meets its contract.
+use Prim.Native.Nat.{ℕ}
+use mathlib.Core.Path.{sym}
+use lib.ListN.{length-replicate}
+use Rattle.streams.proofs.raw.Goals as goal
+
+pub returns : goal.returns
+returns c = sym (length-replicate {A = ℕ} 1048577 0)

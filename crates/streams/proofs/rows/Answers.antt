@@ -1,0 +1,8 @@
+-- `rows` meets its contract.
+use Prim.Native.Nat.{ℕ}
+use mathlib.Core.Path.{sym}
+use lib.ListN.{length-replicate}
+use Rattle.streams.proofs.rows.Goals as goal
+
+pub returns : goal.returns
+returns c = sym (length-replicate {A = ℕ} 1048576 0)

@@ -1,0 +1,62 @@
+-- `rows` meets its contract. The invariant: the rows from number r on are left.
+use Prim.Native.Nat.{◌+◌, ◌*◌, ◌-◌}
+use native.Mathlib.Omega.{arith}
+use mathlib.Core.Path.{◌≡◌}
+use lib.ListN.{length}
+use Rattle.meaning.proofs.Windows.{row_room}
+use Rattle.stretches.proofs.Laws.{part_is, part_long, row_next, rows_end, rows_long}
+use Rattle.stretches.proofs.Taking.{amid_all, amid_next, amid_none}
+use Rattle.stretches.proofs.rows.Goals as goal
+
+pub loop-r-init : goal.loop-r-init
+loop-r-init c =
+    let e : c.args.count - 0 ≡ c.args.count = omega arith in
+    (omega arith, rw e (amid_all _ _ _ _ _ _ _))
+
+pub overflow_add-at : goal.overflow_add-at
+overflow_add-at c = omega (arith, c.requires.0.long)
+
+pub overflow_mul-at : goal.overflow_mul-at
+overflow_mul-at c = omega (arith, row_room c.loop-r.r c.args.count (c.args.signals + 2) (length c.args.buffer.now) c.loop-r-test.true c.requires.1)
+
+pub overflow_add-end : goal.overflow_add-end
+overflow_add-end c = omega (arith, c.requires.0.long)
+
+pub overflow_add-end-in-loop-r : goal.overflow_add-end-in-loop-r
+overflow_add-end-in-loop-r c = omega (arith, row_room c.loop-r.r c.args.count (c.args.signals + 2) (length c.args.buffer.now) c.loop-r-test.true c.requires.1)
+
+pub slice_bounds-turn-count : goal.slice_bounds-turn-count
+slice_bounds-turn-count c = omega (arith, row_room c.loop-r.r c.args.count (c.args.signals + 2) (length c.args.buffer.now) c.loop-r-test.true c.requires.1)
+
+pub slice_bounds-turn-start : goal.slice_bounds-turn-start
+slice_bounds-turn-start c = omega (arith, row_room c.loop-r.r c.args.count (c.args.signals + 2) (length c.args.buffer.now) c.loop-r-test.true c.requires.1)
+
+pub slice_bounds-turn-end : goal.slice_bounds-turn-end
+slice_bounds-turn-end c = omega (arith, row_room c.loop-r.r c.args.count (c.args.signals + 2) (length c.args.buffer.now) c.loop-r-test.true c.requires.1)
+
+pub turn-g-requires : goal.turn-g-requires
+turn-g-requires c =
+    let room = row_room c.loop-r.r c.args.count (c.args.signals + 2) (length c.args.buffer.now) c.loop-r-test.true c.requires.1 in
+    (record { long = omega (arith, c.loop-r.invariant.1.hand_kept, c.requires.0.long); few_times = omega (arith, c.loop-r.invariant.1.few_times, c.requires.0.few_times, c.loop-r-test.true); few_patterns = omega (arith, c.loop-r.invariant.1.few_patterns, c.requires.0.few_patterns, c.loop-r-test.true) }, part_long (c.loop-r.r * (c.args.signals + 2)) (c.args.signals + 2) c.args.buffer.now room)
+
+pub overflow_add-r : goal.overflow_add-r
+overflow_add-r c = omega (arith, c.requires.0.few_times)
+
+pub loop-r-smaller : goal.loop-r-smaller
+loop-r-smaller c = omega arith
+
+pub loop-r-preserved : goal.loop-r-preserved
+loop-r-preserved c = (
+  omega arith,
+  amid_next _ _ c.loop-r.invariant.1 (row_next c.args.signals c.args.buffer.now c.loop-r.r c.args.count c.loop-r-test.true)
+      (rw (part_is (c.loop-r.r * (c.args.signals + 2)) (c.args.signals + 2) c.args.buffer.now) at c.turn-g.ensures),
+)
+
+pub shape_of-page : goal.shape_of-page
+shape_of-page c = c.loop-r.invariant.1.kept
+
+pub shape_of-hand : goal.shape_of-hand
+shape_of-hand c = c.loop-r.invariant.1.hand_kept
+
+pub returns : goal.returns
+returns c = amid_none _ _ c.loop-r.invariant.1 (rows_end c.args.signals c.args.buffer.now c.loop-r.r c.args.count (omega arith)) (omega (arith, rows_long c.args.signals c.args.buffer.now 0 c.args.count))

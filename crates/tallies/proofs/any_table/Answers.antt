@@ -1,0 +1,21 @@
+-- Each turn adds the next slot's mark.
+use Prim.Native.Nat.{◌-◌}
+use native.Mathlib.Omega.{arith}
+use mathlib.Core.Path.{sym, ◌∙◌}
+use borrow.Author.Count.{below_more}
+use borrow.Author.Tests.{eqb-true, not-false}
+use Rattle.tokens.proofs.Bools.{neither}
+use Rattle.tallies.proofs.any_table.Goals as goal
+
+pub loop-k-init : goal.loop-k-init
+loop-k-init c = (omega arith, λ e j h. absurd (omega arith))
+
+pub loop-k-preserved : goal.loop-k-preserved
+loop-k-preserved c = (
+  omega arith,
+  λ e. let n = neither _ _ e in
+      below_more _ _ (c.loop-k.invariant.1 n.0) (sym c.byte.ensures ∙ eqb-true _ 0 (not-false _ n.1)),
+)
+
+pub returns : goal.returns
+returns c = λ e k h. c.loop-k.invariant.1 e k (omega arith)

@@ -1,0 +1,25 @@
+-- Each turn takes the next signal.
+use Prim.Native.Nat.{◌-◌}
+use native.Mathlib.Omega.{arith}
+use mathlib.Core.Logic.{⊎_elim}
+use Rattle.tallies.proofs.Rows.{assigning_none, assigning_kept, assigning_next, assigning_all}
+use Rattle.tallies.proofs.assign.Goals as goal
+
+pub loop-s-init : goal.loop-s-init
+loop-s-init c = (omega arith, assigning_none)
+
+pub store-requires : goal.store-requires
+store-requires c = omega (arith, c.loop-s.invariant.1.only.long)
+
+pub loop-s-preserved : goal.loop-s-preserved
+loop-s-preserved c =
+    let x = c.loop-s.invariant.1 in (
+      omega arith,
+      ⊎_elim (λ w. rw w.6 (assigning_next x (omega arith) w.0.taken w.3.ensures)) (λ w. rw w.1 (assigning_kept x (omega arith) w.0.left)) c.if-given-s-ne0.branch,
+    )
+
+pub shape_of-sums : goal.shape_of-sums
+shape_of-sums c = c.loop-s.invariant.1.only.long
+
+pub returns : goal.returns
+returns c = (c.loop-s.invariant.1.only, assigning_all c.loop-s.invariant.1 (omega arith))

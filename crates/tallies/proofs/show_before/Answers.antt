@@ -1,0 +1,35 @@
+-- Each turn takes the next table.
+use Prim.Native.Nat.{◌-◌}
+use native.Mathlib.Omega.{arith}
+use mathlib.Core.Path.{sym, ◌∙◌}
+use mathlib.Core.Logic.{⊎_elim}
+use borrow.Author.Tests.{not-false}
+use Rattle.tallies.proofs.Stored.{flag_set}
+use Rattle.tallies.proofs.Grown.{more_marked, more_then}
+use Rattle.tallies.proofs.Narrowed.{narrowed_none, narrowed_passed, narrowed_failed, narrowed_all}
+use Rattle.tallies.proofs.show_before.Goals as goal
+
+pub loop-k-init : goal.loop-k-init
+loop-k-init c = (omega arith, narrowed_none)
+
+pub store-requires-then-not-has : goal.store-requires-then-not-has
+store-requires-then-not-has c = omega (arith, c.store.ensures.only.long, c.loop-k.invariant.1.more.only.long)
+
+pub loop-k-preserved : goal.loop-k-preserved
+loop-k-preserved c =
+    let x = c.loop-k.invariant.1 in (
+      omega arith,
+      ⊎_elim (λ w. rw w.5 (narrowed_failed x (omega arith) w.2.ensures))
+          (λ w. rw w.1 (narrowed_passed x (λ tabs m. sym (c.has.ensures tabs m) ∙ not-false _ w.0.left))) c.if-not-has.branch,
+    )
+
+pub shape_of-sums : goal.shape_of-sums
+shape_of-sums c = c.loop-k.invariant.1.more.only.long ∙ c.store.ensures.only.long
+
+pub returns : goal.returns
+returns c =
+    let x = c.loop-k.invariant.1 in
+    let need = more_marked c.store.ensures (λ q l u e. omega arith) (omega arith) in (
+      more_then need x.more,
+      λ tabs m. record { needs = (x.more.kept 0).needs (flag_set c.store.ensures (λ e. omega arith)); fine = λ k e. narrowed_all x (omega arith) k e tabs m },
+    )

@@ -1,0 +1,29 @@
+-- Each turn takes the next table.
+use Prim.Native.Nat.{◌-◌}
+use native.Mathlib.Omega.{arith}
+use mathlib.Core.Logic.{⊎_elim}
+use Rattle.tallies.proofs.Showing.{showing_none, showing_kept, showing_next}
+use Rattle.tallies.proofs.show_tables.Goals as goal
+
+pub loop-t-init : goal.loop-t-init
+loop-t-init c = (omega arith, showing_none)
+
+pub byte-requires : goal.byte-requires
+byte-requires c = omega (arith, c.loop-t.invariant.1.more.only.long)
+
+pub show-requires : goal.show-requires
+show-requires c = omega (arith, c.loop-t.invariant.1.more.only.long)
+
+pub loop-t-preserved : goal.loop-t-preserved
+loop-t-preserved c =
+    let y = c.loop-t.invariant.1 in (
+      omega arith,
+      ⊎_elim (λ w. rw w.5 (showing_next y (omega arith) w.2.ensures.0 w.2.ensures.1))
+          (λ w. rw w.1 (showing_kept y c.requires.2 (omega arith) c.byte.ensures w.0.left)) c.if-byte-ne0.branch,
+    )
+
+pub shape_of-sums : goal.shape_of-sums
+shape_of-sums c = c.loop-t.invariant.1.more.only.long
+
+pub returns : goal.returns
+returns c = let y = c.loop-t.invariant.1 in (y.more, λ tabs m k h. y.shows tabs m k (omega arith))

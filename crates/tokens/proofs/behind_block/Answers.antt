@@ -1,0 +1,31 @@
+-- `behind_block` meets its contract. The invariant: reading in the `/*` gives from here what it gives from `at`.
+use Prim.Native.Nat.{◌-◌}
+use mathlib.Core.Path.{◌∙◌, sym}
+use mathlib.Core.Logic.{⊎_elim}
+use native.Mathlib.Omega.{arith}
+use Rattle.tokens.proofs.Reading.{led_to_lem, led_on, bad_stops, block_closes, block_goes, star_goes, block_over}
+use Rattle.tokens.proofs.behind_block.Goals as goal
+
+pub returns-then-not-is_allowed : goal.returns-then-not-is_allowed
+returns-then-not-is_allowed c =
+    led_to_lem c.loop-i.invariant.1
+    (bad_stops _ _ _ c.loop-i-test.true (sym c.is_allowed.ensures ∙ c.if-not-is_allowed.true))
+
+pub returns-then-byte_at-eq47 : goal.returns-then-byte_at-eq47
+returns-then-byte_at-eq47 c =
+    led_on c.loop-i.invariant.1 (omega arith)
+    (block_closes _ _ _ c.loop-i-test.true c.if-b-eq42.true (sym c.byte_at.ensures ∙ c.if-byte_at-eq47.true))
+
+pub loop-i-preserved : goal.loop-i-preserved
+loop-i-preserved c =
+    let on = sym c.is_allowed.ensures ∙ c.if-not-is_allowed.false in (
+      omega arith,
+      c.loop-i.invariant.1
+          ∙ ⊎_elim
+          (λ w. star_goes _ _ _ c.loop-i-test.true on (λ e. w.2.left (w.1.ensures ∙ e)))
+          (λ w. block_goes _ _ _ c.loop-i-test.true on w.left)
+          c.if-b-eq42.branch,
+    )
+
+pub returns : goal.returns
+returns c = led_to_lem c.loop-i.invariant.1 (block_over _ _ _ c.loop-i-test.false)

@@ -1,0 +1,48 @@
+-- `past_comments` meets its contract. The invariant: the next token from here is the next token from `at`.
+use Prim.Native.Nat.{◌-◌}
+use mathlib.Core.Path.{refl, ap, ◌∙◌, sym}
+use native.Mathlib.Omega.{arith}
+use Rattle.tokens.specs.Tokens.{plain, toks, first}
+use Rattle.tokens.proofs.Reading.{on_led, to_led, bad_stops, blank_goes, over}
+use Rattle.tokens.proofs.past_comments.Goals as goal
+
+pub loop-i-init : goal.loop-i-init
+loop-i-init c = refl
+
+pub loop-i-smaller-in-On : goal.loop-i-smaller-in-On
+loop-i-smaller-in-On c = omega (arith, (on_led c.in-On.is c.at_slash.ensures).ahead)
+
+pub loop-i-preserved-in-On : goal.loop-i-preserved-in-On
+loop-i-preserved-in-On c =
+    c.loop-i.invariant ∙ (on_led c.in-On.is c.at_slash.ensures).led
+
+pub returns-in-To : goal.returns-in-To
+returns-in-To c =
+    sym (c.loop-i.invariant ∙ to_led c.in-To.is c.at_slash.ensures)
+
+pub returns-then-not-is_allowed : goal.returns-then-not-is_allowed
+unfolding toks
+returns-then-not-is_allowed c =
+    let bad = sym c.is_allowed.ensures ∙ c.if-not-is_allowed.true in
+    sym (c.loop-i.invariant ∙ bad_stops _ _ plain c.loop-i-test.true bad)
+
+pub token_length-requires : goal.token_length-requires
+token_length-requires c =
+    record {
+      inside = c.loop-i-test.true;
+      byte = refl;
+      good = sym c.is_allowed.ensures ∙ c.if-not-is_allowed.false;
+      mark = sym c.is_blank.ensures ∙ c.if-not-is_blank.true;
+      alone = c.if-b-eq47.false;
+    }
+
+pub returns-then-not-is_blank : goal.returns-then-not-is_blank
+returns-then-not-is_blank c = sym (c.loop-i.invariant ∙ c.token_length.ensures)
+
+pub loop-i-preserved : goal.loop-i-preserved
+loop-i-preserved c =
+    c.loop-i.invariant
+    ∙ ap first (blank_goes _ _ c.loop-i-test.true (sym c.is_blank.ensures ∙ c.if-not-is_blank.false))
+
+pub returns : goal.returns
+returns c = sym (c.loop-i.invariant ∙ over _ _ c.loop-i-test.false)

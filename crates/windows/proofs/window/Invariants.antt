@@ -1,0 +1,12 @@
+use Prim.Native.Nat.{◌-◌}
+use Rattle.plays.specs.Plays.{arrays}
+use Rattle.windows.proofs.Texts.{Unseen}
+use Rattle.windows.proofs.window.Given as goal
+
+abbrev pub invariant-loop-k : goal.invariant-loop-k
+invariant-loop-k l =
+    Unseen l.text l.places l.lists l.tplaces l.waves l.book l.rows l.list l.known l.signals l.listed l.patterns l.size l.first l.due l.budget l.mark l.initial.buffer l.k (arrays l.values l.feeds l.args) l.w l.buffer
+
+abbrev pub decreases-loop-k : goal.decreases-loop-k
+decreases-loop-k l =
+    l.listed - l.k
