@@ -149,8 +149,21 @@ def clauses(text, new, moved):
         at = end
 
 
+def brought_as(new):
+    """The new names of what only a source file's imports call so, as in `seen as seenOf`."""
+    out = {}
+    for path in files(".rt"):
+        text = read(path)
+        here = set(re.findall(IDENT, text))
+        for name in re.findall(r"\bas ([a-z]\w*[A-Z]\w*)", " ".join(re.findall(r"ghost use [^;]*;", text))):
+            if name not in new and snake(name) not in here:
+                out[name] = snake(name)
+    return out
+
+
 def main():
     new, moved = names()
+    new.update(brought_as(new))
     for path in files(".antt"):
         write(path, spelled(read(path), new, moved))
     for path in files(".rt"):

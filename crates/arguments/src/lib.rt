@@ -5,7 +5,7 @@ ghost use Rattle.std.specs.Prelude.{◌≡◌, true, ◌&&◌, List, [], ◌++�
 ghost use Rattle.meaning.specs.Bounds.{signals_most};
 ghost use Rattle.meaning.specs.Lists.{has, inside};
 ghost use Rattle.meaning.specs.Body.{Args, Body, outside, shifting, arg_of};
-ghost use Rattle.meaning.specs.Data.{is_one, argument as argumentDue, arguments as argumentsDue};
+ghost use Rattle.meaning.specs.Data.{is_one, argument as argument_due, arguments as arguments_due};
 ghost use Rattle.signals.specs.Names.{names_most, row_length as list_length, list_at, names_of};
 ghost use Rattle.sets.proofs.Tidy.{TidyBelow};
 ghost use Rattle.timing.specs.Makes.{Makes};
@@ -67,7 +67,7 @@ fn argument<'a>(
     args: &mut [usize],
 ) -> Cursor
     requires { Ready text.now places.now lists.now names × UsedRow row.now × (length given.old ≡ signals_most) × (length args.old ≡ signals_most * 2) }
-    ensures { (b : Body) (xs : Args) → Uses b row.now → Supplied text.now xs given.old args.old → Makes text.now c (argumentDue (names_of text.now places.now lists.now names) b xs) result (λ ys. Supplied text.now ys given.new args.new) }
+    ensures { (b : Body) (xs : Args) → Uses b row.now → Supplied text.now xs given.old args.old → Makes text.now c (argument_due (names_of text.now places.now lists.now names) b xs) result (λ ys. Supplied text.now ys given.new args.new) }
 {
     let x = signals::old_name(text, c, places, names);
     let a = x.cursor;
@@ -107,7 +107,7 @@ pub fn arguments<'a>(
     args: &mut [usize],
 ) -> Closed
     requires { Ready text.now places.now lists.now names × UsedRow row.now × Gave [] given.old × (length args.old ≡ signals_most * 2) }
-    ensures { (b : Body) → Uses b row.now → Makes text.now c (argumentsDue (names_of text.now places.now lists.now names) b) result.cursor (λ x. (x.1 ≡ result.last) × Supplied text.now x.0 given.new args.new) }
+    ensures { (b : Body) → Uses b row.now → Makes text.now c (arguments_due (names_of text.now places.now lists.now names) b) result.cursor (λ x. (x.1 ≡ result.last) × Supplied text.now x.0 given.new args.new) }
 {
     if words::is(text, c, b";") {
         let cursor = words::step(text, c);

@@ -5,7 +5,7 @@ ghost use Rattle.std.specs.Prelude.{◌≡◌, [], ◌*◌, ◌≤◌, ◌<◌, 
 ghost use Rattle.meaning.specs.Bounds.{signals_most};
 ghost use Rattle.meaning.specs.Lists.{meets};
 ghost use Rattle.meaning.specs.Body.{Assigns};
-ghost use Rattle.meaning.specs.Data.{assigned, assign as assignDue, assigns as assignsDue};
+ghost use Rattle.meaning.specs.Data.{assigned, assign as assign_due, assigns as assigns_due};
 ghost use Rattle.signals.specs.Names.{names_most, row_length, list_at, names_of};
 ghost use Rattle.assigns.specs.Given.{Gave, Gives, placed, Row, Ready};
 
@@ -64,7 +64,7 @@ fn assign<'a>(
     given: &mut [u8],
 ) -> Cursor
     requires { Ready text.now places.now lists.now names × (length given.old ≡ signals_most) }
-    ensures { (xs : Assigns) → Gave xs given.old → Gives text.now c (assignDue (names_of text.now places.now lists.now names) may xs) result given.new }
+    ensures { (xs : Assigns) → Gave xs given.old → Gives text.now c (assign_due (names_of text.now places.now lists.now names) may xs) result given.new }
 {
     let x = signals::old_name(text, c, places, names);
     let a = x.cursor;
@@ -96,7 +96,7 @@ pub fn assigns<'a>(
     given: &mut [u8],
 ) -> Cursor
     requires { Ready text.now places.now lists.now names × Gave [] given.old }
-    ensures { Gives text.now c (assignsDue (names_of text.now places.now lists.now names) may) result given.new }
+    ensures { Gives text.now c (assigns_due (names_of text.now places.now lists.now names) may) result given.new }
 {
     let mut cursor = words::due(text, c, b"{");
     while words::until(text, cursor, b"}") {

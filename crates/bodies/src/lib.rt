@@ -6,8 +6,8 @@ ghost use Rattle.tokens.specs.Written.{bytes};
 ghost use Rattle.meaning.specs.Bounds.{signals_most, depth_most, bodies_most};
 ghost use Rattle.meaning.specs.Reader.{Reader, ahead_of, option};
 ghost use Rattle.meaning.specs.Body.{Assigns, done, vec};
-ghost use Rattle.meaning.specs.Statements.{Env, Head, head as head_due, in_shift as inShiftDue, statements as statementsDue};
-ghost use Rattle.meaning.specs.Document.{bodies as bodiesDue};
+ghost use Rattle.meaning.specs.Statements.{Env, Head, head as head_due, in_shift as in_shift_due, statements as statements_due};
+ghost use Rattle.meaning.specs.Document.{bodies as bodies_due};
 ghost use Rattle.timing.specs.Marks.{table_size};
 ghost use Rattle.timing.specs.Makes.{Makes, Brings};
 ghost use Rattle.words.specs.Cursor.{alive, stream};
@@ -17,8 +17,8 @@ ghost use Rattle.measures.specs.Uses.{row_length, Given};
 ghost use Rattle.measures.specs.Book.{book_length, rows_length};
 ghost use Rattle.noted.specs.Noted.{Grows};
 ghost use Rattle.heads.specs.Known.{Describes, Described};
-ghost use Rattle.bodies.specs.Bodies.{Notes, Counted, Summed, HeadIs, Held, went as wentOn, last as last_of, Turned, Begun};
-ghost use Rattle.bodies.specs.Blocks.{one_more, one_of as oneDue, opening, block_of, word_of, Declares};
+ghost use Rattle.bodies.specs.Bodies.{Notes, Counted, Summed, HeadIs, Held, went as went_on, last as last_of, Turned, Begun};
+ghost use Rattle.bodies.specs.Blocks.{one_more, one_of as one_due, opening, block_of, word_of, Declares};
 
 use data::BAD_ARGUMENT;
 use heads::Known;
@@ -63,7 +63,7 @@ fn in_shift<'a>(
     used: &mut [u8],
 ) -> Cursor
     requires { Ready text.now places.now lists.now names × (length row.old ≡ row_length) × (length used.old ≡ table_size) }
-    ensures { Makes text.now c (inShiftDue (names_of text.now places.now lists.now names)) result (Held row.old row.new used.new) × Grows used.old used.new }
+    ensures { Makes text.now c (in_shift_due (names_of text.now places.now lists.now names)) result (Held row.old row.new used.new) × Grows used.old used.new }
 {
     let mut given = [0; sets::MOST];
     let a = words::due(text, c, b"V");
@@ -90,7 +90,7 @@ fn count(own: bool, given: &[u8], row: &mut [u16])
 
 // A statement was read, and others may follow.
 fn went(cursor: Cursor, measure: Measure, seen: bool) -> Turn
-    ensures { result ≡ wentOn cursor measure seen }
+    ensures { result ≡ went_on cursor measure seen }
 {
     Turn {
         cursor,
@@ -270,7 +270,7 @@ pub fn statements<'a>(
     used: &mut [u8],
 ) -> Measured
     requires { Described text.now places.now lists.now tplaces.now book.now rows.now known × (d ≤ depth_most) × (length row.old ≡ row_length) × (length args.old ≡ signals_most * 2) × (length used.old ≡ table_size) }
-    ensures { (length row.new ≡ row_length) × (length args.new ≡ signals_most * 2) × ((e : Env) → Describes text.now places.now lists.now tplaces.now book.now rows.now known e → Makes text.now c (statementsDue e d own) result.cursor (Summed own row.old row.new result.measure (Notes known.tables e used.old used.new))) × Grows used.old used.new }
+    ensures { (length row.new ≡ row_length) × (length args.new ≡ signals_most * 2) × ((e : Env) → Describes text.now places.now lists.now tplaces.now book.now rows.now known e → Makes text.now c (statements_due e d own) result.cursor (Summed own row.old row.new result.measure (Notes known.tables e used.old used.new))) × Grows used.old used.new }
 {
     let mut cursor = c;
     let mut measure = measures::nothing();
@@ -329,7 +329,7 @@ fn one_body<'a>(
     used: &mut [u8],
 ) -> Blocks
     requires { Described text.now places.now lists.now tplaces.now book.old rows.old known × (length args.old ≡ signals_most * 2) × (length used.old ≡ table_size) }
-    ensures { Declares text.now places.now lists.now tplaces.now book.old rows.old used.old known c (oneDue macros) book.new rows.new used.new result × Grows used.old used.new }
+    ensures { Declares text.now places.now lists.now tplaces.now book.old rows.old used.old known c (one_due macros) book.new rows.new used.new result × Grows used.old used.new }
 {
     let part = heads::part_of(known, macros);
     let first = part.first;
@@ -427,7 +427,7 @@ pub fn bodies<'a>(
     used: &mut [u8],
 ) -> Blocks
     requires { Described text.now places.now lists.now tplaces.now book.old rows.old known × (length used.old ≡ table_size) }
-    ensures { (length book.new ≡ book_length) × (length rows.new ≡ rows_length) × Declares text.now places.now lists.now tplaces.now book.old rows.old used.old known c bodiesDue book.new rows.new used.new result × Grows used.old used.new }
+    ensures { (length book.new ≡ book_length) × (length rows.new ≡ rows_length) × Declares text.now places.now lists.now tplaces.now book.old rows.old used.old known c bodies_due book.new rows.new used.new result × Grows used.old used.new }
 {
     let mut args = [0usize; measures::ROW];
     let macros = begins(text, c, true);

@@ -2,7 +2,7 @@
 #![tactic(auto)]
 
 ghost use Rattle.std.specs.Prelude.{◌≡◌, ◌+◌, min};
-ghost use Rattle.columns.specs.Columns.{start as start_of, past as past_of, onward as onwardOf, position, number_most, capped};
+ghost use Rattle.columns.specs.Columns.{start as start_of, past as past_of, onward as onward_of, position, number_most, capped};
 
 const LF: u8 = 10;
 // The largest number that a line or a column can be.
@@ -50,7 +50,7 @@ fn past(at: Position, b: u8) -> Position
 
 // Behind some more bytes: whoever reads along looks at each byte once.
 pub fn onward(at: Position, bytes: &[u8]) -> Position
-    ensures { result ≡ capped (onwardOf at bytes.now) }
+    ensures { result ≡ capped (onward_of at bytes.now) }
 {
     let mut p = at;
     let mut i = 0;

@@ -4,7 +4,7 @@
 ghost use Rattle.std.specs.Prelude.{◌≡◌};
 ghost use Rattle.tokens.specs.Tokens.{toks};
 ghost use Rattle.words.specs.Cursor.{Goes};
-ghost use Rattle.declared.specs.Declarations.{version as versionDue, declarations as declarationsDue, Blank, Declares};
+ghost use Rattle.declared.specs.Declarations.{version as version_due, declarations as declarations_due, Blank, Declares};
 ghost use Rattle.declared.specs.Numbers.{refusal, numbers_of, told_of, written};
 
 use words::Cursor;
@@ -28,7 +28,7 @@ pub struct Versioned {
 }
 
 fn version(text: &[u8], c: Cursor) -> Versioned
-    ensures { Goes text.now c versionDue result.cursor result.last }
+    ensures { Goes text.now c version_due result.cursor result.last }
 {
     let a = words::due(text, c, b"STIL");
     let b = words::due(text, a, b"1.0");
@@ -89,7 +89,7 @@ fn refused(no: u8, place: usize) -> Told
 
 // Of a text without a fault in its bytes.
 fn read_all(text: &[u8]) -> Told
-    ensures { result ≡ numbers_of (declarationsDue (toks text.now 0)) }
+    ensures { result ≡ numbers_of (declarations_due (toks text.now 0)) }
 {
     let mut places = [0usize; signals::PLACES];
     let mut lists = [0u16; signals::LISTS];

@@ -6,7 +6,7 @@ ghost use Rattle.meaning.specs.Bounds.{signals_most};
 ghost use Rattle.meaning.specs.Meaning.{firsts};
 ghost use Rattle.words.specs.Table.{name_of, names};
 ghost use Rattle.folded.specs.Pieces.{laid};
-ghost use Rattle.folded.specs.Flat.{direction as directionOf, directed};
+ghost use Rattle.folded.specs.Flat.{direction as direction_of, directed};
 ghost use Rattle.folded.specs.Layout.{signal_put, signals_put, pattern_name, names_from, listed_put, burst_put, exec_put};
 ghost use Rattle.pens.specs.Pens.{Writes};
 
@@ -15,7 +15,7 @@ use pens::Pen;
 // A signal's direction: the word behind the name of number i.
 fn direction<'a>(text: &'a [u8], places: &'a [usize], i: usize) -> &'a [u8]
     requires { i < signals_most }
-    ensures { result.now ≡ directionOf text.now (name_of text.now places.now i) }
+    ensures { result.now ≡ direction_of text.now (name_of text.now places.now i) }
 {
     let name = words::name_bytes(text, places, i);
     let c = words::cursor_at(text, words::number_at(places, i * 2) + name.len());
@@ -25,7 +25,7 @@ fn direction<'a>(text: &'a [u8], places: &'a [usize], i: usize) -> &'a [u8]
 // NAME DIRECTION;
 fn signal<'a>(page: &mut [u8], pen: Pen, text: &'a [u8], places: &'a [usize], i: usize) -> Pen
     requires { i < signals_most }
-    ensures { Writes page.old pen (laid (signal_put ((name_of text.now places.now i).word, directionOf text.now (name_of text.now places.now i)) [])) page.new result }
+    ensures { Writes page.old pen (laid (signal_put ((name_of text.now places.now i).word, direction_of text.now (name_of text.now places.now i)) [])) page.new result }
 {
     let p = pens::add(page, pen, words::name_bytes(text, places, i));
     let q = pens::add(page, p, b" ");

@@ -7,7 +7,7 @@ ghost use Rattle.meaning.specs.Meaning.{firsts};
 ghost use Rattle.meaning.specs.Reader.{one_of};
 ghost use Rattle.meaning.specs.Timing.{Tables};
 ghost use Rattle.meaning.specs.Body.{Kind};
-ghost use Rattle.meaning.specs.Statements.{Env, Decls, head as head_due, used as usedDue, chosen as chosenDue, looping as loopingDue, shift_head as shiftDue, label_head as labelDue};
+ghost use Rattle.meaning.specs.Statements.{Env, Decls, head as head_due, used as used_due, chosen as chosen_due, looping as looping_due, shift_head as shift_due, label_head as label_due};
 ghost use Rattle.words.specs.Table.{names as names_in};
 ghost use Rattle.signals.specs.Names.{names_of};
 ghost use Rattle.timing.specs.Makes.{Makes};
@@ -69,7 +69,7 @@ pub struct Headed {
 
 // `W` is read: NAME;
 fn chosen<'a>(text: &'a [u8], c: Cursor, tplaces: &'a [usize], tables: usize) -> Headed
-    ensures { (tabs : Tables) → firsts tabs ≡ firsts (names_in text.now tplaces.now tables) → Plainly text.now c (chosenDue tabs) tables result }
+    ensures { (tabs : Tables) → firsts tabs ≡ firsts (names_in text.now tplaces.now tables) → Plainly text.now c (chosen_due tabs) tables result }
 {
     let x = words::old_name(text, c, tplaces, tables);
     let a = x.cursor;
@@ -82,7 +82,7 @@ fn chosen<'a>(text: &'a [u8], c: Cursor, tplaces: &'a [usize], tables: usize) ->
 
 // `Loop` is read, at p: N {
 fn looping(text: &[u8], c: Cursor, d: usize, p: usize) -> Headed
-    ensures { (tables : ℕ) → Plainly text.now c (loopingDue d p) tables result }
+    ensures { (tables : ℕ) → Plainly text.now c (looping_due d p) tables result }
 {
     let a = words::refuse_if(c, d == 0, TOO_DEEP, p);
     let n = words::number_in(text, a, 1, LOOP_MOST);
@@ -96,7 +96,7 @@ fn looping(text: &[u8], c: Cursor, d: usize, p: usize) -> Headed
 
 // `Shift` is read, at p: {
 fn shifting(text: &[u8], c: Cursor, may: bool, d: usize, p: usize) -> Headed
-    ensures { (tables : ℕ) → Plainly text.now c (shiftDue may d p) tables result }
+    ensures { (tables : ℕ) → Plainly text.now c (shift_due may d p) tables result }
 {
     let a = words::refuse_if(c, !may, NOT_HERE, p);
     let b = words::refuse_if(a, d == 0, TOO_DEEP, p);
@@ -109,7 +109,7 @@ fn shifting(text: &[u8], c: Cursor, may: bool, d: usize, p: usize) -> Headed
 
 // `X` is read, at p: NAME;
 fn labelling(text: &[u8], c: Cursor, may: bool, p: usize) -> Headed
-    ensures { (tables : ℕ) (book rows given args : List ℕ) → Gave [] given → Makes text.now c (labelDue may p) result.cursor (Tells text.now book rows given args tables result.what) }
+    ensures { (tables : ℕ) (book rows given args : List ℕ) → Gave [] given → Makes text.now c (label_due may p) result.cursor (Tells text.now book rows given args tables result.what) }
 {
     let a = words::refuse_if(c, !may, NOT_HERE, p);
     let b = words::name(text, a);
@@ -151,7 +151,7 @@ fn used<'a>(
     args: &mut [usize],
 ) -> Headed
     requires { Ready text.now places.now lists.now names × SomeKind text.now book.now rows.now part × (length book.now ≡ book_length) × (length rows.now ≡ rows_length) × (d ≤ depth_most) × Gave [] given.old × (length args.old ≡ signals_most * 2) }
-    ensures { (k : Kind) (ds : Decls) (tables : ℕ) → OfKind text.now book.now rows.now part k ds → Makes text.now c (usedDue k d (names_of text.now places.now lists.now names) ds) result.cursor (λ h. Tells text.now book.now rows.now given.new args.new tables result.what h) }
+    ensures { (k : Kind) (ds : Decls) (tables : ℕ) → OfKind text.now book.now rows.now part k ds → Makes text.now c (used_due k d (names_of text.now places.now lists.now names) ds) result.cursor (λ h. Tells text.now book.now rows.now given.new args.new tables result.what h) }
 {
     let first = part.first;
     let bodies = &book[first * 2..];

@@ -12,7 +12,7 @@ ghost use Rattle.words.specs.Table.{names as names_of};
 ghost use Rattle.bursts.specs.Listed.{listed_in};
 ghost use Rattle.pages.specs.Pages.{decimal};
 ghost use Rattle.sections.specs.Listing.{Short, Fronts, Adds};
-ghost use Rattle.index.specs.Index.{keyword_before, keywords as keywordsOf, lines_from, line_written, lines_written, written, holder as holderOf};
+ghost use Rattle.index.specs.Index.{keyword_before, keywords as keywords_of, lines_from, line_written, lines_written, written, holder as holder_of};
 ghost use Rattle.index.specs.Lines.{number_most, pattern_most, index_most, names_in, Lists, SomeLists, blocks_in, SomeNamed, Shares, index_in, held_of};
 
 use texts::PATTERNS;
@@ -68,7 +68,7 @@ fn keyword_before(text: &[u8], c: Cursor, p: usize) -> Keyword
 // Those of all patterns, in one pass over the text.
 fn keywords<'a>(text: &'a [u8], names: &'a [usize], patterns: usize, keys: &mut [usize])
     requires { (length keys.old ≡ patterns_most) × (patterns ≤ patterns_most) }
-    ensures { take patterns keys.new ≡ keywordsOf (toks text.now 0) (firsts (names_of text.now names.now patterns)) }
+    ensures { take patterns keys.new ≡ keywords_of (toks text.now 0) (firsts (names_of text.now names.now patterns)) }
 {
     let mut c = words::cursor_at(text, 0);
     let mut i = 0;
@@ -141,7 +141,7 @@ fn lines<'a>(
     listed: usize,
     patterns: usize,
 ) -> usize
-    requires { SomeLists text.now book.now list.now listed patterns × (at + listed * pattern_most ≤ length page.old) × (take patterns keys.now ≡ keywordsOf (toks text.now 0) (firsts (names_of text.now (names_in book.now) patterns))) }
+    requires { SomeLists text.now book.now list.now listed patterns × (at + listed * pattern_most ≤ length page.old) × (take patterns keys.now ≡ keywords_of (toks text.now 0) (firsts (names_of text.now (names_in book.now) patterns))) }
     ensures { (ps : Decls) (run : Body) → Lists text.now book.now list.now listed patterns ps run → Adds page.old at (lines_written (lines_from 0 (blocks_in text.now ps) (listed_in text.now list.now listed))) (listed * pattern_most) result page.new }
 {
     let mut end = at;
@@ -199,7 +199,7 @@ pub fn holder<'a>(
     n: usize,
 ) -> Held
     requires { SomeLists text.now book.now list.now listed patterns }
-    ensures { (ps : Decls) (run : Body) → Lists text.now book.now list.now listed patterns ps run → held_of result ≡ holderOf n 0 (lines_from 0 (blocks_in text.now ps) (listed_in text.now list.now listed)) }
+    ensures { (ps : Decls) (run : Body) → Lists text.now book.now list.now listed patterns ps run → held_of result ≡ holder_of n 0 (lines_from 0 (blocks_in text.now ps) (listed_in text.now list.now listed)) }
 {
     let mut reached = 0;
     let mut number = 0;

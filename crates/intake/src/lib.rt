@@ -3,7 +3,7 @@
 
 ghost use Rattle.std.specs.Prelude.{◌≡◌, true, false, ℕ, ◌<◌, min, length};
 ghost use Rattle.tokens.specs.Refusals.{text_most};
-ghost use Rattle.intake.specs.Intake.{raw_most, room_of, mark_with, outside as outsideOf, behind_slash, in_line, in_block, behind_star, step as step_of, lacks as lacksOf, refusal_of, takes, written, chunked, closed as closedOf, begun};
+ghost use Rattle.intake.specs.Intake.{raw_most, room_of, mark_with, outside as outside_of, behind_slash, in_line, in_block, behind_star, step as step_of, lacks as lacks_of, refusal_of, takes, written, chunked, closed as closed_of, begun};
 ghost use Rattle.intake.specs.Answers.{only_if, adds_of, step_by, holds_of, last_of, moved_by, answered, added, passes, Puts};
 
 use tokens::{BAD_BYTE, OPEN_COMMENT, TOO_LONG, is_allowed, is_blank};
@@ -89,7 +89,7 @@ fn waits(run: u8, b: u8, mode: u8, opening: usize) -> Change
 
 // Outside comments.
 fn outside(it: Intake, b: u8) -> Change
-    ensures { step_by it b result ≡ outsideOf it b }
+    ensures { step_by it b result ≡ outside_of it b }
 {
     if b == b'/' {
         return holds(it.run, SLASH, it.taken);
@@ -194,7 +194,7 @@ fn count(run: u8, c: Change) -> usize
 
 // Does a store lack room for n bytes more? Never for none.
 fn lacks(room: usize, stored: usize, n: usize) -> bool
-    ensures { result ≡ lacksOf room stored n }
+    ensures { result ≡ lacks_of room stored n }
 {
     if n == 0 {
         return false;
@@ -260,7 +260,7 @@ fn put_if(store: &mut [u8], at: usize, due: bool, b: u8) -> usize
 
 // What a change sends to the store; the place behind it.
 fn put(store: &mut [u8], at: usize, run: u8, b: u8, c: Change) -> usize
-    requires { lacksOf (length store.old) at (length (adds_of run b c)) ≡ false }
+    requires { lacks_of (length store.old) at (length (adds_of run b c)) ≡ false }
     ensures { Puts store.old at (adds_of run b c) result store.new }
 {
     let mark = c.mark & (run != 0);
@@ -338,8 +338,8 @@ fn last(slash: bool) -> Change
 
 // The close, where the intake is open.
 fn close_open(it: Intake, store: &mut [u8]) -> Progress
-    ensures value { result ≡ (closedOf (Progress.Open it) store.old).0 }
-    ensures store_after { store.new ≡ (closedOf (Progress.Open it) store.old).1 }
+    ensures value { result ≡ (closed_of (Progress.Open it) store.old).0 }
+    ensures store_after { store.new ≡ (closed_of (Progress.Open it) store.old).1 }
 {
     if (it.mode == BLOCK) | (it.mode == STAR) {
         return Progress::Refused(OPEN_COMMENT, it.opening);
@@ -382,8 +382,8 @@ pub fn take(p: Progress, chunk: &[u8], store: &mut [u8]) -> Progress
 
 // The end of the raw text.
 pub fn close(p: Progress, store: &mut [u8]) -> Progress
-    ensures value { result ≡ (closedOf p store.old).0 }
-    ensures store_after { store.new ≡ (closedOf p store.old).1 }
+    ensures value { result ≡ (closed_of p store.old).0 }
+    ensures store_after { store.new ≡ (closed_of p store.old).1 }
 {
     match p {
         Progress::Open(it) => close_open(it, store),

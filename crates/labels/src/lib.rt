@@ -7,7 +7,7 @@ ghost use Rattle.tokens.specs.Refusals.{text_most};
 ghost use Rattle.tokens.specs.Tokens.{toks};
 ghost use Rattle.words.specs.Cursor.{ahead};
 ghost use Rattle.words.specs.Values.{told};
-ghost use Rattle.meaning.specs.Labels.{parting, labelling, behind as behindOf, taken, used_twice};
+ghost use Rattle.meaning.specs.Labels.{parting, labelling, behind as behind_of, taken, used_twice};
 ghost use Rattle.labels.specs.Joined.{Joins};
 ghost use Rattle.labels.specs.Table.{labels_most, word_of, words_of, number_of, hashed, Held, Added, here_of, used, Notes, Gathers, found_of};
 
@@ -165,7 +165,7 @@ fn is_labelling(w: &[u8]) -> bool
 
 // Behind the token w.
 fn behind(here: u8, w: &[u8]) -> u8
-    ensures { here_of result ≡ behindOf (here_of here) w.now }
+    ensures { here_of result ≡ behind_of (here_of here) w.now }
 {
     if is_parting(w) {
         return BEGINS;

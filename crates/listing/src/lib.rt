@@ -4,7 +4,7 @@
 ghost use Rattle.std.specs.Prelude.{◌≡◌, ◌≤◌, length};
 ghost use Rattle.verdicts.specs.Found.{SomeFound};
 ghost use Rattle.sections.specs.Listing.{front_most};
-ghost use Rattle.listing.specs.Pages.{fitting as fittingOf, Begins, GoesOn};
+ghost use Rattle.listing.specs.Pages.{fitting as fitting_of, Begins, GoesOn};
 
 use sections::Page;
 use texts::Verdict;
@@ -97,7 +97,7 @@ pub fn begin(text: &[u8], page: &mut [u8]) -> Page
 
 // As many rows as are left, and fit.
 fn fitting(p: Page, room: usize) -> usize
-    ensures { result ≡ fittingOf p room }
+    ensures { result ≡ fitting_of p room }
 {
     let width = p.width;
     if width == 0 {

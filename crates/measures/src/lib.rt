@@ -4,10 +4,10 @@
 ghost use Rattle.std.specs.Prelude.{◌≡◌, not, ℕ, ◌+◌, ◌*◌, ◌<◌, min, max, length};
 ghost use Rattle.meaning.specs.Bounds.{signals_most};
 ghost use Rattle.meaning.specs.Lists.{empty};
-ghost use Rattle.meaning.specs.Body.{Assigns, Args, Kind, Setting, looped as loopedWay, shifted, entered, Body, done, vec, set', inner, marked};
+ghost use Rattle.meaning.specs.Body.{Assigns, Args, Kind, Setting, looped as looped_way, shifted, entered, Body, done, vec, set', inner, marked};
 ghost use Rattle.measures.specs.Measures.{Measures, joined, Around};
 ghost use Rattle.measures.specs.Uses.{row_length, Uses, Given};
-ghost use Rattle.measures.specs.Book.{entries, book_length, rows_length, bodies as bodiesIn, start_at, measure_at, Kept, KeptRow};
+ghost use Rattle.measures.specs.Book.{entries, book_length, rows_length, bodies as bodies_in, start_at, measure_at, Kept, KeptRow};
 
 use words::Cursor;
 
@@ -152,7 +152,7 @@ fn around(x: Measure, cycles: usize, shifts: usize) -> Measure
 
 // Loop N over a body.
 pub fn looped(n: usize, x: Measure) -> Measure
-    ensures { (b : Body) → Measures b x → Measures (inner (loopedWay n) b done) result }
+    ensures { (b : Body) → Measures b x → Measures (inner (looped_way n) b done) result }
 {
     let cycles = product(n, x.cycles, CYCLES_CAP);
     let shifts = product(n, x.shifts, CYCLES_CAP);
@@ -263,7 +263,7 @@ pub fn keep(book: &mut [usize], i: usize, c: Cursor, start: usize, x: Measure)
 
 // Its row.
 pub fn keep_row(rows: &mut [u16], i: usize, row: &[u16])
-    requires { (length rows.old ≡ rows_length) × (length row.now ≡ row_length) × (i < bodiesIn) }
+    requires { (length rows.old ≡ rows_length) × (length row.now ≡ row_length) × (i < bodies_in) }
     ensures { KeptRow rows.old i row.now rows.new }
 {
     let at = i * ROW;

@@ -6,9 +6,9 @@ ghost use Rattle.std.specs.Prelude.{◌≡◌, true, List, ℕ, ◌≤◌, ◌<�
 ghost use Rattle.std.proofs.Math.Option.{none};
 ghost use Rattle.tokens.specs.Tokens.{Toks, toks};
 ghost use Rattle.meaning.specs.Bounds.{entry_most};
-ghost use Rattle.meaning.specs.Reader.{ok, until as untilOf};
+ghost use Rattle.meaning.specs.Reader.{ok, until as until_of};
 ghost use Rattle.meaning.specs.Signals.{Names};
-ghost use Rattle.meaning.specs.Timing.{Tables, event as eventOf, entry as entry_of, waveforms as waveformsOf, table as table_of, timing as timingOf};
+ghost use Rattle.meaning.specs.Timing.{Tables, event as event_of, entry as entry_of, waveforms as waveforms_of, table as table_of, timing as timing_of};
 ghost use Rattle.meaning.specs.Body.{Body};
 ghost use Rattle.meaning.specs.Document.{Read, document};
 ghost use Rattle.meaning.specs.Edges.{first_in_run};
@@ -39,8 +39,8 @@ struct Look {
 
 // Further events of an entry, up to its closing brace.
 fn events(text: &[u8], c: Cursor, period: u64) -> Look
-    requires { (n : ℕ) × (0 < n) × (n ≤ entry_most) × Coming text.now c (untilOf "}" (eventOf n)) (Lined period n) }
-    ensures { (n : ℕ) → 0 < n → n ≤ entry_most → Keeps text.now c (untilOf "}" (eventOf n)) (Lined period n) result }
+    requires { (n : ℕ) × (0 < n) × (n ≤ entry_most) × Coming text.now c (until_of "}" (eventOf n)) (Lined period n) }
+    ensures { (n : ℕ) → 0 < n → n ≤ entry_most → Keeps text.now c (until_of "}" (eventOf n)) (Lined period n) result }
 {
     let mut cursor = c;
     while words::until(text, cursor, b"}") {
@@ -80,8 +80,8 @@ fn entry(text: &[u8], c: Cursor, period: u64) -> Look
 
 // All entries of a name, up to its closing brace.
 fn entries(text: &[u8], c: Cursor, period: u64) -> Look
-    requires { (sigs : List ℕ) × Coming text.now c (untilOf "}" (entry_of sigs)) (WavesIn period) }
-    ensures { (sigs : List ℕ) → Keeps text.now c (untilOf "}" (entry_of sigs)) (WavesIn period) result }
+    requires { (sigs : List ℕ) × Coming text.now c (until_of "}" (entry_of sigs)) (WavesIn period) }
+    ensures { (sigs : List ℕ) → Keeps text.now c (until_of "}" (entry_of sigs)) (WavesIn period) result }
 {
     let mut cursor = c;
     while words::until(text, cursor, b"}") {
@@ -100,8 +100,8 @@ fn entries(text: &[u8], c: Cursor, period: u64) -> Look
 
 // A name, whatever its signals are, and its entries.
 fn named(text: &[u8], c: Cursor, period: u64) -> Look
-    requires { (ns : Names) × Coming text.now c (waveformsOf ns) (WavesIn period) }
-    ensures { (ns : Names) → Keeps text.now c (waveformsOf ns) (WavesIn period) result }
+    requires { (ns : Names) × Coming text.now c (waveforms_of ns) (WavesIn period) }
+    ensures { (ns : Names) → Keeps text.now c (waveforms_of ns) (WavesIn period) result }
 {
     let d = words::name(text, c);
     let e = words::due(text, d, b"{");
@@ -110,8 +110,8 @@ fn named(text: &[u8], c: Cursor, period: u64) -> Look
 
 // The waveforms of a table of this period, up to their closing brace.
 fn waveforms(text: &[u8], c: Cursor, period: u64) -> Look
-    requires { (ns : Names) × Coming text.now c (untilOf "}" (waveformsOf ns)) (WavesIn period) }
-    ensures { (ns : Names) → Keeps text.now c (untilOf "}" (waveformsOf ns)) (WavesIn period) result }
+    requires { (ns : Names) × Coming text.now c (until_of "}" (waveformsOf ns)) (WavesIn period) }
+    ensures { (ns : Names) → Keeps text.now c (until_of "}" (waveformsOf ns)) (WavesIn period) result }
 {
     let mut cursor = c;
     while words::until(text, cursor, b"}") {
@@ -149,8 +149,8 @@ fn table(text: &[u8], c: Cursor) -> Look
 
 // Further tables, up to the last brace of Timing.
 fn others(text: &[u8], c: Cursor) -> Look
-    requires { (ns : Names) × Coming text.now c (untilOf "}" (table_of ns)) TablesIn }
-    ensures { (ns : Names) → Keeps text.now c (untilOf "}" (table_of ns)) TablesIn result }
+    requires { (ns : Names) × Coming text.now c (until_of "}" (table_of ns)) TablesIn }
+    ensures { (ns : Names) → Keeps text.now c (until_of "}" (table_of ns)) TablesIn result }
 {
     let mut cursor = c;
     while words::until(text, cursor, b"}") {
@@ -169,8 +169,8 @@ fn others(text: &[u8], c: Cursor) -> Look
 
 // Timing{ .. }: from the cursor that stands at it.
 fn tables(text: &[u8], c: Cursor) -> bool
-    requires { (ns : Names) × (it : Tables) × (us : Toks) × Answers text.now c (timingOf ns) it us }
-    ensures { result ≡ true → (ns : Names) (it : Tables) (us : Toks) → Answers text.now c (timingOf ns) it us → TablesIn it }
+    requires { (ns : Names) × (it : Tables) × (us : Toks) × Answers text.now c (timing_of ns) it us }
+    ensures { result ≡ true → (ns : Names) (it : Tables) (us : Toks) → Answers text.now c (timing_of ns) it us → TablesIn it }
 {
     let a = words::due(text, c, b"Timing");
     let b = words::due(text, a, b"{");

@@ -2,7 +2,7 @@
 #![tactic(auto)]
 
 ghost use Rattle.std.specs.Prelude.{◌≡◌, ◌+◌, ◌≤◌, length};
-ghost use Rattle.reader.specs.Pass.{seen as seenOf, ahead_of, ahead_at, held, standing, passed};
+ghost use Rattle.reader.specs.Pass.{seen as seen_of, ahead_of, ahead_at, held, standing, passed};
 ghost use Rattle.tokens.specs.Tokens.{found};
 
 // Line and column are those of the place, moved on with it: each byte is counted once. Whatever they are, reading goes on from them.
@@ -103,7 +103,7 @@ pub fn moved<'a>(r: Reader<'a>, at: usize) -> Reader<'a>
 
 // The next token, as if reading began at the reader's place.
 pub fn next<'a>(r: Reader<'a>) -> Seen
-    ensures { result ≡ seenOf r.entry.text.now r.entry.at (held r.entry) }
+    ensures { result ≡ seen_of r.entry.text.now r.entry.at (held r.entry) }
 {
     let ahead = ahead_from(r.text, r.at, r.line, r.column);
     ahead.seen
@@ -111,7 +111,7 @@ pub fn next<'a>(r: Reader<'a>) -> Seen
 
 // The next token, which the reader passes: a loop over this goes through all tokens. Where there is none, or a refusal, the reader stays.
 pub fn pass<'s, 'a>(r: &'s mut Reader<'a>) -> Seen
-    ensures { (result ≡ seenOf r.old.text.now r.old.at (held r.old)) × (r.new ≡ passed r.old) }
+    ensures { (result ≡ seen_of r.old.text.now r.old.at (held r.old)) × (r.new ≡ passed r.old) }
 {
     let ahead = ahead_from(r.text, r.at, r.line, r.column);
     r.at = ahead.behind;

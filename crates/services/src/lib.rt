@@ -6,11 +6,11 @@ ghost use Rattle.std.specs.Prelude.{◌≡◌, true, ◌≤◌, length, take};
 ghost use Rattle.tokens.specs.Refusals.{text_most};
 ghost use Rattle.meaning.specs.Bounds.{entry_most};
 ghost use Rattle.meaning.specs.Meaning.{given};
-ghost use Rattle.meaning.specs.Services.{check as checkOf, name_of, waveform as waveformOf};
-ghost use Rattle.meaning.specs.Charts.{waveforms as waveformsOf};
-ghost use Rattle.index.specs.Index.{index as index_of, belongs as belongsTo, holds as holdsIn};
+ghost use Rattle.meaning.specs.Services.{check as check_of, name_of, waveform as waveform_of};
+ghost use Rattle.meaning.specs.Charts.{waveforms as waveforms_of};
+ghost use Rattle.index.specs.Index.{index as index_of, belongs as belongs_to, holds as holds_in};
 ghost use Rattle.index.specs.Lines.{index_most};
-ghost use Rattle.saving.specs.Saving.{Saved as SavedText, saving, save as saveOf};
+ghost use Rattle.saving.specs.Saving.{Saved as SavedText, saving, save as save_of};
 ghost use Rattle.saving.specs.Spans.{noted_all};
 ghost use Rattle.saving.specs.Mends.{Turns, Mends};
 ghost use Rattle.verdicts.specs.Judged.{which_of};
@@ -117,7 +117,7 @@ pub enum Saved {
 // ---- Check
 
 pub fn check(text: &[u8]) -> Checked
-    ensures { checked_of result ≡ checkOf text.now }
+    ensures { checked_of result ≡ check_of text.now }
 {
     let watch = verdicts::nowhere();
     let j = verdicts::judge(
@@ -217,7 +217,7 @@ pub fn waveform(
     times: &mut [u64],
     letters: &mut [u8],
 ) -> Shaped
-    ensures { Shapes (waveformOf text.now table signal char times.old letters.old) times.old times.new letters.old letters.new result }
+    ensures { Shapes (waveform_of text.now table signal char times.old letters.old) times.old times.new letters.old letters.new result }
 {
     let mut ts = [0u64; waves::EVENTS];
     let mut ls = [0u8; waves::EVENTS];
@@ -244,7 +244,7 @@ pub fn plotted(
     letters: &mut [u8],
     counts: &mut [u64],
 ) -> Charted
-    ensures { Plots (spared spare (waveformsOf text.now asked.now times.old letters.old counts.old)) times.old times.new letters.old letters.new counts.old counts.new result }
+    ensures { Plots (spared spare (waveforms_of text.now asked.now times.old letters.old counts.old)) times.old times.new letters.old letters.new counts.old counts.new result }
 {
     let watch = verdicts::nowhere();
     let j = verdicts::judge(
@@ -281,7 +281,7 @@ pub fn waveforms(
     letters: &mut [u8],
     counts: &mut [u64],
 ) -> Charted
-    ensures { Plots (waveformsOf text.now asked.now times.old letters.old counts.old) times.old times.new letters.old letters.new counts.old counts.new result }
+    ensures { Plots (waveforms_of text.now asked.now times.old letters.old counts.old) times.old times.new letters.old letters.new counts.old counts.new result }
 {
     plotted(text, asked, true, times, letters, counts)
 }
@@ -406,7 +406,7 @@ pub fn index(text: &[u8], buffer: &mut [u8]) -> Indexed
 
 // The number in the list of the pattern that holds a cycle, by an index that is byte for byte what a rebuild writes; past the end no pattern.
 pub fn holds(text: &[u8], bytes: &[u8], cycle: usize) -> Holding
-    ensures { holding_of result ≡ holdsIn text.now bytes.now cycle }
+    ensures { holding_of result ≡ holds_in text.now bytes.now cycle }
 {
     let mut page = [0u8; index::INDEX];
     let x = rebuild(text, cycle, &mut page);
@@ -425,7 +425,7 @@ pub fn holds(text: &[u8], bytes: &[u8], cycle: usize) -> Holding
 
 // Does an index belong to a text: is it byte for byte what a rebuild writes?
 pub fn belongs(text: &[u8], bytes: &[u8]) -> Belonging
-    ensures { belonging_of result ≡ belongsTo text.now bytes.now }
+    ensures { belonging_of result ≡ belongs_to text.now bytes.now }
 {
     match holds(text, bytes, 0) {
         Holding::Refused(n, p) => Belonging::Refused(n, p),
@@ -532,7 +532,7 @@ fn hand_back(text: &mut [u8], spans: &mut [u64], copy: &[u8], log: &[u64], count
 
 // There is room for what else is handed out (`spare`), or that is 19 too.
 pub fn save_text(text: &mut [u8], spare: bool, spans: &mut [u64]) -> Saved
-    ensures { Saves (spared spare (saveOf text.old spans.old)) text.old text.new spans.old spans.new result }
+    ensures { Saves (spared spare (save_of text.old spans.old)) text.old text.new spans.old spans.new result }
 {
     if TEXT_MOST < text.len() {
         return Saved::Refused(TOO_LONG, 0);
@@ -553,7 +553,7 @@ pub fn save_text(text: &mut [u8], spare: bool, spans: &mut [u64]) -> Saved
 
 // A hurt text saved where it stands; two numbers for each overwritten span, its first byte and the one behind its last, to the front of `spans`.
 pub fn save(text: &mut [u8], spans: &mut [u64]) -> Saved
-    ensures { Saves (saveOf text.old spans.old) text.old text.new spans.old spans.new result }
+    ensures { Saves (save_of text.old spans.old) text.old text.new spans.old spans.new result }
 {
     save_text(text, true, spans)
 }

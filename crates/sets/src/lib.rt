@@ -3,7 +3,7 @@
 
 ghost use Rattle.std.specs.Prelude.{◌≡◌, ◌+◌, ◌≤◌, min, [], ◌∷◌, ◌++◌, length, take};
 ghost use Rattle.meaning.specs.Bounds.{signals_most};
-ghost use Rattle.meaning.specs.Lists.{has as has_of, meets as meetsOf, inside as insideOf, without as withoutOf, empty};
+ghost use Rattle.meaning.specs.Lists.{has as has_of, meets as meets_of, inside as inside_of, without as without_of, empty};
 ghost use Rattle.sets.specs.Sets.{list_of, Pushed};
 
 // The most signals that a text has.
@@ -68,7 +68,7 @@ pub fn has(s: Set, x: u16) -> bool
 
 // Is some number of x in g?
 pub fn meets(x: Set, g: Set) -> bool
-    ensures { result ≡ meetsOf (list_of x) (list_of g) }
+    ensures { result ≡ meets_of (list_of x) (list_of g) }
 {
     let n = least(x.n, MOST);
     let mut i = 0;
@@ -83,7 +83,7 @@ pub fn meets(x: Set, g: Set) -> bool
 
 // Are all numbers of x in g?
 pub fn inside(x: Set, g: Set) -> bool
-    ensures { result ≡ insideOf (list_of x) (list_of g) }
+    ensures { result ≡ inside_of (list_of x) (list_of g) }
 {
     let n = least(x.n, MOST);
     let mut i = 0;
@@ -126,7 +126,7 @@ pub fn append(g: Set, x: Set) -> Set
 
 // Those of g that are not in x.
 pub fn without(g: Set, x: Set) -> Set
-    ensures { list_of result ≡ withoutOf (list_of g) (list_of x) }
+    ensures { list_of result ≡ without_of (list_of g) (list_of x) }
 {
     let n = least(g.n, MOST);
     let mut v = [0; MOST];

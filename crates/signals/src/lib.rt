@@ -4,7 +4,7 @@
 ghost use Rattle.std.specs.Prelude.{◌≡◌, true, false, cond, ◌&&◌, List, ℕ, ◌+◌, ◌*◌, ◌≤◌, ◌<◌, min, length, ltb};
 ghost use Rattle.meaning.specs.Bounds.{signals_most};
 ghost use Rattle.meaning.specs.Lists.{meets};
-ghost use Rattle.meaning.specs.Names.{among, due_among, find as findOf, new_name, old_name};
+ghost use Rattle.meaning.specs.Names.{among, due_among, find as find_of, new_name, old_name};
 ghost use Rattle.meaning.specs.Signals.{directions, signal as signal_due, signals as signals_due};
 ghost use Rattle.meaning.specs.Groups.{sign as sign_due, sign_ahead, joined as joined_due, group as group_due, groups as groups_due};
 ghost use Rattle.sets.specs.Sets.{list_of};
@@ -161,7 +161,7 @@ fn nearer(is: bool, i: usize, found: usize) -> usize
 // The number of the first of `count` names that is w; `count` where none is. The names of its chain are looked at, the last one first.
 fn find<'a>(text: &'a [u8], w: &'a [u8], places: &'a [usize], count: usize) -> usize
     requires { Chained text.now places.now count }
-    ensures { told (ltb result count) result ≡ findOf (names text.now places.now count) w.now }
+    ensures { told (ltb result count) result ≡ find_of (names text.now places.now count) w.now }
 {
     let n = w.len();
     if n == 0 {

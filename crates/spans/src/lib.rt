@@ -5,8 +5,8 @@ ghost use Rattle.std.specs.Prelude.{◌≡◌, ℕ, suc, ◌+◌, ◌-◌, ◌*�
 ghost use Rattle.std.proofs.Math.Option.{Option};
 ghost use Rattle.tokens.specs.Tokens.{Toks, toks};
 ghost use Rattle.meaning.specs.Bounds.{signals_most, tables_most};
-ghost use Rattle.meaning.specs.Reader.{ok, until as untilOf};
-ghost use Rattle.meaning.specs.Timing.{Event, Wave, Tables, waveforms as waveformsOf, table as table_of, timing as timingOf};
+ghost use Rattle.meaning.specs.Reader.{ok, until as until_of};
+ghost use Rattle.meaning.specs.Timing.{Event, Wave, Tables, waveforms as waveforms_of, table as table_of, timing as timing_of};
 ghost use Rattle.meaning.specs.Document.{Read, document};
 ghost use Rattle.meaning.specs.Meaning.{table_at};
 ghost use Rattle.signals.specs.Names.{names_of};
@@ -14,8 +14,8 @@ ghost use Rattle.timing.specs.Watch.{Watched};
 ghost use Rattle.waves.specs.Waves.{EntryAt};
 ghost use Rattle.spots.specs.Answers.{Answers, Behind};
 ghost use Rattle.spots.specs.Spots.{spots_most, spot_at, watch_of, Spots, Listed};
-ghost use Rattle.meaning.specs.Edges.{Category, belongs, first_time, last_time, before as beforeOf, follows, events_of, period_at};
-ghost use Rattle.spans.specs.Spans.{char_first, chars_wide, inside as insideOf, table_wide, times_most, slots_most, slot_of, coded as codedOf, Sized, Spans};
+ghost use Rattle.meaning.specs.Edges.{Category, belongs, first_time, last_time, before as before_of, follows, events_of, period_at};
+ghost use Rattle.spans.specs.Spans.{char_first, chars_wide, inside as inside_of, table_wide, times_most, slots_most, slot_of, coded as coded_of, Sized, Spans};
 ghost use Rattle.spans.specs.Parts.{times_below, Timely, Fit, Spanning, Spanned, Put, Filled, Clear, Upto, owners_most, Held};
 
 use words::Cursor;
@@ -38,14 +38,14 @@ pub const PERIODS: usize = timing::TABLES;
 // ---- looking
 
 fn inside(b: u8) -> bool
-    ensures { result ≡ insideOf b }
+    ensures { result ≡ inside_of b }
 {
     (48 <= b) & (b <= 122)
 }
 
 // Does the last event come before the first of the next cycle, a period later? Each is one more than its time, 0 for none.
 fn apart(period: u64, last: u32, first: u32) -> bool
-    ensures { (l f : Option ℕ) → last ≡ codedOf l → first ≡ codedOf f → result ≡ beforeOf period l f }
+    ensures { (l f : Option ℕ) → last ≡ coded_of l → first ≡ coded_of f → result ≡ before_of period l f }
 {
     if (last == 0) | (first == 0) {
         return true;
@@ -59,7 +59,7 @@ fn apart(period: u64, last: u32, first: u32) -> bool
 // The number of a category's time (0 drive, 1 compare) for character c of signal s in table j; 0 for none.
 fn time(row: &[u32], j: usize, s: usize, c: u8, side: usize) -> u32
     requires { (length row.now ≡ times_most) × (j < tables_most) × (s < signals_most) × (side < 2) }
-    ensures { result ≡ cond (insideOf c) (get_or row.now (slot_of j s c * 2 + side) 0) 0 }
+    ensures { result ≡ cond (inside_of c) (get_or row.now (slot_of j s c * 2 + side) 0) 0 }
 {
     if inside(c) {
         let at = (j * TABLE + (s * CHARS + (c as usize - FIRST))) * 2 + side;
@@ -177,7 +177,7 @@ fn read(text: &[u8], place: usize, char: u8) -> Both
 // Those of a spot, which has none where it is 0.
 fn of_spot(text: &[u8], spot: usize, char: u8) -> Both
     requires { (s : ℕ) × (ws : List Wave) × Watched text.now (watch_of s char) (not (eqb spot 0)) (spot - 1) ws }
-    ensures { (s : ℕ) (ws : List Wave) → Watched text.now (watch_of s char) (not (eqb spot 0)) (spot - 1) ws → Fit ws → insideOf char ≡ true → Spanned result (events_of s char ws) }
+    ensures { (s : ℕ) (ws : List Wave) → Watched text.now (watch_of s char) (not (eqb spot 0)) (spot - 1) ws → Fit ws → inside_of char ≡ true → Spanned result (events_of s char ws) }
 {
     if spot == 0 {
         return nothing();
@@ -304,8 +304,8 @@ fn waveforms<'a>(
     lasts: &mut [u32],
 ) -> Cursor
     requires firsts_len { (length firsts.old ≡ times_most) × (length lasts.old ≡ times_most) × (j < tables_most) × Listed lists.now names }
-    requires answers { (ws : List Wave) × (us : Toks) × Answers text.now c (untilOf "}" (waveformsOf (names_of text.now places.now lists.now names)) []) ws us }
-    ensures { (ws : List Wave) (us : Toks) → Answers text.now c (untilOf "}" (waveformsOf (names_of text.now places.now lists.now names)) []) ws us → Clear j firsts.old → Clear j lasts.old → Behind text.now result us × (Upto firstTime j ws tableWide firsts.old firsts.new × Upto lastTime j ws tableWide lasts.old lasts.new) }
+    requires answers { (ws : List Wave) × (us : Toks) × Answers text.now c (until_of "}" (waveformsOf (names_of text.now places.now lists.now names)) []) ws us }
+    ensures { (ws : List Wave) (us : Toks) → Answers text.now c (until_of "}" (waveformsOf (names_of text.now places.now lists.now names)) []) ws us → Clear j firsts.old → Clear j lasts.old → Behind text.now result us × (Upto firstTime j ws tableWide firsts.old firsts.new × Upto lastTime j ws tableWide lasts.old lasts.new) }
 {
     let mut spots = [0usize; spots::SPOTS];
     let cursor = spots::table_spots(text, c, places, lists, names, &mut spots);
@@ -349,8 +349,8 @@ fn others<'a>(
     periods: &mut [u64],
 )
     requires sized { Sized firsts.old lasts.old periods.old × Listed lists.now names }
-    requires held { (tabs : Tables) × (it : Tables) × (us : Toks) × Held 1 tabs firsts.old lasts.old periods.old × Answers text.now c (untilOf "}" (table_of (names_of text.now places.now lists.now names)) tabs) it us }
-    ensures { (tabs it : Tables) (us : Toks) → Held 1 tabs firsts.old lasts.old periods.old → Answers text.now c (untilOf "}" (table_of (names_of text.now places.now lists.now names)) tabs) it us → Spans it firsts.new lasts.new periods.new }
+    requires held { (tabs : Tables) × (it : Tables) × (us : Toks) × Held 1 tabs firsts.old lasts.old periods.old × Answers text.now c (until_of "}" (table_of (names_of text.now places.now lists.now names)) tabs) it us }
+    ensures { (tabs it : Tables) (us : Toks) → Held 1 tabs firsts.old lasts.old periods.old → Answers text.now c (until_of "}" (table_of (names_of text.now places.now lists.now names)) tabs) it us → Spans it firsts.new lasts.new periods.new }
 {
     let mut cursor = c;
     let mut j = 1;
@@ -375,8 +375,8 @@ pub fn fill<'a>(
 )
     requires sized { Sized firsts.old lasts.old periods.old × Listed lists.now names }
     requires by_index { (i : ℕ) → (get_or firsts.old i 0 ≡ 0) × (get_or lasts.old i 0 ≡ 0) × (get_or periods.old i 0 ≡ 0) }
-    requires answers { (it : Tables) × (us : Toks) × Answers text.now c (timingOf (names_of text.now places.now lists.now names)) it us }
-    ensures { (it : Tables) (us : Toks) → Answers text.now c (timingOf (names_of text.now places.now lists.now names)) it us → Spans it firsts.new lasts.new periods.new }
+    requires answers { (it : Tables) × (us : Toks) × Answers text.now c (timing_of (names_of text.now places.now lists.now names)) it us }
+    ensures { (it : Tables) (us : Toks) → Answers text.now c (timing_of (names_of text.now places.now lists.now names)) it us → Spans it firsts.new lasts.new periods.new }
 {
     let a = words::due(text, c, b"Timing");
     let b = words::due(text, a, b"{");

@@ -4,8 +4,8 @@
 ghost use Rattle.std.specs.Prelude.{◌≡◌, ℕ, ◌≤◌, ◌<◌, List, [], ◌∷◌, length};
 ghost use Rattle.tokens.specs.Tokens.{Toks};
 ghost use Rattle.meaning.specs.Bounds.{entry_most, signals_most};
-ghost use Rattle.meaning.specs.Reader.{Reader, until as untilOf};
-ghost use Rattle.meaning.specs.Timing.{Events, Wave, Tables, event as eventOf, entry as entry_of, waveforms as waveformsOf};
+ghost use Rattle.meaning.specs.Reader.{Reader, until as until_of};
+ghost use Rattle.meaning.specs.Timing.{Events, Wave, Tables, event as event_of, entry as entry_of, waveforms as waveforms_of};
 ghost use Rattle.sets.specs.Sets.{list_of};
 ghost use Rattle.signals.specs.Names.{names_of};
 ghost use Rattle.timing.specs.Marks.{Below};
@@ -23,8 +23,8 @@ pub const SPOTS: usize = sets::MOST * BYTES;
 
 // Further events of an entry, up to its closing brace.
 fn events(text: &[u8], c: Cursor) -> Cursor
-    requires { (n : ℕ) × (s : Events) × (es : Events) × (us : Toks) × (0 < n) × (n ≤ entry_most) × (length s.0 ≡ n) × Answers text.now c (untilOf "}" (eventOf n) s) es us }
-    ensures { (n : ℕ) (s es : Events) (us : Toks) → 0 < n → n ≤ entry_most → length s.0 ≡ n → Answers text.now c (untilOf "}" (eventOf n) s) es us → Behind text.now result us × (length es.0 ≡ n) }
+    requires { (n : ℕ) × (s : Events) × (es : Events) × (us : Toks) × (0 < n) × (n ≤ entry_most) × (length s.0 ≡ n) × Answers text.now c (until_of "}" (eventOf n) s) es us }
+    ensures { (n : ℕ) (s es : Events) (us : Toks) → 0 < n → n ≤ entry_most → length s.0 ≡ n → Answers text.now c (until_of "}" (eventOf n) s) es us → Behind text.now result us × (length es.0 ≡ n) }
 {
     let mut cursor = c;
     while words::until(text, cursor, b"}") {
@@ -76,8 +76,8 @@ fn entry_spots(text: &[u8], c: Cursor, set: Set, spots: &mut [usize]) -> Cursor
 // Those of all entries of a name, up to its closing brace.
 fn entries_spots(text: &[u8], c: Cursor, set: Set, spots: &mut [usize]) -> Cursor
     requires spots_len { (length spots.old ≡ spots_most) × Below (list_of set) }
-    requires spots { (ws : List Wave) × (a : List Wave) × (us : Toks) × Spots text.now spots.old ws × Answers text.now c (untilOf "}" (entry_of (list_of set)) ws) a us }
-    ensures { (ws a : List Wave) (us : Toks) → Spots text.now spots.old ws → Answers text.now c (untilOf "}" (entry_of (list_of set)) ws) a us → Behind text.now result us × Spots text.now spots.new a }
+    requires spots { (ws : List Wave) × (a : List Wave) × (us : Toks) × Spots text.now spots.old ws × Answers text.now c (until_of "}" (entry_of (list_of set)) ws) a us }
+    ensures { (ws a : List Wave) (us : Toks) → Spots text.now spots.old ws → Answers text.now c (until_of "}" (entry_of (list_of set)) ws) a us → Behind text.now result us × Spots text.now spots.new a }
 {
     let mut cursor = c;
     while words::until(text, cursor, b"}") {
@@ -96,8 +96,8 @@ fn name_spots<'a>(
     spots: &mut [usize],
 ) -> Cursor
     requires spots_len { (length spots.old ≡ spots_most) × Listed lists.now names }
-    requires spots { (ws : List Wave) × (a : List Wave) × (us : Toks) × Spots text.now spots.old ws × Answers text.now c (waveformsOf (names_of text.now places.now lists.now names) ws) a us }
-    ensures { (ws a : List Wave) (us : Toks) → Spots text.now spots.old ws → Answers text.now c (waveformsOf (names_of text.now places.now lists.now names) ws) a us → Behind text.now result us × Spots text.now spots.new a }
+    requires spots { (ws : List Wave) × (a : List Wave) × (us : Toks) × Spots text.now spots.old ws × Answers text.now c (waveforms_of (names_of text.now places.now lists.now names) ws) a us }
+    ensures { (ws a : List Wave) (us : Toks) → Spots text.now spots.old ws → Answers text.now c (waveforms_of (names_of text.now places.now lists.now names) ws) a us → Behind text.now result us × Spots text.now spots.new a }
 {
     let old = words::old_name(text, c, places, names);
     let d = words::due(text, old.cursor, b"{");
@@ -115,8 +115,8 @@ pub fn table_spots<'a>(
     spots: &mut [usize],
 ) -> Cursor
     requires spots_len { (length spots.old ≡ spots_most) × Listed lists.now names }
-    requires spots { (ws : List Wave) × (a : List Wave) × (us : Toks) × Spots text.now spots.old ws × Answers text.now c (untilOf "}" (waveformsOf (names_of text.now places.now lists.now names)) ws) a us }
-    ensures { (ws a : List Wave) (us : Toks) → Spots text.now spots.old ws → Answers text.now c (untilOf "}" (waveformsOf (names_of text.now places.now lists.now names)) ws) a us → Behind text.now result us × Spots text.now spots.new a }
+    requires spots { (ws : List Wave) × (a : List Wave) × (us : Toks) × Spots text.now spots.old ws × Answers text.now c (until_of "}" (waveformsOf (names_of text.now places.now lists.now names)) ws) a us }
+    ensures { (ws a : List Wave) (us : Toks) → Spots text.now spots.old ws → Answers text.now c (until_of "}" (waveformsOf (names_of text.now places.now lists.now names)) ws) a us → Behind text.now result us × Spots text.now spots.new a }
 {
     let mut cursor = c;
     while words::until(text, cursor, b"}") {

@@ -5,16 +5,16 @@
 ghost use Rattle.std.specs.Prelude.{◌≡◌, ◌∷◌, [], not, ◌≤◌, length, eqb};
 ghost use Rattle.tokens.specs.Tokens.{next_token};
 ghost use Rattle.columns.specs.Columns.{position};
-ghost use Rattle.intake.specs.Intake.{chunked, closed as closedOf};
+ghost use Rattle.intake.specs.Intake.{chunked, closed as closed_of};
 ghost use Rattle.meaning.specs.Meaning.{given};
-ghost use Rattle.meaning.specs.Services.{check as checkOf, name_of, window as window_of, waveform as waveformOf};
-ghost use Rattle.meaning.specs.Charts.{waveforms as waveformsOf};
+ghost use Rattle.meaning.specs.Services.{check as check_of, name_of, window as window_of, waveform as waveform_of};
+ghost use Rattle.meaning.specs.Charts.{waveforms as waveforms_of};
 ghost use Rattle.texts.specs.Told.{packed_refusal};
-ghost use Rattle.index.specs.Index.{index as index_of, belongs as belongsTo, holds as holdsIn};
+ghost use Rattle.index.specs.Index.{index as index_of, belongs as belongs_to, holds as holds_in};
 ghost use Rattle.folded.specs.Fold.{fold as fold_of};
 ghost use Rattle.fails.specs.Fails.{fails as fails_of};
 ghost use Rattle.fails.specs.Service.{rows_of};
-ghost use Rattle.saving.specs.Saving.{save as saveOf};
+ghost use Rattle.saving.specs.Saving.{save as save_of};
 ghost use Rattle.verdicts.specs.Judged.{which_of};
 ghost use Rattle.stil.specs.Interface.{Hands, packed, fronted, five_of, two_of, three_of, token_of, position_of, Opens, Draws};
 ghost use Rattle.stil.specs.Charts.{Sketches};
@@ -43,7 +43,7 @@ fn pack(no: u8, place: usize) -> u64
 // Check: signals, tables, listed patterns, cycles and the size of the run. A buffer of less than five numbers is 19.
 #[unsafe(no_mangle)]
 pub extern "C" fn lutemeteor_check(text: &[u8], numbers: &mut [u64]) -> u64
-    ensures { Hands 5 five_of (checkOf text.now) numbers.old result numbers.new }
+    ensures { Hands 5 five_of (check_of text.now) numbers.old result numbers.new }
 {
     match services::check(text) {
         Checked::Refused(n, p) => pack(n, p),
@@ -112,7 +112,7 @@ pub extern "C" fn lutemeteor_waveform(
     letters: &mut [u8],
     count: &mut [u64],
 ) -> u64
-    ensures { Draws (waveformOf text.now table signal char times.old letters.old) times.old times.new letters.old letters.new count.old result count.new }
+    ensures { Draws (waveform_of text.now table signal char times.old letters.old) times.old times.new letters.old letters.new count.old result count.new }
 {
     let mut ts = [0u64; waves::EVENTS];
     let mut ls = [0u8; waves::EVENTS];
@@ -143,7 +143,7 @@ pub extern "C" fn lutemeteor_waveforms(
     counts: &mut [u64],
     numbers: &mut [u64],
 ) -> u64
-    ensures { Sketches (waveformsOf text.now asked.now times.old letters.old counts.old) times.old times.new letters.old letters.new counts.old counts.new numbers.old result numbers.new }
+    ensures { Sketches (waveforms_of text.now asked.now times.old letters.old counts.old) times.old times.new letters.old letters.new counts.old counts.new numbers.old result numbers.new }
 {
     match services::plotted(text, asked, 1 <= numbers.len(), times, letters, counts) {
         Charted::Refused(n, p) => pack(n, p),
@@ -187,7 +187,7 @@ pub extern "C" fn lutemeteor_index(text: &[u8], buffer: &mut [u8], numbers: &mut
 // Does an index belong to a text? 0, or the refusal.
 #[unsafe(no_mangle)]
 pub extern "C" fn lutemeteor_belongs(text: &[u8], bytes: &[u8]) -> u64
-    ensures { result ≡ packed (belongsTo text.now bytes.now) }
+    ensures { result ≡ packed (belongs_to text.now bytes.now) }
 {
     match services::belongs(text, bytes) {
         Belonging::Refused(n, p) => pack(n, p),
@@ -203,7 +203,7 @@ pub extern "C" fn lutemeteor_holds(
     cycle: usize,
     numbers: &mut [u64],
 ) -> u64
-    ensures { Hands 2 holder_two (holdsIn text.now bytes.now cycle) numbers.old result numbers.new }
+    ensures { Hands 2 holder_two (holds_in text.now bytes.now cycle) numbers.old result numbers.new }
 {
     match services::holds(text, bytes, cycle) {
         Holding::Refused(n, p) => pack(n, p),
@@ -215,7 +215,7 @@ pub extern "C" fn lutemeteor_holds(
 // A hurt text saved where it stands: its overwritten spans, two numbers for each, and how many there are. A buffer without room for its part is 19.
 #[unsafe(no_mangle)]
 pub extern "C" fn lutemeteor_save(text: &mut [u8], spans: &mut [u64], numbers: &mut [u64]) -> u64
-    ensures { Restores (saveOf text.old spans.old) text.old text.new spans.old spans.new numbers.old result numbers.new }
+    ensures { Restores (save_of text.old spans.old) text.old text.new spans.old spans.new numbers.old result numbers.new }
 {
     match services::save_text(text, 1 <= numbers.len(), spans) {
         Saved::Refused(n, p) => pack(n, p),
@@ -426,7 +426,7 @@ pub extern "C" fn lutemeteor_intake(state: &mut [u64], chunk: &[u8], store: &mut
 // The end of a raw text. A state of less than six numbers is 19.
 #[unsafe(no_mangle)]
 pub extern "C" fn lutemeteor_intake_close(state: &mut [u64], store: &mut [u8]) -> u64
-    ensures { Carries closedOf state.old store.old result state.new store.new }
+    ensures { Carries closed_of state.old store.old result state.new store.new }
 {
     if state.len() < STATE {
         return pack(NO_ROOM, 0);

@@ -7,7 +7,7 @@ ghost use Rattle.meaning.specs.Bounds.{cycles_most};
 ghost use Rattle.words.specs.Table.{name_of};
 ghost use Rattle.words.specs.Values.{told};
 ghost use Rattle.folded.specs.Pieces.{laid};
-ghost use Rattle.folded.specs.Flat.{loses as losesOf, same_row, chooses, repeats, valued};
+ghost use Rattle.folded.specs.Flat.{loses as loses_of, same_row, chooses, repeats, valued};
 ghost use Rattle.folded.specs.Layout.{name_at, vector_put, line_put};
 ghost use Rattle.folded.specs.Walk.{opened, closed, flushed};
 ghost use Rattle.pens.specs.Pens.{Writes};
@@ -39,7 +39,7 @@ pub struct Folding {
 // Does some pin go from assigned to unassigned?
 fn loses(old: &[u8], new: &[u8]) -> bool
     requires { length old.now ≡ length new.now }
-    ensures { result ≡ losesOf old.now new.now }
+    ensures { result ≡ loses_of old.now new.now }
 {
     let mut i = 0;
     while i < old.len() {

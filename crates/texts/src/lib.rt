@@ -7,7 +7,7 @@ ghost use Rattle.tokens.specs.Refusals.{text_most};
 ghost use Rattle.meaning.specs.Bounds.{signals_most, patterns_most, list_most};
 ghost use Rattle.meaning.specs.Reader.{refuse};
 ghost use Rattle.meaning.specs.Statements.{Decls, Env};
-ghost use Rattle.meaning.specs.Document.{Read, document as documentDue, patterns as patterns_due, pattern as patternDue};
+ghost use Rattle.meaning.specs.Document.{Read, document as document_due, patterns as patterns_due, pattern as pattern_due};
 ghost use Rattle.meaning.specs.Meaning.{given, answering, run_of};
 ghost use Rattle.words.specs.Cursor.{stop_no};
 ghost use Rattle.timing.specs.Marks.{table_size};
@@ -103,7 +103,7 @@ fn pattern<'a>(
     used: &mut [u8],
 ) -> Cursor
     requires { Described text.now places.now lists.now tplaces.now book.old rows.now known × (count ≤ patterns_most) × (length row.old ≡ row_length) × (length args.old ≡ signals_most * 2) × (length used.old ≡ table_size) }
-    ensures { (length row.new ≡ row_length) × (length args.new ≡ signals_most * 2) × ((used₀ : List ℕ) (e : Env) (b : Tok) (ps : Decls) → Patterned text.now places.now lists.now tplaces.now book.old rows.now known count e b used₀ used.old ps → Makes text.now c (patternDue e b ps) result (Patterned text.now places.now lists.now tplaces.now book.new rows.now known (count + 1) e b used₀ used.new)) × Grows used.old used.new }
+    ensures { (length row.new ≡ row_length) × (length args.new ≡ signals_most * 2) × ((used₀ : List ℕ) (e : Env) (b : Tok) (ps : Decls) → Patterned text.now places.now lists.now tplaces.now book.old rows.now known count e b used₀ used.old ps → Makes text.now c (pattern_due e b ps) result (Patterned text.now places.now lists.now tplaces.now book.new rows.now known (count + 1) e b used₀ used.new)) × Grows used.old used.new }
 {
     let a = words::due(text, c, b"Pattern");
     let b = words::refuse_if(a, PATTERNS <= count, TOO_MANY, c.at);
@@ -311,7 +311,7 @@ fn run_of<'a>(
 
 // What refuses a text that could not be read: a fault of its bytes comes first.
 fn unread(text: &[u8], c: Cursor) -> Total
-    ensures { (c.no ≡ 0 → ⊥) → documentDue (toks text.now 0) ≡ refuse c.no c.at → (d : Read) → Tells (sound text.now) (sound_of d) result }
+    ensures { (c.no ≡ 0 → ⊥) → document_due (toks text.now 0) ≡ refuse c.no c.at → (d : Read) → Tells (sound text.now) (sound_of d) result }
 {
     match tokens::fault_in(text) {
         tokens::Fault::Clean => refused(c.no, c.at),

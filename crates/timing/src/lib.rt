@@ -4,9 +4,9 @@
 
 ghost use Rattle.std.specs.Prelude.{◌≡◌, ℕ, ◌+◌, ◌*◌, ◌≤◌, ◌<◌, min, Bool, true, false, cond, not, ◌&&◌, List, [], ◌∷◌, ◌++◌, length, get_or, eqb};
 ghost use Rattle.meaning.specs.Bounds.{entry_most, signals_most, tables_most};
-ghost use Rattle.meaning.specs.Lists.{has, repeats as repeatsOf};
+ghost use Rattle.meaning.specs.Lists.{has, repeats as repeats_of};
 ghost use Rattle.meaning.specs.Reader.{Reader};
-ghost use Rattle.meaning.specs.Timing.{drives as drivesOf, compares as comparesOf, event_letter, letter_due, letters as letters_of, spread, Events, Wave, Tables as TablesOf, counted_most, one_event, event as eventOf, wave_char, all_chars, blanks, entry as entry_of, waveforms as waveformsOf, table as table_of, timing as timingOf};
+ghost use Rattle.meaning.specs.Timing.{drives as drives_of, compares as compares_of, event_letter, letter_due, letters as letters_of, spread, Events, Wave, Tables as TablesOf, counted_most, one_event, event as event_of, wave_char, all_chars, blanks, entry as entry_of, waveforms as waveforms_of, table as table_of, timing as timing_of};
 ghost use Rattle.words.specs.Cursor.{Goes, alive};
 ghost use Rattle.words.specs.Values.{told};
 ghost use Rattle.signals.specs.Names.{list_at, names_of, Chained, Sized, names_most, row_length};
@@ -25,13 +25,13 @@ const BAD_WAVEFORM: u8 = 11;
 // ---- letters of events
 
 pub fn drives(e: u8) -> bool
-    ensures { result ≡ drivesOf e }
+    ensures { result ≡ drives_of e }
 {
     (68 == e) | ((85 == e) | ((90 == e) | ((80 == e) | false)))
 }
 
 pub fn compares(e: u8) -> bool
-    ensures { result ≡ comparesOf e }
+    ensures { result ≡ compares_of e }
 {
     (76 == e)
         | ((72 == e)
@@ -227,7 +227,7 @@ fn one_event(text: &[u8], c: words::Cursor, n: usize, times: Times) -> TimesRead
 // An event; one too many is refused at its quote.
 fn event(text: &[u8], c: words::Cursor, n: usize, times: Times) -> TimesRead
     requires { n ≤ entry_most }
-    ensures { (s : Events) → Timed n times.count times.least s → Makes text.now c (eventOf n s) result.cursor (Timed n result.times.count result.times.least) }
+    ensures { (s : Events) → Timed n times.count times.least s → Makes text.now c (event_of n s) result.cursor (Timed n result.times.count result.times.least) }
 {
     if words::is(text, c, b"'") & (ENTRY <= times.count) {
         let d = words::due(text, c, b"'");
@@ -258,7 +258,7 @@ fn events(text: &[u8], c: words::Cursor, n: usize) -> words::Cursor
 
 // Does a byte stand there twice?
 fn repeats(w: &[u8]) -> bool
-    ensures { result ≡ repeatsOf w.now }
+    ensures { result ≡ repeats_of w.now }
 {
     let mut i = 0;
     while i < w.len() {
@@ -491,7 +491,7 @@ fn waveforms<'a>(
     watch: Watch,
 ) -> Seen
     requires { (length table.old ≡ table_size) × (Sized places.now lists.now × Chained text.now places.now names) × AllBelow (names_of text.now places.now lists.now names) × Described table.old }
-    ensures { (here : Bool) (ws : List Wave) → Noted text.now here watch table.old x.sight ws → Makes text.now x.cursor (waveformsOf (names_of text.now places.now lists.now names) ws) result.cursor (Noted text.now here watch table.new result.sight) }
+    ensures { (here : Bool) (ws : List Wave) → Noted text.now here watch table.old x.sight ws → Makes text.now x.cursor (waveforms_of (names_of text.now places.now lists.now names) ws) result.cursor (Noted text.now here watch table.new result.sight) }
 {
     let old = signals::old_name(text, x.cursor, places, names);
     let cursor = words::due(text, old.cursor, b"{");
@@ -606,7 +606,7 @@ pub fn timing<'a>(
     requires tplaces_len { (length tplaces.old ≡ tables_most * 2) × (length waves.old ≡ tables_most * table_size) × Sized places.now lists.now }
     requires by_index { (i : ℕ) → get_or waves.old i 0 ≡ 0 }
     requires all_below { alive c ≡ true → AllBelow (names_of text.now places.now lists.now names) × Chained text.now places.now names }
-    ensures { Makes text.now c (timingOf (names_of text.now places.now lists.now names)) result.cursor (Kept text.now tplaces.new waves.new result.count watch result.found result.place) }
+    ensures { Makes text.now c (timing_of (names_of text.now places.now lists.now names)) result.cursor (Kept text.now tplaces.new waves.new result.count watch result.found result.place) }
 {
     if c.no != 0 {
         return Tables {

@@ -4,13 +4,13 @@
 ghost use Rattle.std.specs.Prelude.{◌≡◌, ◌≤◌, ◌<◌, List, [], length};
 ghost use Rattle.tokens.specs.Tokens.{Toks};
 ghost use Rattle.meaning.specs.Bounds.{signals_most};
-ghost use Rattle.meaning.specs.Reader.{until as untilOf};
-ghost use Rattle.meaning.specs.Timing.{Event, Wave, Tables, waveforms as waveformsOf, table as table_of, timing as timingOf};
+ghost use Rattle.meaning.specs.Reader.{until as until_of};
+ghost use Rattle.meaning.specs.Timing.{Event, Wave, Tables, waveforms as waveforms_of, table as table_of, timing as timing_of};
 ghost use Rattle.meaning.specs.Meaning.{given, Meaning, meaning};
 ghost use Rattle.signals.specs.Names.{names_of};
 ghost use Rattle.waves.specs.Waves.{EntryAt};
 ghost use Rattle.folded.specs.Pieces.{laid, each};
-ghost use Rattle.folded.specs.Flat.{characters, entries_of, chart as chartOf, charts_from, sheets, flat};
+ghost use Rattle.folded.specs.Flat.{characters, entries_of, chart as chart_of, charts_from, sheets, flat};
 ghost use Rattle.folded.specs.Layout.{event_put, entry_put, chart_put, timing_put};
 ghost use Rattle.pens.specs.Pens.{Writes};
 ghost use Rattle.spots.specs.Answers.{Answers, Behind};
@@ -78,7 +78,7 @@ fn chart<'a>(
 ) -> Pen
     requires spots_len { (length spots.now ≡ spots_most) × (s < signals_most) × (length chars.now ≤ bytes_most) }
     requires spots { (ws : List Wave) × Spots text.now spots.now ws }
-    ensures { (ws : List Wave) → Spots text.now spots.now ws → Writes page.old pen (laid (each chart_put (chartOf name.now s (entries_of s ws chars.now) []) [])) page.new result }
+    ensures { (ws : List Wave) → Spots text.now spots.now ws → Writes page.old pen (laid (each chart_put (chart_of name.now s (entries_of s ws chars.now) []) [])) page.new result }
 {
     let first = next(spots, chars, s, 0);
     if chars.len() <= first {
@@ -151,8 +151,8 @@ fn waveforms<'a>(
     count: usize,
 ) -> Sheet
     requires listed { Listed lists.now names × (count ≤ signals_most) }
-    requires answers { (ws : List Wave) × (us : Toks) × Answers text.now c (untilOf "}" (waveformsOf (names_of text.now places.now lists.now names)) []) ws us }
-    ensures { (ws : List Wave) (us : Toks) → Answers text.now c (untilOf "}" (waveformsOf (names_of text.now places.now lists.now names)) []) ws us → Behind text.now result.cursor us × Writes page.old pen (charted (chartsFrom 0 (signalsIn text.now places.now count) ws)) page.new result.pen }
+    requires answers { (ws : List Wave) × (us : Toks) × Answers text.now c (until_of "}" (waveformsOf (names_of text.now places.now lists.now names)) []) ws us }
+    ensures { (ws : List Wave) (us : Toks) → Answers text.now c (until_of "}" (waveformsOf (names_of text.now places.now lists.now names)) []) ws us → Behind text.now result.cursor us × Writes page.old pen (charted (chartsFrom 0 (signalsIn text.now places.now count) ws)) page.new result.pen }
 {
     let mut spots = [0usize; spots::SPOTS];
     let cursor = spots::table_spots(text, c, places, lists, names, &mut spots);
@@ -206,8 +206,8 @@ fn others<'a>(
     count: usize,
 ) -> Pen
     requires listed { Listed lists.now names × (count ≤ signals_most) }
-    requires answers { (tabs : Tables) × (it : Tables) × (us : Toks) × Answers text.now c (untilOf "}" (table_of (names_of text.now places.now lists.now names)) tabs) it us }
-    ensures { (tabs it : Tables) (us : Toks) → Answers text.now c (untilOf "}" (table_of (names_of text.now places.now lists.now names)) tabs) it us → MoreSheets page.old pen (signalsIn text.now places.now count) tabs it page.new result }
+    requires answers { (tabs : Tables) × (it : Tables) × (us : Toks) × Answers text.now c (until_of "}" (table_of (names_of text.now places.now lists.now names)) tabs) it us }
+    ensures { (tabs it : Tables) (us : Toks) → Answers text.now c (until_of "}" (table_of (names_of text.now places.now lists.now names)) tabs) it us → MoreSheets page.old pen (signalsIn text.now places.now count) tabs it page.new result }
 {
     let mut cursor = c;
     let mut p = pen;
@@ -231,8 +231,8 @@ pub fn tables<'a>(
     count: usize,
 ) -> Pen
     requires listed { Listed lists.now names × (count ≤ signals_most) }
-    requires answers { (it : Tables) × (us : Toks) × Answers text.now c (timingOf (names_of text.now places.now lists.now names)) it us }
-    ensures { (it : Tables) (us : Toks) → Answers text.now c (timingOf (names_of text.now places.now lists.now names)) it us → Writes page.old pen (laid (timing_put (sheets (signals_in text.now places.now count) it) [])) page.new result }
+    requires answers { (it : Tables) × (us : Toks) × Answers text.now c (timing_of (names_of text.now places.now lists.now names)) it us }
+    ensures { (it : Tables) (us : Toks) → Answers text.now c (timing_of (names_of text.now places.now lists.now names)) it us → Writes page.old pen (laid (timing_put (sheets (signals_in text.now places.now count) it) [])) page.new result }
 {
     let a = words::due(text, c, b"Timing");
     let b = words::due(text, a, b"{");

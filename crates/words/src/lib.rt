@@ -6,10 +6,10 @@ ghost use Rattle.std.proofs.Math.Option.{Option};
 ghost use Rattle.tokens.specs.Written.{same};
 ghost use Rattle.tokens.specs.Bytes.{wordy, digit};
 ghost use Rattle.tokens.specs.Tokens.{Tok};
-ghost use Rattle.meaning.specs.Reader.{any, ahead_of, due_of, is_word, word as wordDue};
+ghost use Rattle.meaning.specs.Reader.{any, ahead_of, due_of, is_word, word as word_due};
 ghost use Rattle.meaning.specs.Lists.{has};
-ghost use Rattle.meaning.specs.Names.{reserved as reservedWords, among, is_name, name as name_due, find as findOf, new_name, old_name, number as number_of, within as withinDue, number_in};
-ghost use Rattle.meaning.specs.Timing.{wave_char, all_chars, unit as unit_of, picoseconds, quoted as quotedDue, counted as counted_of, time_of, signed_quoted};
+ghost use Rattle.meaning.specs.Names.{reserved as reserved_words, among, is_name, name as name_due, find as find_of, new_name, old_name, number as number_of, within as within_due, number_in};
+ghost use Rattle.meaning.specs.Timing.{wave_char, all_chars, unit as unit_of, picoseconds, quoted as quoted_due, counted as counted_of, time_of, signed_quoted};
 ghost use Rattle.meaning.specs.Bounds.{time_most};
 ghost use Rattle.words.specs.Cursor.{span, ahead as ahead_tok, stream, alive, Stands, Goes, Checked, taking};
 ghost use Rattle.words.specs.Values.{most, told, capped, value_of, Longer};
@@ -216,7 +216,7 @@ pub fn is_word(w: &[u8]) -> bool
 
 // A word is due.
 pub fn word(text: &[u8], c: Cursor) -> Cursor
-    ensures { Goes text.now c wordDue result (ahead_tok text.now c) }
+    ensures { Goes text.now c word_due result (ahead_tok text.now c) }
 {
     expect(text, c, is_word(bytes_of(text, c.at, c.end)))
 }
@@ -263,7 +263,7 @@ pub fn all_chars(w: &[u8]) -> bool
 // Is w one of the words of at most 4 bytes that are no names?
 fn reserved_short(w: &[u8]) -> bool
     requires { length w.now ≤ 4 }
-    ensures { result ≡ among reservedWords w.now }
+    ensures { result ≡ among reserved_words w.now }
 {
     let n = w.len();
     match n {
@@ -279,7 +279,7 @@ fn reserved_short(w: &[u8]) -> bool
 fn reserved_middle(w: &[u8]) -> bool
     requires in_bounds { 4 < length w.now }
     requires w_len_bound { length w.now ≤ 7 }
-    ensures { result ≡ among reservedWords w.now }
+    ensures { result ≡ among reserved_words w.now }
 {
     let n = w.len();
     match n {
@@ -292,7 +292,7 @@ fn reserved_middle(w: &[u8]) -> bool
 // Is w one of those of more bytes?
 fn reserved_long(w: &[u8]) -> bool
     requires { 7 < length w.now }
-    ensures { result ≡ among reservedWords w.now }
+    ensures { result ≡ among reserved_words w.now }
 {
     let n = w.len();
     match n {
@@ -307,7 +307,7 @@ fn reserved_long(w: &[u8]) -> bool
 
 // Is w one of the words that are no names? Only words of its length are looked at.
 pub fn reserved(w: &[u8]) -> bool
-    ensures { result ≡ among reservedWords w.now }
+    ensures { result ≡ among reserved_words w.now }
 {
     let n = w.len();
     if n <= 4 {
@@ -480,7 +480,7 @@ pub fn is_named<'a>(text: &'a [u8], w: &'a [u8], last: u8, places: &'a [usize], 
 
 // The number of the first of `count` names that is w; `count` where none is. The slow way, for words without a byte and tables cut short.
 fn find_any<'a>(text: &'a [u8], w: &'a [u8], places: &'a [usize], count: usize) -> usize
-    ensures { told (ltb result count) result ≡ findOf (names text.now places.now count) w.now }
+    ensures { told (ltb result count) result ≡ find_of (names text.now places.now count) w.now }
 {
     let mut i = 0;
     while i < count {
@@ -494,7 +494,7 @@ fn find_any<'a>(text: &'a [u8], w: &'a [u8], places: &'a [usize], count: usize) 
 
 // The number of the first of `count` names that is w; `count` where none is.
 pub fn find<'a>(text: &'a [u8], w: &'a [u8], places: &'a [usize], count: usize) -> usize
-    ensures { told (ltb result count) result ≡ findOf (names text.now places.now count) w.now }
+    ensures { told (ltb result count) result ≡ find_of (names text.now places.now count) w.now }
 {
     let n = w.len();
     if (n == 0) | (places.len() / 2 < count) {
@@ -513,7 +513,7 @@ pub fn find<'a>(text: &'a [u8], w: &'a [u8], places: &'a [usize], count: usize) 
 
 // A new name: it was looked up among `count` names, and `number` is past theirs where none is it.
 pub fn unused_name(text: &[u8], c: Cursor, number: usize, count: usize) -> Cursor
-    ensures { (ns : List (Tok × ℕ)) → told (ltb number count) number ≡ findOf ns (ahead_tok text.now c).word → Goes text.now c (new_name ns) result (ahead_tok text.now c) }
+    ensures { (ns : List (Tok × ℕ)) → told (ltb number count) number ≡ find_of ns (ahead_tok text.now c).word → Goes text.now c (new_name ns) result (ahead_tok text.now c) }
 {
     let r = name(text, c);
     refuse_if(r, number < count, USED, c.at)
@@ -529,7 +529,7 @@ pub fn new_name<'a>(text: &'a [u8], c: Cursor, places: &'a [usize], count: usize
 
 // A known name: it was looked up among `count` names, and `number` is past theirs where none is it.
 pub fn known_name(text: &[u8], c: Cursor, number: usize, count: usize) -> Named
-    ensures { (ns : List (Tok × ℕ)) → told (ltb number count) number ≡ findOf ns (ahead_tok text.now c).word → Goes text.now c (old_name ns) result.cursor (ahead_tok text.now c, result.number) }
+    ensures { (ns : List (Tok × ℕ)) → told (ltb number count) number ≡ find_of ns (ahead_tok text.now c).word → Goes text.now c (old_name ns) result.cursor (ahead_tok text.now c, result.number) }
 {
     let at = c.at;
     let right = is_name(bytes_of(text, at, c.end));
@@ -641,7 +641,7 @@ pub fn time(w: &[u8]) -> Value
 
 // Refused with 9 at p, unless it is a number from lo to hi.
 pub fn within(c: Cursor, v: Value, lo: u32, hi: u32, p: usize) -> Cursor
-    ensures { (text : List ℕ) (o : Option ℕ) → value_of v ≡ capped o → Goes text c (withinDue lo hi o p) result v.n }
+    ensures { (text : List ℕ) (o : Option ℕ) → value_of v ≡ capped o → Goes text c (within_due lo hi o p) result v.n }
 {
     let n = v.n;
     let right = v.right & (lo as u64 <= n) & (n <= hi as u64);
@@ -666,7 +666,7 @@ pub const START: u64 = TIME_MOST as u64;
 
 // A time in quotes, from lo on, is due.
 pub fn quoted(text: &[u8], c: Cursor, lo: u32) -> Numbered
-    ensures { Goes text.now c (quotedDue lo) result.cursor result.n }
+    ensures { Goes text.now c (quoted_due lo) result.cursor result.n }
 {
     let d = due(text, c, b"'");
     let e = word(text, d);
