@@ -141,8 +141,10 @@ def clauses(text, new, moved):
         else:
             depth = 0
             while True:
-                depth += {"{": 1, "}": -1}.get(text[end], 0)
-                end += 1
+                string = re.match(r"\"(?:[^\"\\]|\\.)*\"", text[end:])
+                end += string.end() if string else 1
+                if not string:
+                    depth += {"{": 1, "}": -1}.get(text[end - 1], 0)
                 if depth == 0:
                     break
         out.append(spelled(text[at:end], new, moved))

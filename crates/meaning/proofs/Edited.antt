@@ -67,7 +67,7 @@ module _ (front block back name : List ℕ) (P : PatternBlock (front ++ (block +
 
   -- and `Pattern NAME {` stands at its beginning
   at_block : AtBlock (tok P.word (tok P.named (tok P.brace P.inside)))
-  at_block = (P.is_pattern, (ap is_word P.is_named ∙ P.is__is_word, P.is_brace))
+  at_block = (P.is_pattern, (ap is_word P.is_named ∙ P.is_word_lem, P.is_brace))
 
   opens : Opens name (tok P.word (tok P.named (tok P.brace P.inside))) P.inside
   opens = record { word = P.word; named = P.named; brace = P.brace; is = refl; is_named = P.is_named }

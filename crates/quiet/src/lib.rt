@@ -39,8 +39,8 @@ struct Look {
 
 // Further events of an entry, up to its closing brace.
 fn events(text: &[u8], c: Cursor, period: u64) -> Look
-    requires { (n : ℕ) × (0 < n) × (n ≤ entry_most) × Coming text.now c (until_of "}" (eventOf n)) (Lined period n) }
-    ensures { (n : ℕ) → 0 < n → n ≤ entry_most → Keeps text.now c (until_of "}" (eventOf n)) (Lined period n) result }
+    requires { (n : ℕ) × (0 < n) × (n ≤ entry_most) × Coming text.now c (until_of "}" (event_of n)) (Lined period n) }
+    ensures { (n : ℕ) → 0 < n → n ≤ entry_most → Keeps text.now c (until_of "}" (event_of n)) (Lined period n) result }
 {
     let mut cursor = c;
     while words::until(text, cursor, b"}") {
@@ -110,8 +110,8 @@ fn named(text: &[u8], c: Cursor, period: u64) -> Look
 
 // The waveforms of a table of this period, up to their closing brace.
 fn waveforms(text: &[u8], c: Cursor, period: u64) -> Look
-    requires { (ns : Names) × Coming text.now c (until_of "}" (waveformsOf ns)) (WavesIn period) }
-    ensures { (ns : Names) → Keeps text.now c (until_of "}" (waveformsOf ns)) (WavesIn period) result }
+    requires { (ns : Names) × Coming text.now c (until_of "}" (waveforms_of ns)) (WavesIn period) }
+    ensures { (ns : Names) → Keeps text.now c (until_of "}" (waveforms_of ns)) (WavesIn period) result }
 {
     let mut cursor = c;
     while words::until(text, cursor, b"}") {

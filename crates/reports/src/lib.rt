@@ -237,7 +237,7 @@ fn all_records<'a>(
     places: &'a [usize],
     count: usize,
 ) -> Cursor
-    ensures { Passes report.now c (until "}" (oneRecord (names text.now places.now count)) []) result }
+    ensures { Passes report.now c (until "}" (one_record (names text.now places.now count)) []) result }
 {
     let mut cursor = c;
     while words::until(report, cursor, b"}") {

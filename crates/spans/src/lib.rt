@@ -304,8 +304,8 @@ fn waveforms<'a>(
     lasts: &mut [u32],
 ) -> Cursor
     requires firsts_len { (length firsts.old ≡ times_most) × (length lasts.old ≡ times_most) × (j < tables_most) × Listed lists.now names }
-    requires answers { (ws : List Wave) × (us : Toks) × Answers text.now c (until_of "}" (waveformsOf (names_of text.now places.now lists.now names)) []) ws us }
-    ensures { (ws : List Wave) (us : Toks) → Answers text.now c (until_of "}" (waveformsOf (names_of text.now places.now lists.now names)) []) ws us → Clear j firsts.old → Clear j lasts.old → Behind text.now result us × (Upto firstTime j ws tableWide firsts.old firsts.new × Upto lastTime j ws tableWide lasts.old lasts.new) }
+    requires answers { (ws : List Wave) × (us : Toks) × Answers text.now c (until_of "}" (waveforms_of (names_of text.now places.now lists.now names)) []) ws us }
+    ensures { (ws : List Wave) (us : Toks) → Answers text.now c (until_of "}" (waveforms_of (names_of text.now places.now lists.now names)) []) ws us → Clear j firsts.old → Clear j lasts.old → Behind text.now result us × (Upto first_time j ws table_wide firsts.old firsts.new × Upto last_time j ws table_wide lasts.old lasts.new) }
 {
     let mut spots = [0usize; spots::SPOTS];
     let cursor = spots::table_spots(text, c, places, lists, names, &mut spots);

@@ -23,8 +23,8 @@ pub const SPOTS: usize = sets::MOST * BYTES;
 
 // Further events of an entry, up to its closing brace.
 fn events(text: &[u8], c: Cursor) -> Cursor
-    requires { (n : ℕ) × (s : Events) × (es : Events) × (us : Toks) × (0 < n) × (n ≤ entry_most) × (length s.0 ≡ n) × Answers text.now c (until_of "}" (eventOf n) s) es us }
-    ensures { (n : ℕ) (s es : Events) (us : Toks) → 0 < n → n ≤ entry_most → length s.0 ≡ n → Answers text.now c (until_of "}" (eventOf n) s) es us → Behind text.now result us × (length es.0 ≡ n) }
+    requires { (n : ℕ) × (s : Events) × (es : Events) × (us : Toks) × (0 < n) × (n ≤ entry_most) × (length s.0 ≡ n) × Answers text.now c (until_of "}" (event_of n) s) es us }
+    ensures { (n : ℕ) (s es : Events) (us : Toks) → 0 < n → n ≤ entry_most → length s.0 ≡ n → Answers text.now c (until_of "}" (event_of n) s) es us → Behind text.now result us × (length es.0 ≡ n) }
 {
     let mut cursor = c;
     while words::until(text, cursor, b"}") {
@@ -115,8 +115,8 @@ pub fn table_spots<'a>(
     spots: &mut [usize],
 ) -> Cursor
     requires spots_len { (length spots.old ≡ spots_most) × Listed lists.now names }
-    requires spots { (ws : List Wave) × (a : List Wave) × (us : Toks) × Spots text.now spots.old ws × Answers text.now c (until_of "}" (waveformsOf (names_of text.now places.now lists.now names)) ws) a us }
-    ensures { (ws a : List Wave) (us : Toks) → Spots text.now spots.old ws → Answers text.now c (until_of "}" (waveformsOf (names_of text.now places.now lists.now names)) ws) a us → Behind text.now result us × Spots text.now spots.new a }
+    requires spots { (ws : List Wave) × (a : List Wave) × (us : Toks) × Spots text.now spots.old ws × Answers text.now c (until_of "}" (waveforms_of (names_of text.now places.now lists.now names)) ws) a us }
+    ensures { (ws a : List Wave) (us : Toks) → Spots text.now spots.old ws → Answers text.now c (until_of "}" (waveforms_of (names_of text.now places.now lists.now names)) ws) a us → Behind text.now result us × Spots text.now spots.new a }
 {
     let mut cursor = c;
     while words::until(text, cursor, b"}") {

@@ -151,8 +151,8 @@ fn waveforms<'a>(
     count: usize,
 ) -> Sheet
     requires listed { Listed lists.now names × (count ≤ signals_most) }
-    requires answers { (ws : List Wave) × (us : Toks) × Answers text.now c (until_of "}" (waveformsOf (names_of text.now places.now lists.now names)) []) ws us }
-    ensures { (ws : List Wave) (us : Toks) → Answers text.now c (until_of "}" (waveformsOf (names_of text.now places.now lists.now names)) []) ws us → Behind text.now result.cursor us × Writes page.old pen (charted (chartsFrom 0 (signalsIn text.now places.now count) ws)) page.new result.pen }
+    requires answers { (ws : List Wave) × (us : Toks) × Answers text.now c (until_of "}" (waveforms_of (names_of text.now places.now lists.now names)) []) ws us }
+    ensures { (ws : List Wave) (us : Toks) → Answers text.now c (until_of "}" (waveforms_of (names_of text.now places.now lists.now names)) []) ws us → Behind text.now result.cursor us × Writes page.old pen (charted (charts_from 0 (signals_in text.now places.now count) ws)) page.new result.pen }
 {
     let mut spots = [0usize; spots::SPOTS];
     let cursor = spots::table_spots(text, c, places, lists, names, &mut spots);
@@ -207,7 +207,7 @@ fn others<'a>(
 ) -> Pen
     requires listed { Listed lists.now names × (count ≤ signals_most) }
     requires answers { (tabs : Tables) × (it : Tables) × (us : Toks) × Answers text.now c (until_of "}" (table_of (names_of text.now places.now lists.now names)) tabs) it us }
-    ensures { (tabs it : Tables) (us : Toks) → Answers text.now c (until_of "}" (table_of (names_of text.now places.now lists.now names)) tabs) it us → MoreSheets page.old pen (signalsIn text.now places.now count) tabs it page.new result }
+    ensures { (tabs it : Tables) (us : Toks) → Answers text.now c (until_of "}" (table_of (names_of text.now places.now lists.now names)) tabs) it us → MoreSheets page.old pen (signals_in text.now places.now count) tabs it page.new result }
 {
     let mut cursor = c;
     let mut p = pen;
