@@ -1,11 +1,10 @@
 -- `extend` meets its contract: until the last one, every run is as long as all that is there, so that it ends as the bytes before the place do.
 use Prim.Native.Nat.{◌+◌, ◌-◌, min}
 use native.Mathlib.Omega.{arith}
-use mathlib.Core.Logic.{⊎_elim}
 use mathlib.Core.Path.{◌≡◌}
 use Rattle.repeats.proofs.Copying.{extends_none, extends_more, extends_all, whole_none, whole_more}
-use Rattle.repeats.proofs.extend.Tie as tie
 use Rattle.repeats.proofs.extend.Goals as goal
+use Rattle.repeats.proofs.extend.Goals.{Joined-count-done, then-count-done, else-count-done}
 
 pub loop-done-init : goal.loop-done-init
 loop-done-init c = (omega arith, extends_none, λ h. whole_none)
@@ -26,10 +25,10 @@ pub overflow_add-at : goal.overflow_add-at
 overflow_add-at c = omega arith
 
 -- as much as is there, or as is left
-run_is : (c : tie.Joined-count-done goal.the-invariant-loop-done goal.the-decreases-loop-done)
+run_is : (c : Joined-count-done)
     → c.if-count-done.run
     ≡ min (c.args.step + c.loop-done.done) (c.args.count - c.loop-done.done)
-run_is c = ⊎_elim (λ w. omega arith) (λ w. omega arith) c.if-count-done.branch
+run_is c = elim c.if-count-done.branch [ then-count-done w ↦ omega arith | else-count-done w ↦ omega arith ]
 
 pub copy-requires : goal.copy-requires
 copy-requires c = let is = run_is c.before in (omega arith, omega (arith, c.loop-done.invariant.1.long))
