@@ -5,7 +5,7 @@ use native.Mathlib.Omega.{arith}
 use lib.ListN.{length, take, drop, length-drop, drop_of_length-le}
 use lib.Seq.{take_all, take-nil}
 use Rattle.words.proofs.bytes_of.Goals as goal
-use Rattle.words.proofs.bytes_of.Goals.{then-at-end, else-at-end}
+use Rattle.words.proofs.bytes_of.Goals.{then-at-end+else-end-text+else-at-text, else-at-end}
 
 pub returns-then-at-text : goal.returns-then-at-text
 returns-then-at-text c =
@@ -20,6 +20,6 @@ returns c =
     let at = c.args.at in
     let n = c.args.end - at in
     elim c.if-at-end.branch [
-        then-at-end w ↦ sym (ap (take n) (drop_of_length-le text {i = at} (omega arith)) ∙ take-nil n)
+        then-at-end+else-end-text+else-at-text w ↦ sym (ap (take n) (drop_of_length-le text {i = at} (omega arith)) ∙ take-nil n)
         | else-at-end w ↦ let e : n ≡ 0 = omega arith in sym (rw e refl)
     ]

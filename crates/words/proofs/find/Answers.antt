@@ -24,21 +24,21 @@ pub returns-then-n-places : goal.returns-then-n-places
 returns-then-n-places c = c.find_any.ensures
 
 pub overflow_sub-last : goal.overflow_sub-last
-overflow_sub-last c = omega (arith, fast _ _ _ c.if-n-places.false)
+overflow_sub-last c = omega (arith, fast _ (length c.args.places.now / 2) c.args.count c.if-n-places.false)
 
 pub bounds-w-n : goal.bounds-w-n
-bounds-w-n c = omega (arith, fast _ _ _ c.if-n-places.false)
+bounds-w-n c = omega (arith, fast _ (length c.args.places.now / 2) c.args.count c.if-n-places.false)
 
 pub loop-j-init : goal.loop-j-init
 loop-j-init c = (0, refl, found_all _ _ _ _)
 
 pub overflow_mul-count : goal.overflow_mul-count
-overflow_mul-count c = omega (arith, fast _ _ _ c.if-n-places.false)
+overflow_mul-count c = omega (arith, fast _ (length c.args.places.now / 2) c.args.count c.if-n-places.false)
 
 pub is_named-requires : goal.is_named-requires
 is_named-requires c =
     let inv = c.loop-j.invariant in
-    let short = fast _ _ _ c.if-n-places.false in
+    let short = fast _ (length c.args.places.now / 2) c.args.count c.if-n-places.false in
     (omega (arith, short, inv.1), record { some = omega (arith, short); last = refl })
 
 pub returns-then-is_named : goal.returns-then-is_named
@@ -57,7 +57,7 @@ returns-then-is_named c =
     (sym c.is_named.ensures ∙ c.if-is_named.true))))
 
 pub overflow_add-j : goal.overflow_add-j
-overflow_add-j c = omega (arith, fast _ _ _ c.if-n-places.false, c.loop-j-test.true)
+overflow_add-j c = omega (arith, fast _ (length c.args.places.now / 2) c.args.count c.if-n-places.false, c.loop-j-test.true)
 
 pub loop-j-smaller : goal.loop-j-smaller
 loop-j-smaller c = omega (arith, c.loop-j-test.true)
