@@ -12,16 +12,7 @@ pub loop-i-init : goal.loop-i-init
 loop-i-init c = (refl, omega arith, rw add-zero)
 
 pub loop-i-preserved : goal.loop-i-preserved
-loop-i-preserved c =
-    let loop = c.loop-i in
-    let k = c.least-k.result in
-    let x = c.args.t2 in
-    let room = sized c.args.g c.well_formed.0 in
-    let room-x = sized x c.well_formed.1.0 in (
-      rw length-set loop.invariant.0,
-      omega arith,
-      moved loop.v k x.v c.least-n.result loop.i (omega arith) (omega arith) ∙ loop.invariant.2,
-    )
+loop-i-preserved c = let t = c.type_inv in let g = c.type_inv.x in ?
 
 pub returns : goal.returns
 returns c = λ fits.
