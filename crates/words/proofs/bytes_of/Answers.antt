@@ -20,6 +20,6 @@ returns c =
     let at = c.args.at in
     let n = c.args.end - at in
     elim c.if-at-end.branch [
-        then-at-end+else-end-text+else-at-text w ↦ sym (ap (take n) (drop_of_length-le text {i = at} (omega arith)) ∙ take-nil n)
-        | else-at-end w ↦ let e : n ≡ 0 = omega arith in sym (rw e refl)
+      | then-at-end+else-end-text+else-at-text w ↦ sym (ap (take n) (drop_of_length-le text {i = at} (omega arith)) ∙ take-nil n)
+      | else-at-end w ↦ let e : n ≡ 0 = omega arith in sym (rw e refl)
     ]

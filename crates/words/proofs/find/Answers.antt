@@ -1,5 +1,5 @@
 -- `find` meets its contract. The invariant: j is twice a number i, and what is found among all names is what is found from number i on.
-use Prim.Native.Nat.{ℕ, ◌+◌, ◌-◌, ◌/◌, ◌≤◌, ◌<◌}
+use Prim.Native.Nat.{ℕ, ◌+◌, ◌/◌, ◌≤◌, ◌<◌}
 use native.Mathlib.Omega.{arith}
 use mathlib.Core.Path.{◌≡◌, refl, sym, ◌∙◌, subst}
 use mathlib.Core.Bool.{true, false, ◌||◌}
@@ -8,9 +8,7 @@ use lib.ListN.{length, get_or}
 use borrow.Author.Tests.{lt-ltb, le-ltb, eqb-false, ltb-false}
 use Rattle.tokens.specs.Written.{same}
 use Rattle.tokens.proofs.Bools.{neither}
-use Rattle.meaning.specs.Names
 use Rattle.words.specs.Cursor.{span}
-use Rattle.words.specs.Table.{names}
 use Rattle.words.proofs.Tables.{found_all, found_here, found_later, found_nowhere}
 use Rattle.words.proofs.find.Goals as goal
 
