@@ -22,7 +22,7 @@ loop-s-preserved c =
     let inside : loop.s < length loop.row = omega (arith, x.long, c.zeros_from-n.ensures.within, c.requires.0, c.requires.1) in (
       omega arith,
       elim c.if-given-s-eq-MARK.branch [
-          then-given-s-eq-MARK+then-row-s-lt-USES_CAP w ↦
+        | then-given-s-eq-MARK+then-row-s-lt-USES_CAP w ↦
             rw w.row-is (changed_next x loop.s (omega arith) _ inside (rw (eq-eqb _ _ w.if-given-s-eq-MARK.true, lt-ltb n uses_cap w.if-row-s-lt-USES_CAP.true)))
         | then-given-s-eq-MARK+else-row-s-lt-USES_CAP w ↦
             rw w.row-is (changed_same x loop.s (omega arith) inside (rw (eq-eqb _ _ w.if-given-s-eq-MARK.true, le-ltb n uses_cap w.if-row-s-lt-USES_CAP.false)))

@@ -20,7 +20,7 @@ loop-s-preserved c =
     let inside : signals_most + loop.s < length loop.row = omega (arith, x.long, c.zeros_from-n.ensures.within, c.requires.0, c.requires.1) in (
       omega arith,
       elim c.if-given-s-eq-MARK.branch [
-          then-given-s-eq-MARK w ↦ rw w.row-is (changed_next x _ (omega arith) _ (omega arith) (rw (eq-eqb _ _ w.if-given-s-eq-MARK.true)))
+        | then-given-s-eq-MARK w ↦ rw w.row-is (changed_next x _ (omega arith) _ (omega arith) (rw (eq-eqb _ _ w.if-given-s-eq-MARK.true)))
         | else-given-s-eq-MARK w ↦ rw w.row-is (changed_same x (signals_most + loop.s) refl inside (rw (ne_eqb _ _ w.if-given-s-eq-MARK.false)))
       ],
     )

@@ -1,4 +1,4 @@
-use Prim.Native.Nat.{◌-◌}
+use Prim.Native.Nat.{◌+◌, ◌-◌, ◌*◌}
 use Rattle.tokens.specs.Tokens.{left}
 use Rattle.words.specs.Cursor.{stream}
 use Rattle.plays.specs.Plays.{ground, arrays}
@@ -12,3 +12,27 @@ invariant-statements-loop-known l =
 
 abbrev pub decreases-statements-loop-known : goal.decreases-statements-loop-known
 decreases-statements-loop-known l = left (stream l.text l.cursor)
+
+abbrev pub decreases-body_of : goal.decreases-body_of
+decreases-body_of l = 8 * l.frame.depth + 6
+
+abbrev pub decreases-looped : goal.decreases-looped
+decreases-looped l = 8 * l.frame.depth + 3
+
+abbrev pub decreases-needed_turns : goal.decreases-needed_turns
+decreases-needed_turns l = 8 * l.frame.depth + 2
+
+abbrev pub decreases-play_body : goal.decreases-play_body
+decreases-play_body l = 8 * l.frame.depth + 1
+
+abbrev pub decreases-statement : goal.decreases-statement
+decreases-statement l = 8 * l.frame.depth + 4
+
+abbrev pub decreases-statements : goal.decreases-statements
+decreases-statements l = 8 * l.frame.depth + 5
+
+abbrev pub decreases-used : goal.decreases-used
+decreases-used l = 8 * l.frame.depth + 2
+
+abbrev pub decreases-uses : goal.decreases-uses
+decreases-uses l = 8 * l.frame.depth + 3
