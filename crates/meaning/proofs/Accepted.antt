@@ -16,7 +16,7 @@ use Rattle.meaning.specs.Document.{Read, document}
 use Rattle.meaning.specs.Run.{size, visits, cycles_of}
 use Rattle.meaning.specs.Edges.{first_in_run}
 use Rattle.meaning.specs.Meaning.{Answer, given, refused, answering, run_of, first_failing, Meaning, firsts, fitting, ordered, meaning_of, judged, accept, meaning}
-use Rattle.meaning.proofs.Everywhere.{Every, runs}
+use Rattle.meaning.proofs.Everywhere.{runs}
 use Rattle.meaning.proofs.Depth.{patterns_within, run_within}
 use Rattle.meaning.proofs.Visits.{visits_by_depth}
 

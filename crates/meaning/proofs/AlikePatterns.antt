@@ -267,7 +267,7 @@ module _ (name : List ℕ) (B : Border) (is os : Toks) (x : Opens name B.first i
   agree n ts us l d vs p c ws q =
       let i = document_opens.all ts d vs p in
       let j = document_opens.all us c ws q in
-      let a = alike_opening.both n ts us l i.0 i.1 i.2 j.0 j.1 j.2 in
+      let a = (alike_opening {B = B}).both n ts us l i.0 i.1 i.2 j.0 j.1 j.2 in
       let u = bind_ok _ _ i.1 d vs i.3 in
       let v = bind_ok _ _ j.1 c ws j.3 in
       let o = patterns_others name i.0.env j.0.env a.0.env i.0.burst j.0.burst B is os x y E i.1 j.1 (before a.1.left a.1.like)

@@ -3,7 +3,7 @@ use mathlib.Core.Path.{◌≡◌}
 use Prim.Native.Nat.{ℕ}
 use native.Mathlib.Omega.{arith}
 use mathlib.Core.Bool.{Bool, true, false}
-use Rattle.meaning.specs.Reader.{Reader, refuse, ◌>>=◌}
+use Rattle.meaning.specs.Reader.{Reader, refuse}
 use Rattle.meaning.proofs.Gives.{Gives}
 
 pub gives_refuse : {A : Type 0} (P : A → Type 0) (n p : ℕ) → Gives P (λ ts. refuse n p)

@@ -2,9 +2,8 @@
 use Prim.Native.Nat.{ℕ}
 use mathlib.Core.Path.{◌≡◌, sym, ◌∙◌}
 use mathlib.Core.List.{List}
-use Rattle.tokens.specs.Tokens.{Next, next_token}
-use Rattle.meaning.specs.Meaning.{Answer}
-use Rattle.meaning.specs.Services.{Counts, check, Which, name_of, Window, window, Waveform, waveform}
+use Rattle.tokens.specs.Tokens.{next_token}
+use Rattle.meaning.specs.Services.{check, Which, name_of, window, waveform}
 
 -- any two answers that are the service's are equal
 abbrev pub Determined : {A B : Type 0} → (A → B) → Type 0

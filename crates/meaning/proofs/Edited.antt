@@ -12,7 +12,7 @@ use Rattle.tokens.specs.Written.{bytes, starts}
 use Rattle.tokens.specs.Bytes.{wordy}
 use Rattle.tokens.specs.Tokens.{Toks, tok, plain, run, lex, toks}
 use Rattle.meaning.specs.Reader.{is_word}
-use Rattle.meaning.specs.Document.{over, patterns}
+use Rattle.meaning.specs.Document.{over}
 use Rattle.meaning.specs.Meaning.{given, Meaning, meaning}
 use Rattle.meaning.specs.Edited.{PatternBlock, listed_in, listed_of, listed_patterns, OthersSame}
 use Rattle.meaning.proofs.Accepted.{accepted}

@@ -1,6 +1,6 @@
 -- Which readers take a token: what `search taking` finds.
-use mathlib.Core.Path.{◌≡◌, refl, sym, ap, ◌∙◌}
-use Prim.Native.Nat.{ℕ, zero, suc, ◌+◌, ◌≤◌, ◌<◌}
+use mathlib.Core.Path.{◌≡◌, refl}
+use Prim.Native.Nat.{ℕ, zero, suc, ◌≤◌, ◌<◌}
 use Prim.Native.String.{String}
 use mathlib.Core.Bool.{Bool, true, false, ◌&&◌}
 use mathlib.Core.Option.{Option, none, some}
@@ -10,7 +10,7 @@ use lib.Dec.{leb}
 use Rattle.tokens.specs.Written.{bytes, same}
 use Rattle.tokens.specs.Tokens.{Tok, Toks, stop, tok, left}
 use Rattle.meaning.specs.Refusals.{bad_number}
-use Rattle.meaning.specs.Reader.{Res, Reader, ok, refuse, after, ◌>>=◌, give, refuse_if, any, due_of, one_of, choose, word, ahead, if_ahead, option, while_f, while, closed, until}
+use Rattle.meaning.specs.Reader.{Res, Reader, ok, refuse, after, ◌>>=◌, give, refuse_if, any, due_of, one_of, choose, word, ahead, if_ahead, while_f, while, closed, until}
 use Rattle.meaning.specs.Names.{name, due_among, new_name, known, old_name, within, number_in}
 use Rattle.meaning.proofs.Takes.{Takes, Keeps}
 

@@ -5,7 +5,7 @@ use native.Mathlib.Nat.{add-mul, mul-suc, mul-le-mul_left, mul-le-mul, le-mul_of
 use native.Mathlib.Omega.{arith}
 use mathlib.Core.Bool.{Bool, true, false}
 use lib.Dec.{leb}
-use Rattle.meaning.specs.Body.{Way, Body, done, vec, set', inner, depth}
+use Rattle.meaning.specs.Body.{Body, done, vec, set', inner, depth}
 use Rattle.meaning.specs.Run.{size, cycles, turns_of, shift_of, visits}
 
 -- a statement of size z gone past, then v visits in what follows, of size y

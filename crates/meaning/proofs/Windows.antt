@@ -1,18 +1,17 @@
 -- Windows laid end to end from cycle 0, whatever their sizes, join to the run's rows as far as they reach, and never to one past the end.
-use mathlib.Core.Path.{◌≡◌, refl, sym, ap, ap₂, ◌∙◌, subst}
+use mathlib.Core.Path.{◌≡◌, refl, sym, ap, ap₂, ◌∙◌}
 use Prim.Native.Nat.{ℕ, zero, suc, ◌+◌, ◌-◌, ◌*◌, ◌≤◌, min, ◌<◌}
 use native.Mathlib.Numerals.{unary_clauses}
 use native.Mathlib.Omega.{arith}
 use native.Mathlib.Nat.{suc-mul, mul-le-mul_right}
-use mathlib.Core.Bool.{Bool, true, false}
+use mathlib.Core.Bool.{false}
 use mathlib.Core.List.{List, [], ◌∷◌, ◌++◌, append_assoc}
-use lib.ListN.{length, take, drop, length-take, length-drop}
-use lib.Seq.{take_all, take_at, take-add, drop-drop, length-take-le}
-use lib.Dec.{leb}
+use lib.ListN.{length, take, drop, length-drop}
+use lib.Seq.{take_at, take-add, drop-drop, length-take-le}
 use borrow.Author.Tests.{le-leb}
 use Rattle.meaning.specs.Run.{Cycle, cycles, cycles_of}
-use Rattle.meaning.specs.Meaning.{Answer, given, refused, answering, Meaning, meaning}
-use Rattle.meaning.specs.Services.{bad_mark, row, rows, row_width, Window, window, window_of, rows_out, window_rows, rows_due, width_of}
+use Rattle.meaning.specs.Meaning.{Answer, given, answering, Meaning, meaning}
+use Rattle.meaning.specs.Services.{bad_mark, row, rows, row_width, window, window_of, rows_out, window_rows, rows_due, width_of}
 use Rattle.meaning.specs.Windows.{Lent, rows_given, joined, Roomy, reach}
 use Rattle.meaning.proofs.Rows.{AllWide, rows_are_cycles, every_cycle_wide, rows_width}
 

@@ -6,7 +6,7 @@ use Rattle.tokens.specs.Tokens.{Tok}
 use Rattle.meaning.specs.Refusals.{bad_data, bad_argument}
 use Rattle.meaning.specs.Bounds.{repeat_most, argument_most}
 use Rattle.meaning.specs.Lists.{meets, inside}
-use Rattle.meaning.specs.Reader.{Reader, ok, refuse, ◌>>=◌, ◌>>◌, give, refuse_if, any, ahead, due, one_of, choose, is_word, word, until, closed}
+use Rattle.meaning.specs.Reader.{Reader, refuse, ◌>>=◌, ◌>>◌, give, refuse_if, any, due, one_of, choose, is_word, word, until, closed}
 use Rattle.meaning.specs.Names.{old_name, number, within}
 use Rattle.meaning.specs.Signals.{Names}
 use Rattle.meaning.specs.Timing.{all_chars}

@@ -10,7 +10,7 @@ use Rattle.meaning.specs.Signals.{Names, signals_up_to}
 use Rattle.meaning.specs.Groups.{groups_up_to}
 use Rattle.meaning.specs.Timing.{Tables, timing}
 use Rattle.meaning.specs.Body.{done}
-use Rattle.meaning.specs.Statements.{Decl, Decls, Env, for_patterns, declared}
+use Rattle.meaning.specs.Statements.{Decls, Env, for_patterns, declared}
 
 -- ---- MacroDefs and Procedures
 

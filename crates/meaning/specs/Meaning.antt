@@ -1,5 +1,5 @@
 -- What a text means: refused with number and place, or its signals, tables and run. Refusals 1, 2, 3; 4 to 14; 15; 16; 17; 25.
-use Rattle.std.specs.Prelude.{ℕ, zero, suc, Bool, true, false, ◌&&◌, ◌||◌, List, [], ◌∷◌, length, leb, eqb}
+use Rattle.std.specs.Prelude.{ℕ, suc, Bool, true, false, ◌&&◌, ◌||◌, List, [], ◌∷◌, length, leb, eqb}
 use Rattle.std.proofs.Math.Option.{Option, none, some}
 use Rattle.tokens.specs.Tokens.{Tok, toks, fault_of}
 use Rattle.meaning.specs.Refusals.{not_defined, too_large, not_playable, across_edge}

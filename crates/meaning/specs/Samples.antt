@@ -3,7 +3,7 @@ use Rattle.std.specs.Prelude.{ℕ, List, [], ◌∷◌, ◌++◌, replicate}
 use Prim.Native.String.{String}
 use Rattle.tokens.specs.Written.{bytes, lines}
 use Rattle.meaning.specs.Meaning.{Answer, given, refused}
-use Rattle.meaning.specs.Services.{check, Counts, Which, signal, table, name_of, dot, question, window, Window, waveform, Waveform}
+use Rattle.meaning.specs.Services.{check, Which, signal, table, name_of, dot, question, window, waveform}
 
 -- ---- texts
 

@@ -10,7 +10,7 @@ use Rattle.meaning.specs.Reader.{Reader, refuse, ◌>>=◌, ◌>>◌, give, refu
 use Rattle.meaning.specs.Names.{name, old_name, number_in}
 use Rattle.meaning.specs.Signals.{Names}
 use Rattle.meaning.specs.Timing.{Tables}
-use Rattle.meaning.specs.Body.{Assigns, Args, Setting, assigning, choosing, Kind, macro, procedure, Way, looped, shifted, entered, Body, done, vec, set', inner, depth, marked, turns, fits}
+use Rattle.meaning.specs.Body.{Assigns, Args, Setting, assigning, choosing, Kind, macro, procedure, looped, shifted, entered, Body, done, vec, set', inner, depth, marked, turns, fits}
 use Rattle.meaning.specs.Data.{assigns, arguments}
 
 -- a declared body, and the tokens from its first on, from where it is read at each use

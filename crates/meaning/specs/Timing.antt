@@ -8,7 +8,7 @@ use Rattle.tokens.specs.Tokens.{Tok}
 use Rattle.meaning.specs.Refusals.{too_many, bad_waveform, bad_data}
 use Rattle.meaning.specs.Bounds.{tables_most, entry_most, time_most}
 use Rattle.meaning.specs.Lists.{has, repeats}
-use Rattle.meaning.specs.Reader.{Reader, ok, refuse, ◌>>=◌, ◌>>◌, give, refuse_if, any, ahead, due, word, if_ahead, while, until}
+use Rattle.meaning.specs.Reader.{Reader, refuse, ◌>>=◌, ◌>>◌, give, refuse_if, any, ahead, due, word, if_ahead, while, until}
 use Rattle.meaning.specs.Names.{new_name, old_name, known, within}
 use Rattle.meaning.specs.Signals.{Names}
 

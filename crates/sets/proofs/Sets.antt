@@ -1,11 +1,11 @@
 -- The first n numbers of an array: one turn of a loop over them is one step of a definition.
-use mathlib.Core.Path.{◌≡◌, refl, sym, ap, ◌∙◌}
+use mathlib.Core.Path.{◌≡◌, refl, sym, ap}
 use Prim.Native.Nat.{ℕ, zero, suc, ◌+◌, ◌≤◌, ◌<◌, min}
 use native.Mathlib.Numerals.{add-one}
 use native.Mathlib.Omega.{arith}
 use mathlib.Core.Bool.{true, false}
 use mathlib.Core.List.{List, [], ◌∷◌, ◌++◌, append_assoc, append-nil}
-use lib.ListN.{length, get_or, take, drop, set, length-take, length-map, drop_of_length-le}
+use lib.ListN.{length, get_or, take, drop, set, length-take, drop_of_length-le}
 use lib.Seq.{take-suc-set, drop-cons, get_or-take}
 use lib.Dec.{eqb}
 use borrow.Author.Tests.{eq-eqb, ne_eqb}
@@ -18,7 +18,7 @@ use Rattle.sets.specs.contracts.Set.{the_row}
 
 -- what owning a set tells of its array
 pub sized : (s : Set) {w : List Val} → shadow (the_row.own_val s w) → length s.v ≡ signals_most
-sized s g = sym (length-map s.v _) ∙ g.1.1.1.0.1.0.1
+sized s g = g.1.1.1.0.1.0.1
 
 -- the first n of v from place i on
 abbrev pub rest : List ℕ → ℕ → ℕ → List ℕ

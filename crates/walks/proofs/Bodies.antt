@@ -1,7 +1,7 @@
 -- What is seen of a body, statement by statement. A V is shown where none are to pass; a statement with a body in it is passed where all its cycles lie before n, and entered where it holds
 -- n.
 use mathlib.Core.Path.{◌≡◌, refl, ap, ◌∙◌, subst}
-use Prim.Native.Nat.{ℕ, suc, ◌-◌, ◌≤◌, ◌<◌}
+use Prim.Native.Nat.{ℕ, zero, suc, ◌-◌, ◌≤◌, ◌<◌}
 use native.Mathlib.Nat.{one-mul}
 use native.Mathlib.Numerals.{unary_clauses}
 use native.Mathlib.Omega.{arith}
@@ -23,10 +23,12 @@ seen_done t n m s = seen_past n m [] (omega arith)
 module _ (t p : ℕ) (a : Assigns) (r : Body) (s : State) where
   pub vec_shown : (m : ℕ) → 0 < m → seen 0 m (play t (vec p a r) s).1 ≡ cycle_at p (puts a s) ∷ seen 0 (m - 1) (play t r (puts a s)).1
   unfolding play follow
+  vec_shown zero h = elim h [ ]
   vec_shown (suc m) h = simp unary_clauses
 
   pub vec_passed : (n m : ℕ) → 0 < n → seen n m (play t (vec p a r) s).1 ≡ seen (n - 1) m (play t r (puts a s)).1
   unfolding play follow
+  vec_passed zero m h = elim h [ ]
   vec_passed (suc n) m h = simp unary_clauses
 
   module _ {m : ℕ} {cs : List Cycle} {n' m' : ℕ} where

@@ -59,6 +59,7 @@ few_in_left t w b h g s = few_left t (inner w b done) (h, g, tt) s 0
 -- a Loop: once
 pub loop_passed : (t n : ℕ) (b : Body) → 1 ≤ n → Plain b → Good b → (s : State) → passed t b s ≡ (played_in t (looped n) b s).0
 unfolding passing shift_of
+loop_passed t zero b h p g s = elim h [ ]
 loop_passed t (suc n) b h p g s = passing_left t (looped (suc n)) b p g s
 
 -- a Shift: its V, t times
@@ -90,4 +91,5 @@ begins_first t b s = refl
 
 pub begins_later : (t : ℕ) (b : Body) → Good b → (j : ℕ) (s : State) → 1 ≤ j → begins t b j s ≡ passed t b s
 unfolding begins
+begins_later t b g zero s h = elim h [ ]
 begins_later t b g (suc j) s h = sym (passed_left t b g s)

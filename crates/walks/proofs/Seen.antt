@@ -77,6 +77,7 @@ through_all l n m = record { shown = refl; show = sym (left_to_show n m l); pass
 
 -- the cycle looked for
 pub through_one : (c : Cycle) (m : ℕ) → 0 < m → Through (c ∷ []) 0 m (c ∷ []) 0 (m - 1)
+through_one c zero h = elim h [ ]
 through_one c (suc m) h = record { shown = ap (λ (l : List Cycle). c ∷ l) (sym (take-nil m)); show = omega arith; pass = λ h. omega arith }
 
 module _ {a : List Cycle} {n m : ℕ} {cs : List Cycle} {n₁ m₁ : ℕ} (x : Through a n m cs n₁ m₁) where

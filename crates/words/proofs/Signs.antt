@@ -3,12 +3,11 @@ use Prim.Native.Nat.{ℕ, ◌+◌, ◌-◌, ◌≤◌}
 use native.Mathlib.Omega.{arith}
 use mathlib.Core.Path.{◌≡◌, refl, sym}
 use mathlib.Core.Bool.{Bool, true, false, ◌&&◌}
-use mathlib.Core.Option.{Option}
 use mathlib.Core.List.{List}
 use Rattle.tokens.specs.Written.{bytes}
 use Rattle.tokens.specs.Tokens.{Tok}
 use Rattle.meaning.specs.Bounds.{time_most}
-use Rattle.meaning.specs.Reader.{◌>>=◌, ◌>>◌, ahead_of, due, word}
+use Rattle.meaning.specs.Reader.{ahead_of, due, word}
 use Rattle.meaning.specs.Names.{within}
 use Rattle.meaning.specs.Timing.{Signed, plus, minus, counted, picoseconds, time_of, signed_quoted}
 use Rattle.meaning.proofs.Gives.{gives_within}

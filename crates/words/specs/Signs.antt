@@ -1,6 +1,6 @@
 -- Times with a sign as the code has them: counted.
 use Rattle.std.specs.Prelude.{ℕ, ◌≡◌, Bool, true, false, List}
-use Rattle.meaning.specs.Reader.{Reader, ◌>>=◌, ◌>>◌, due, if_ahead}
+use Rattle.meaning.specs.Reader.{Reader, ◌>>◌, due, if_ahead}
 use Rattle.meaning.specs.Timing.{Signed, plus, minus, counted, time_of}
 use Rattle.words.specs.Cursor.{alive, Goes}
 use Rattle.words.specs.declared.Cursor.{Cursor}

@@ -1,5 +1,4 @@
 -- `put` meets its contract. The invariant: the first i of the bytes stand in the page, from the place on.
-use Prim.Native.Nat.{◌-◌}
 use native.Mathlib.Omega.{arith}
 use Rattle.pages.proofs.Turns.{copied_none, copied_more, copied_all}
 use Rattle.pages.proofs.put.Goals as goal

@@ -47,9 +47,6 @@ put-requires c =
     let all = spelled_all c.loop-left.invariant (omega arith) in
     omega (arith, ap length all, decimal_short c.args.n)
 
-pub shape_of-page : goal.shape_of-page
-shape_of-page c = c.put.auto.0
-
 pub returns : goal.returns
 returns c =
     let inv = c.loop-left.invariant in

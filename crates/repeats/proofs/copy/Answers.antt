@@ -1,5 +1,4 @@
 -- `copy` meets its contract: the bytes that are read lie before those that are written.
-use Prim.Native.Nat.{◌-◌}
 use native.Mathlib.Omega.{arith}
 use Rattle.repeats.proofs.Copying.{copies_none, copies_more, copies_all}
 use Rattle.repeats.proofs.copy.Goals as goal

@@ -1,11 +1,10 @@
 -- `extend` meets its contract: until the last one, every run is as long as all that is there, so that it ends as the bytes before the place do.
 use Prim.Native.Nat.{◌+◌, ◌-◌, min}
 use native.Mathlib.Omega.{arith}
-use mathlib.Core.Logic.{⊎_elim}
 use mathlib.Core.Path.{◌≡◌}
 use Rattle.repeats.proofs.Copying.{extends_none, extends_more, extends_all, whole_none, whole_more}
-use Rattle.repeats.proofs.extend.Tie as tie
 use Rattle.repeats.proofs.extend.Goals as goal
+use Rattle.repeats.proofs.extend.Goals.{then-count-done, else-count-done}
 
 pub loop-done-init : goal.loop-done-init
 loop-done-init c = (omega arith, extends_none, λ h. whole_none)
@@ -25,24 +24,18 @@ overflow_sub-at c = omega arith
 pub overflow_add-at : goal.overflow_add-at
 overflow_add-at c = omega arith
 
--- as much as is there, or as is left
-run_is : (c : tie.Joined-count-done goal.the-invariant-loop-done goal.the-decreases-loop-done)
-    → c.if-count-done.run
-    ≡ min (c.args.step + c.loop-done.done) (c.args.count - c.loop-done.done)
-run_is c = ⊎_elim (λ w. omega arith) (λ w. omega arith) c.if-count-done.branch
-
 pub copy-requires : goal.copy-requires
-copy-requires c = let is = run_is c.before in (omega arith, omega (arith, c.loop-done.invariant.1.long))
+copy-requires c = let is : c.if-count-done.run ≡ min (c.args.step + c.loop-done.done) (c.args.count - c.loop-done.done) = elim c.if-count-done.branch [ then-count-done w ↦ omega arith | else-count-done w ↦ omega arith ] in (omega arith, omega (arith, c.loop-done.invariant.1.long))
 
 pub overflow_add-done : goal.overflow_add-done
-overflow_add-done c = let is = run_is c.before.before.before.before.before in omega arith
+overflow_add-done c = let is : c.if-count-done.run ≡ min (c.args.step + c.loop-done.done) (c.args.count - c.loop-done.done) = elim c.if-count-done.branch [ then-count-done w ↦ omega arith | else-count-done w ↦ omega arith ] in omega arith
 
 pub loop-done-smaller : goal.loop-done-smaller
-loop-done-smaller c = let is = run_is c.before.before.before.before.before in omega arith
+loop-done-smaller c = let is : c.if-count-done.run ≡ min (c.args.step + c.loop-done.done) (c.args.count - c.loop-done.done) = elim c.if-count-done.branch [ then-count-done w ↦ omega arith | else-count-done w ↦ omega arith ] in omega arith
 
 pub loop-done-preserved : goal.loop-done-preserved
 loop-done-preserved c =
-    let is = run_is c.before.before.before.before.before in
+    let is : c.if-count-done.run ≡ min (c.args.step + c.loop-done.done) (c.args.count - c.loop-done.done) = elim c.if-count-done.branch [ then-count-done w ↦ omega arith | else-count-done w ↦ omega arith ] in
     let below = c.requires.1 in
     let whole = c.loop-done.invariant.2 c.loop-done-test.true in
     let copied = c.copy.ensures in

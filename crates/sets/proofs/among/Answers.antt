@@ -1,6 +1,5 @@
 -- What is left to search decides: a turn that does not find x leaves the answer to the rest.
 use mathlib.Core.Path.{refl, sym, ◌∙◌}
-use Prim.Native.Nat.{◌-◌}
 use native.Mathlib.Omega.{arith}
 use Rattle.sets.proofs.Sets.{has_here, has_next, has_end}
 use Rattle.sets.proofs.among.Goals as goal

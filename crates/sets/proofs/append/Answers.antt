@@ -1,6 +1,5 @@
 -- What stands in v and what is left of x make up both sets at each turn.
 use mathlib.Core.Path.{refl, ap₂, ◌∙◌}
-use Prim.Native.Nat.{◌+◌, ◌-◌}
 use mathlib.Core.List.{◌++◌}
 use native.Mathlib.Nat.{add-zero}
 use native.Mathlib.Omega.{arith}
@@ -15,7 +14,7 @@ pub loop-i-preserved : goal.loop-i-preserved
 loop-i-preserved c =
     let loop = c.loop-i in
     let k = c.least-k.result in
-    let x = c.args.t2 in
+    let x = c.args.x in
     let room = sized c.args.g c.well_formed.0 in
     let room-x = sized x c.well_formed.1.0 in (
       rw length-set loop.invariant.0,
@@ -29,7 +28,7 @@ returns c = λ fits.
     let k = c.least-k.result in
     let n = c.least-n.result in
     let g = c.args.g in
-    let x = c.args.t2 in
+    let x = c.args.x in
     let room = sized g c.well_formed.0 in
     let room-x = sized x c.well_formed.1.0 in
     let all-g = take_same k g.n g.v (omega arith) in

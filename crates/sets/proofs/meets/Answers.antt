@@ -1,6 +1,5 @@
 -- What is left to look at decides: a turn whose number is not in g leaves the answer to the rest.
 use mathlib.Core.Path.{refl, sym, ◌∙◌}
-use Prim.Native.Nat.{◌-◌}
 use native.Mathlib.Omega.{arith}
 use Rattle.sets.specs.Sets.{list_of}
 use Rattle.sets.proofs.Sets.{sized, meets_here, meets_next, meets_end}
@@ -12,22 +11,22 @@ loop-i-init c = refl
 pub returns-then-among : goal.returns-then-among
 returns-then-among c =
     let loop = c.loop-i in
-    let x = c.args.t1 in
+    let x = c.args.x in
     let room = sized x c.well_formed.0 in
     let told = sym c.among.ensures in
-    sym (loop.invariant ∙ meets_here x.v x.n loop.i (omega arith) (list_of c.args.t2) (told ∙ c.if-among.true))
+    sym (loop.invariant ∙ meets_here x.v x.n loop.i (omega arith) (list_of c.args.g) (told ∙ c.if-among.true))
 
 pub loop-i-preserved : goal.loop-i-preserved
 loop-i-preserved c =
     let loop = c.loop-i in
-    let x = c.args.t1 in
+    let x = c.args.x in
     let room = sized x c.well_formed.0 in
     let told = sym c.among.ensures in
-    loop.invariant ∙ meets_next x.v x.n loop.i (omega arith) (list_of c.args.t2) (told ∙ c.if-among.false)
+    loop.invariant ∙ meets_next x.v x.n loop.i (omega arith) (list_of c.args.g) (told ∙ c.if-among.false)
 
 pub returns : goal.returns
 returns c =
     let loop = c.loop-i in
-    let x = c.args.t1 in
+    let x = c.args.x in
     let room = sized x c.well_formed.0 in
-    sym (loop.invariant ∙ meets_end x.v x.n loop.i (omega arith) (list_of c.args.t2))
+    sym (loop.invariant ∙ meets_end x.v x.n loop.i (omega arith) (list_of c.args.g))

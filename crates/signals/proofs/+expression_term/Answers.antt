@@ -1,56 +1,25 @@
 -- Expression and term, one proof for both: an expression reads its first term from where it stands, and a term that is a bracket takes a
 -- token before it reads an expression, so that twice what is left to read falls at each call. What is kept at each further term: reading on
 -- with the signals so far is reading the whole expression, and those signals are tidy, so that there is room for the next.
-use Prim.Native.Nat.{◌+◌, ◌*◌}
 use native.Mathlib.Omega.{arith}
 use mathlib.Core.Path.{refl}
-use mathlib.Core.Bool.{true}
 use mathlib.Core.List.{[]}
 use Rattle.tokens.specs.Written.{bytes}
-use Rattle.meaning.specs.Groups.{sign_ahead, bracket, terms, term as term_due}
+use Rattle.meaning.specs.Groups.{bracket, terms, term as term_due}
 use Rattle.meaning.proofs.Taking.{takes_keeps, takes_due}
 use Rattle.words.specs.Table.{names}
 use Rattle.words.proofs.Flow.{then, given, stays, refused_by, refused_no, alive_before}
 use Rattle.words.proofs.Choice.{ahead_yes, ahead_no}
-use Rattle.words.proofs.Loops.{begins, turned, over, less, no_more, on, room}
+use Rattle.words.proofs.Loops.{begins, turned, over, less, no_more, on}
 use Rattle.words.proofs.Names.{old_named}
 use Rattle.signals.specs.Names.{list_at, names_of}
 use Rattle.signals.proofs.Taking.{takes_sign}
 use Rattle.signals.proofs.Tidy.{gave}
 use Rattle.signals.proofs.Joining.{bracket_in, term_takes, turn_takes, term_tidy, turn_tidy, turn_goes}
-use Prim.Native.Nat.{ℕ, ◌<◌}
 use Rattle.signals.proofs.+expression_term.Goals as goal
 
-abbrev μ-expression : Measures 1 expression-kinds.ps ℕ
-μ-expression κs a = 2 * room a.0.now a.1.0 + 1
-
-abbrev μ-term : Measures 1 term-kinds.ps ℕ
-μ-term κs a = 2 * room a.0.now a.1.0
-
-abbrev expression_at : ℕ → In 1 expression-kinds.ps
-expression_at t =
-    and 1 expression-kinds.ps (is 1 expression-kinds.ps μ-expression t) expression.Pre
-
-abbrev expression_below : ℕ → In 1 expression-kinds.ps
-expression_below t =
-    and 1 expression-kinds.ps (falls 1 expression-kinds.ps ◌<◌ μ-expression t) expression.Pre
-
-abbrev term_at : ℕ → In 1 term-kinds.ps
-term_at t = and 1 term-kinds.ps (is 1 term-kinds.ps μ-term t) term.Pre
-
-abbrev term_below : ℕ → In 1 term-kinds.ps
-term_below t = and 1 term-kinds.ps (falls 1 term-kinds.ps ◌<◌ μ-term t) term.Pre
-
-abbrev expression_calls : ℕ → expression-lts.Claims
-expression_calls t = (term_below t, term.Post, sign-ahead-reads.Asked, sign-ahead-reads.Learnt, sign_reads.Asked, sign_reads.Learnt, joined-reads.Asked, joined-reads.Learnt)
-
-abbrev term_calls : ℕ → term-lts.Claims
-term_calls t = (is-reads.Asked, is-reads.Learnt, due-reads.Asked, due-reads.Learnt, refuse-if-reads.Asked, refuse-if-reads.Learnt, nothing-reads.Asked, nothing-reads.Learnt, expression_below t, expression.Post, old-name-reads.Asked, old-name-reads.Learnt, set-at-reads.Asked, set-at-reads.Learnt)
-
 pub expression-term-x-requires : goal.expression-term-x-requires
-expression-term-x-requires t c =
-    let pre' = c.requires in
-    (omega (arith, pre'.0), pre'.1)
+expression-term-x-requires t c = (omega (arith, c.decreases), c.requires)
 
 pub expression-loop-s-init : goal.expression-loop-s-init
 expression-loop-s-init t c =
@@ -58,7 +27,7 @@ expression-loop-s-init t c =
     let pre' = c.requires in
     let term' = c.term-x in
     let ns = names_of args'.text.now args'.places.now args'.lists.now args'.count in
-    (begins, (λ h. gave (term_tidy ns args'.d pre'.1.tidy) term'.ensures h), omega arith)
+    (begins, (λ h. gave (term_tidy ns args'.d pre'.tidy) term'.ensures h), omega arith)
 
 pub expression-term-y-requires : goal.expression-term-y-requires
 expression-term-y-requires t c =
@@ -72,12 +41,12 @@ expression-term-y-requires t c =
     let ns = names_of args'.text.now args'.places.now args'.lists.now args'.count in (
       omega (
         arith,
-        pre'.0,
+        c.decreases,
         loop'.invariant.2,
         less takes_sign (on _ _ sign-ahead'.ensures if1'.true) sign'.ensures,
         no_more (takes_keeps (term_takes ns args'.d)) term'.ensures,
       ),
-      pre'.1,
+      pre',
     )
 
 pub expression-loop-s-smaller : goal.expression-loop-s-smaller
@@ -92,7 +61,7 @@ expression-loop-s-smaller t c =
     let joined' = c.joined-j in
     let ns = names_of args'.text.now args'.places.now args'.lists.now args'.count in
     less (turn_takes ns args'.d _) (on _ _ sign-ahead'.ensures if1'.true)
-    (turn_goes ns args'.d pre'.1.tidy loop'.invariant.1 sign'.ensures term2'.ensures (joined'.ensures args'.text.now))
+    (turn_goes ns args'.d pre'.tidy loop'.invariant.1 sign'.ensures term2'.ensures (joined'.ensures args'.text.now))
 
 pub expression-loop-s-preserved : goal.expression-loop-s-preserved
 expression-loop-s-preserved t c =
@@ -105,9 +74,9 @@ expression-loop-s-preserved t c =
     let term2' = c.term-y in
     let joined' = c.joined-j in
     let ns = names_of args'.text.now args'.places.now args'.lists.now args'.count in
-    let turn = turn_goes ns args'.d pre'.1.tidy loop'.invariant.1 sign'.ensures term2'.ensures (joined'.ensures args'.text.now) in (
+    let turn = turn_goes ns args'.d pre'.tidy loop'.invariant.1 sign'.ensures term2'.ensures (joined'.ensures args'.text.now) in (
       turned _ _ (turn_takes ns args'.d) loop'.invariant.0 sign-ahead'.ensures if1'.true turn,
-      (λ h. gave (turn_tidy ns args'.d pre'.1.tidy _ (loop'.invariant.1 (alive_before turn h))) turn h),
+      (λ h. gave (turn_tidy ns args'.d pre'.tidy _ (loop'.invariant.1 (alive_before turn h))) turn h),
       omega (arith, loop'.invariant.2, no_more (takes_keeps (turn_takes ns args'.d _)) turn),
     )
 
@@ -140,7 +109,7 @@ term-expression-g-requires t c =
     let is' = c.is in
     let if1' = c.if-is in
     let due' = c.due-a in
-    (omega (arith, pre'.0, less (takes_due _) (on _ _ is'.ensures if1'.true) due'.ensures), pre'.1)
+    (omega (arith, c.decreases, less (takes_due _) (on _ _ is'.ensures if1'.true) due'.ensures), pre')
 
 pub term-returns-then-is : goal.term-returns-then-is
 unfolding term_due bytes
@@ -160,7 +129,7 @@ term-returns-then-is t c =
 pub term-set_at-set-requires : goal.term-set_at-set-requires
 term-set_at-set-requires t c =
     let pre' = c.requires in
-    pre'.1.sized.rows
+    pre'.sized.rows
 
 pub term-returns : goal.term-returns
 unfolding term_due bytes

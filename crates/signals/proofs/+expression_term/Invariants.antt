@@ -1,4 +1,4 @@
-use Prim.Native.Nat.{◌≤◌}
+use Prim.Native.Nat.{◌+◌, ◌*◌, ◌≤◌}
 use mathlib.Core.Path.{◌≡◌}
 use mathlib.Core.Bool.{true}
 use Rattle.meaning.specs.Reader.{while}
@@ -19,3 +19,10 @@ invariant-expression-loop-s l =
 
 abbrev pub decreases-expression-loop-s : goal.decreases-expression-loop-s
 decreases-expression-loop-s l = room l.text l.cursor
+
+-- a term that is a bracket takes a token before it reads an expression
+abbrev pub decreases-expression : goal.decreases-expression
+decreases-expression l = 2 * room l.text.now l.c + 1
+
+abbrev pub decreases-term : goal.decreases-term
+decreases-term l = 2 * room l.text.now l.c

@@ -1,5 +1,4 @@
 -- `find` meets its contract. The invariant: what is found of all names is what is found among those that the chain still leads to, or else what was found.
-use Prim.Native.Nat.{◌-◌}
 use native.Mathlib.Omega.{arith}
 use mathlib.Core.Path.{refl}
 use Rattle.signals.proofs.Chains.{walk_begins, walk_below, walk_falls, walk_turn, walk_ends}

@@ -1,4 +1,3 @@
-use Prim.Native.Nat.{◌-◌}
 use Rattle.signals.proofs.Chains.{Walked}
 use Rattle.signals.proofs.find.Given as goal
 

@@ -19,7 +19,7 @@ pub groups-g-requires : goal.groups-g-requires
 groups-g-requires c =
     let args' = c.args in
     let signals' = c.signals-s in
-    let long = names_length args'.text.now signals'.new.1.1.0 signals'.new.1.1.1.0 signals'.result.count in (
+    let long = names_length args'.text.now signals'.new.places signals'.new.lists signals'.result.count in (
       signals'.ensures.sized,
       λ on.
           let h = gave numbered_signals signals'.ensures.goes on in
@@ -48,9 +48,9 @@ returns-then-is c =
     let groups' = c.groups-g in
     let text = args'.text.now in
     let n = signals'.result.count in
-    let ss = names_of text signals'.new.1.1.0 signals'.new.1.1.1.0 n in
-    let places = groups'.new.1.1.0 in
-    let lists = groups'.new.1.1.1.0 in
+    let ss = names_of text signals'.new.places signals'.new.lists n in
+    let places = groups'.new.places in
+    let lists = groups'.new.lists in
     let m = groups'.result.count in
     record {
       goes =
@@ -60,7 +60,7 @@ returns-then-is c =
           let h = gave numbered_signals signals'.ensures.goes (alive_before groups'.ensures.goes on) in
           let g = gave (grown_groups _ ss (numbered_tidy h)) groups'.ensures.goes on in
           ap (λ (ns : Names). (ns, names_of text places lists m))
-          (sym (names_first text places lists m n ss g.added g.same (names_length text signals'.new.1.1.0 signals'.new.1.1.1.0 n))))));
+          (sym (names_first text places lists m n ss g.added g.same (names_length text signals'.new.places signals'.new.lists n))))));
       sized = groups'.ensures.sized;
       chained = groups'.ensures.chained;
     }

@@ -1,6 +1,6 @@
 -- What stands before the row stays, and as many of the set's numbers stand in the row as turns are done.
 use mathlib.Core.Path.{refl, ◌∙◌}
-use Prim.Native.Nat.{◌*◌, ◌-◌}
+use Prim.Native.Nat.{◌*◌}
 use Rattle.signals.specs.Names.{row_length}
 use native.Mathlib.Omega.{arith}
 use lib.ListN.{length-set}
@@ -21,7 +21,7 @@ loop-j-preserved c =
     let long = length-set c.args.lists.now (c.args.i * row_length) c.held.result in (
       length-set loop.lists _ _ ∙ loop.invariant.0,
       before_kept loop.lists _ loop.j _ _ loop.invariant.1,
-      one_copied loop.lists _ loop.j _ c.args.t3.v (omega arith) loop.invariant.2 refl,
+      one_copied loop.lists _ loop.j _ c.args.set.v (omega arith) loop.invariant.2 refl,
     )
 
 pub shape_of-lists : goal.shape_of-lists
@@ -31,7 +31,7 @@ pub returns : goal.returns
 returns c =
     let loop = c.loop-j in
     let held = c.held in
-    written c.args.lists.now c.args.i c.args.t3 held.result loop.lists (sized c.args.t3 c.well_formed.1.1.0)
+    written c.args.lists.now c.args.i c.args.set held.result loop.lists (sized c.args.set c.well_formed.1.1.0)
     held.ensures
     c.requires
     loop.invariant.0

@@ -1,6 +1,6 @@
 -- As many numbers of the row stand in the array as turns are done.
 use mathlib.Core.Path.{refl, sym, ◌∙◌}
-use Prim.Native.Nat.{◌*◌, ◌-◌}
+use Prim.Native.Nat.{◌*◌}
 use Rattle.signals.specs.Names.{row_length}
 use native.Mathlib.Omega.{arith}
 use lib.ListN.{length-set}
@@ -17,7 +17,7 @@ pub loop-j-preserved : goal.loop-j-preserved
 loop-j-preserved c = (length-set c.loop-j.v _ _ ∙ c.loop-j.invariant.0, one_more_lem c.loop-j.v c.loop-j.j _ _ (omega arith) c.loop-j.invariant.1 refl)
 
 pub overflow_cast-result : goal.overflow_cast-result
-overflow_cast-result c = omega (arith, c.type_inv.lists.given (c.args.i * row_length))
+overflow_cast-result c = omega (arith, c.type_inv.lists (c.args.i * row_length))
 
 pub returns : goal.returns
 returns c = row_read c.args.lists.now c.loop-j.v c.args.i _ c.loop-j.invariant.0 (omega arith) (λ k h. c.loop-j.invariant.1 k (omega arith)) refl

@@ -3,36 +3,33 @@ use mathlib.Core.Path.{refl, sym, ◌∙◌}
 use native.Mathlib.Omega.{arith}
 use borrow.Author.Tests.{eq-eqb, eqb-true}
 use Rattle.tokens.specs.Written.{bytes}
-use Rattle.signals.proofs.Declaring.{Signal, signal_read, signal_fits, signal_goes}
-use Rattle.signals.proofs.signal.Tie as tie
+use Rattle.signals.proofs.Declaring.{signal_read, signal_fits, signal_goes}
 use Rattle.signals.proofs.signal.Goals as goal
 
-declared : (c : tie.After-struct_known-1)
-    → Signal c.args.text.now c.args.places.now c.args.count c.args.c c.due-r.result
-unfolding bytes
-declared c = signal_read c.new_name-a.ensures c.refuse_if-b.ensures c.direction-d.ensures c.due-r.ensures
-
 pub returns-then-r-ne0 : goal.returns-then-r-ne0
+unfolding bytes
 returns-then-r-ne0 c =
     let args' = c.args in
     let pre' = c.requires in
     record {
-      goes = signal_goes (declared c.before) args'.lists.now refl (λ on. absurd (c.if-r-ne0.true (eqb-true _ _ on)));
+      goes = signal_goes (signal_read c.new_name-a.ensures c.refuse_if-b.ensures c.direction-d.ensures c.due-r.ensures) args'.lists.now refl (λ on. absurd (c.if-r-ne0.true (eqb-true _ _ on)));
       sized = pre'.0;
       chained = λ on. absurd (c.if-r-ne0.true (eqb-true _ _ on));
     }
 
 pub overflow_cast-count : goal.overflow_cast-count
+unfolding bytes
 overflow_cast-count c =
     let if1' = c.if-r-ne0 in
-    let few = signal_fits (declared c.before.before.before) (eq-eqb _ _ if1'.false) in
+    let few = signal_fits (signal_read c.new_name-a.ensures c.refuse_if-b.ensures c.direction-d.ensures c.due-r.ensures) (eq-eqb _ _ if1'.false) in
     omega arith
 
 pub add-requires : goal.add-requires
+unfolding bytes
 add-requires c =
     let pre' = c.requires in
     let if1' = c.if-r-ne0 in
-    let few = signal_fits (declared c.before.before.before.before) (eq-eqb _ _ if1'.false) in
+    let few = signal_fits (signal_read c.new_name-a.ensures c.refuse_if-b.ensures c.direction-d.ensures c.due-r.ensures) (eq-eqb _ _ if1'.false) in
     (pre'.0, pre'.1, omega arith)
 
 pub shape_of-places : goal.shape_of-places
@@ -48,13 +45,14 @@ shape_of-lists c =
     add'.ensures.sized.rows ∙ sym pre'.0.rows
 
 pub returns : goal.returns
+unfolding bytes
 returns c =
     let args' = c.args in
     let single' = c.single in
     let add' = c.add in
     record {
       goes =
-          signal_goes (declared c.before.before.before.before.before.before.before.before.before) args'.lists.now single'.ensures
+          signal_goes (signal_read c.new_name-a.ensures c.refuse_if-b.ensures c.direction-d.ensures c.due-r.ensures) args'.lists.now single'.ensures
           (λ on. add'.ensures.names);
       sized = add'.ensures.sized;
       chained = λ on. add'.ensures.chained;

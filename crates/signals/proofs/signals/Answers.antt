@@ -1,6 +1,5 @@
 -- `signals` meets its contract: reading on with the signals so far is reading the whole block, and there are never more than fit.
 use mathlib.Core.Path.{sym, ◌∙◌}
-use mathlib.Core.Bool.{true}
 use mathlib.Core.List.{[]}
 use native.Mathlib.Omega.{arith}
 use Rattle.tokens.specs.Written.{bytes}

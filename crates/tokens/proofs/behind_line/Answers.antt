@@ -1,5 +1,4 @@
 -- `behind_line` meets its contract. The invariant: reading in the `//` gives from here what it gives from `at`.
-use Prim.Native.Nat.{◌-◌}
 use mathlib.Core.Path.{sym, ◌∙◌}
 use native.Mathlib.Omega.{arith}
 use Rattle.tokens.specs.Tokens.{line}

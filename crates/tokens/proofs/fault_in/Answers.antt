@@ -1,15 +1,17 @@
 -- `fault_in` meets its contract. The invariant: the text is short enough, and its fault is the fault from here on.
-use Prim.Native.Nat.{◌-◌}
+use Prim.Native.Nat.{ℕ, ◌≤◌}
+use mathlib.Core.List.{List}
+use lib.ListN.{length}
+use Rattle.tokens.specs.Refusals.{text_most}
 use mathlib.Core.Path.{◌≡◌, refl, ap, ◌∙◌, sym}
 use native.Mathlib.Omega.{arith}
 use borrow.Author.Tests.{ltb-true, ltb-false}
-use Rattle.tokens.specs.Tokens.{next_token, fault_of}
+use Rattle.tokens.specs.Tokens.{toks, first, next_token, fault_of}
 use Rattle.tokens.specs.Answers.{next_of}
 use Rattle.tokens.specs.declared.Step.{Step}
 use Rattle.tokens.proofs.Reading.{short_enough}
 use Rattle.tokens.proofs.Laws.{at_token}
 use Rattle.tokens.proofs.Faults.{fault_behind, fault_none, fault_there, fault_too_long, fault_goes, fault_bad, fault_over}
-use Rattle.tokens.proofs.fault_in.Tie as tie
 use Rattle.tokens.proofs.fault_in.Goals as goal
 
 pub returns-then-is_too_long : goal.returns-then-is_too_long
@@ -26,26 +28,25 @@ returns-then-not-is_allowed c =
     sym (known.1 ∙ fault_bad c.args.text.now _ known.0 c.loop-i-test.true bad)
 
 -- what the step tells, once its case is known
-told : (c : tie.After-past_comments goal.the-invariant-loop-i goal.the-decreases-loop-i) {s : Step} → c.past_comments.result ≡ s
-    → next_token c.args.text.now c.loop-i.i ≡ next_of s
-told c e = short_enough _ _ c.loop-i.invariant.0 ∙ sym c.past_comments.ensures ∙ ap next_of e
+told : (text : List ℕ) (i : ℕ) {r s : Step} → length text ≤ text_most → next_of r ≡ first (toks text i) → r ≡ s → next_token text i ≡ next_of s
+told _ _ short e is = short_enough _ _ short ∙ sym e ∙ ap next_of is
 
 pub overflow_add-i : goal.overflow_add-i
-overflow_add-i c = omega (arith, at_token _ _ _ _ (told c.before.before.before c.in-Token.is))
+overflow_add-i c = omega (arith, at_token _ _ _ _ (told _ _ c.loop-i.invariant.0 c.past_comments.ensures c.in-Token.is))
 
 pub loop-i-smaller-in-Token : goal.loop-i-smaller-in-Token
-loop-i-smaller-in-Token c = omega (arith, at_token _ _ _ _ (told c.before.before.before c.in-Token.is))
+loop-i-smaller-in-Token c = omega (arith, at_token _ _ _ _ (told _ _ c.loop-i.invariant.0 c.past_comments.ensures c.in-Token.is))
 
 pub loop-i-preserved-in-Token : goal.loop-i-preserved-in-Token
 loop-i-preserved-in-Token c =
     let known = c.loop-i.invariant in
-    (known.0, known.1 ∙ fault_behind _ _ _ _ (told c.before.before.before c.in-Token.is))
+    (known.0, known.1 ∙ fault_behind _ _ _ _ (told _ _ c.loop-i.invariant.0 c.past_comments.ensures c.in-Token.is))
 
 pub returns-in-Nothing : goal.returns-in-Nothing
-returns-in-Nothing c = sym (c.loop-i.invariant.1 ∙ fault_none _ _ (told c.before.before c.in-Nothing.is))
+returns-in-Nothing c = sym (c.loop-i.invariant.1 ∙ fault_none _ _ (told _ _ c.loop-i.invariant.0 c.past_comments.ensures c.in-Nothing.is))
 
 pub returns-in-Refused : goal.returns-in-Refused
-returns-in-Refused c = sym (c.loop-i.invariant.1 ∙ fault_there _ _ _ _ (told c.before.before.before c.in-Refused.is))
+returns-in-Refused c = sym (c.loop-i.invariant.1 ∙ fault_there _ _ _ _ (told _ _ c.loop-i.invariant.0 c.past_comments.ensures c.in-Refused.is))
 
 pub loop-i-preserved : goal.loop-i-preserved
 loop-i-preserved c =

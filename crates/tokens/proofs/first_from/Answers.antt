@@ -1,5 +1,4 @@
 -- `first_from` meets its contract. The invariant: the next token from here is the next token from `at`.
-use Prim.Native.Nat.{◌-◌}
 use mathlib.Core.Path.{refl, ap, ◌∙◌, sym}
 use Rattle.tokens.specs.Tokens.{plain, toks, first}
 use Rattle.tokens.proofs.Reading.{bad_stops, blank_goes, over}

@@ -1,5 +1,4 @@
 -- `past_comments` meets its contract. The invariant: the next token from here is the next token from `at`.
-use Prim.Native.Nat.{◌-◌}
 use mathlib.Core.Path.{refl, ap, ◌∙◌, sym}
 use native.Mathlib.Omega.{arith}
 use Rattle.tokens.specs.Tokens.{plain, toks, first}

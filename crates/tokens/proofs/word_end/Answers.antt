@@ -1,5 +1,4 @@
 -- `word_end` meets its contract. The invariant: a place and the word bytes from it on sum to the same, whether counted from `at` or from here.
-use Prim.Native.Nat.{◌-◌}
 use mathlib.Core.Path.{sym, ◌∙◌}
 use native.Mathlib.Omega.{arith}
 use Rattle.tokens.proofs.Reading.{word_goes, word_ends, word_over}

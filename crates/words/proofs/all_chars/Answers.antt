@@ -1,5 +1,4 @@
 -- The invariant: the word has only characters if what is left of it has.
-use Prim.Native.Nat.{◌-◌}
 use mathlib.Core.Path.{refl, sym, ◌∙◌}
 use Rattle.words.proofs.Words.{chars_more, chars_not, chars_end}
 use Rattle.words.proofs.all_chars.Goals as goal

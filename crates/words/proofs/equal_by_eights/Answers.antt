@@ -24,8 +24,8 @@ returns-then-eight c =
 pub loop-i-preserved : goal.loop-i-preserved
 loop-i-preserved c =
     eights_more c.args.w.now c.args.v.now
-    (λ k. omega (arith, c.type_inv.w.given k))
-    (λ k. omega (arith, c.type_inv.v.given k))
+    (λ k. omega (arith, c.type_inv.w k))
+    (λ k. omega (arith, c.type_inv.v k))
     c.loop-i.i
     (sym c.eight.ensures ∙ c.if-eight.false ∙ c.eight-in-loop-i.ensures)
     c.loop-i.invariant
@@ -35,8 +35,8 @@ returns c =
     let loop = c.loop-i in
     rw (c.eight-2.ensures, c.eight-3.ensures)
     (eights_last c.args.w.now c.args.v.now
-    (λ k. omega (arith, c.type_inv.w.given k))
-    (λ k. omega (arith, c.type_inv.v.given k))
+    (λ k. omega (arith, c.type_inv.w k))
+    (λ k. omega (arith, c.type_inv.v k))
     (length c.args.w.now - 8)
     c.if-n-v.false
     (omega arith)

@@ -1,9 +1,7 @@
 -- `find_any` meets its contract. The invariant: what is found among all names is what is found from number i on.
-use Prim.Native.Nat.{◌-◌}
 use mathlib.Core.Path.{sym, ◌∙◌}
 use native.Mathlib.Omega.{arith}
 use borrow.Author.Tests.{lt-ltb, le-ltb}
-use Rattle.meaning.specs.Names
 use Rattle.words.proofs.Tables.{found_all, found_here, found_later, found_nowhere}
 use Rattle.words.proofs.find_any.Goals as goal
 

@@ -1,25 +1,20 @@
 -- `four` meets its contract: its halves are small enough, so that nothing wraps.
-use Prim.Native.Nat.{ℕ, ◌+◌, ◌<◌}
+use Prim.Native.Nat.{◌+◌}
 use native.Mathlib.Omega.{arith}
-use lib.ListN.{get_or}
 use Rattle.words.proofs.Packed.{two_below, four_of}
-use Rattle.words.proofs.four.Tie as tie
 use Rattle.words.proofs.four.Goals as goal
-
-small : (c : tie.After-two-2) (k : ℕ) → get_or c.args.w.now k 0 < 256
-small c k = omega (arith, c.type_inv.w.given k)
 
 pub overflow_mul-result : goal.overflow_mul-result
 overflow_mul-result c =
     let w = c.args.w.now in
     let i = c.args.i in
-    omega (arith, two_below w (small c) (i + 2))
+    omega (arith, two_below w (λ k. omega (arith, c.type_inv.w k)) (i + 2))
 
 pub overflow_add-result : goal.overflow_add-result
 overflow_add-result c =
     let w = c.args.w.now in
     let i = c.args.i in
-    omega (arith, two_below w (small c) i, two_below w (small c) (i + 2))
+    omega (arith, two_below w (λ k. omega (arith, c.type_inv.w k)) i, two_below w (λ k. omega (arith, c.type_inv.w k)) (i + 2))
 
 pub returns : goal.returns
 returns c = omega (arith, four_of c.args.w.now c.args.i)

@@ -1,5 +1,4 @@
 -- `holds` meets its contract. The invariant: the byte stands in the word if it stands in what is left of it.
-use Prim.Native.Nat.{◌-◌}
 use mathlib.Core.Path.{refl, sym, ◌∙◌}
 use Rattle.words.proofs.Words.{has_more, has_here, has_end}
 use Rattle.words.proofs.holds.Goals as goal

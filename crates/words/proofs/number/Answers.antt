@@ -1,5 +1,4 @@
 -- `number` meets its contract. The invariant: the digits that are left, behind n, stand for the word's number, as far as the code holds it.
-use Prim.Native.Nat.{◌-◌}
 use mathlib.Core.Path.{refl, sym, ap, ◌∙◌}
 use native.Mathlib.Omega.{arith}
 use Rattle.words.specs.Values.{capped}

@@ -39,4 +39,4 @@ unfolding lengths_in up_to reserved bytes has
 returns-in_default c =
     let w = c.args.w.now in
     let others : List ℕ = 13 ∷ 12 ∷ 11 ∷ 10 ∷ 9 ∷ [] in
-    reserved_not (up_to 7 others) w refl (none_up_to 7 others (length w) (omega arith) c.in_default.rest)
+    reserved_not (up_to 7 others) w refl (none_up_to 7 others (length w) (omega arith) (((((tt, omega arith), omega arith), omega arith), omega arith), omega arith))

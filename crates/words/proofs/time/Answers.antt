@@ -1,7 +1,5 @@
 -- `time` meets its contract. The invariant: what is left, behind n, stands for what the whole word stands for, as far as the code holds it.
-use Prim.Native.Nat.{◌-◌}
 use mathlib.Core.Path.{refl, sym, ap, ◌∙◌}
-use mathlib.Core.Bool.{true}
 use native.Mathlib.Omega.{arith}
 use Rattle.tokens.specs.Bytes.{digit}
 use Rattle.words.specs.Values.{capped}

@@ -7,12 +7,12 @@ use Rattle.words.proofs.two.Goals as goal
 pub overflow_mul-result : goal.overflow_mul-result
 overflow_mul-result c =
     let i = c.args.i in
-    omega (arith, c.type_inv.w.given (i + 1))
+    omega (arith, c.type_inv.w (i + 1))
 
 pub overflow_add-result : goal.overflow_add-result
 overflow_add-result c =
     let i = c.args.i in
-    omega (arith, c.type_inv.w.given i, c.type_inv.w.given (i + 1))
+    omega (arith, c.type_inv.w i, c.type_inv.w (i + 1))
 
 pub returns : goal.returns
 returns c =

@@ -1,5 +1,4 @@
 -- `zeros_from` meets its contract: from the place on all bytes are 0, and so are the eight before it where their number is 0.
-use Prim.Native.Nat.{◌-◌}
 use native.Mathlib.Omega.{arith}
 use mathlib.Core.Path.{sym, ◌∙◌}
 use Rattle.words.proofs.Packed.{zeros_none, zeros_more}

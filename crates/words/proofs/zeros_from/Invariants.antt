@@ -1,4 +1,3 @@
-use Prim.Native.Nat.{◌-◌}
 use Rattle.words.specs.Packed.{ZerosFrom}
 use Rattle.words.proofs.zeros_from.Given as goal
 
