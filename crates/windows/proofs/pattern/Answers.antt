@@ -10,7 +10,7 @@ use Rattle.meaning.specs.Statements.{Decl, Decls, Env}
 use Rattle.words.proofs.Words.{rest}
 use Rattle.measures.specs.Measures.{Measures}
 use Rattle.measures.specs.Book.{first_pattern, entries, start_at, Entry}
-use Rattle.plays.specs.Plays.{ground}
+use Rattle.plays.specs.Plays.{ground_of}
 use Rattle.plays.specs.Run.{ListedAt}
 use Rattle.plays.proofs.Keeping.{sized_kept}
 use Rattle.plays.proofs.Entering.{sized_left, part_within, part_begins}
@@ -32,7 +32,7 @@ measuring c = c.before.before.before.before.before.before
 abbrev Listing : tie.Start → Env → Decls → Decl → Type 0
 Listing c E ps d =
     ListedAt
-    (ground c.args.text.now c.args.places.now c.args.lists.now c.args.tplaces.now c.args.book.now c.args.rows.now c.args.waves.now
+    (ground_of c.args.text.now c.args.places.now c.args.lists.now c.args.tplaces.now c.args.book.now c.args.rows.now c.args.waves.now
     c.args.known c.args.signals) c.args.list.now c.args.patterns c.args.k E ps d
 
 -- its number was found
