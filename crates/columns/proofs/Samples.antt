@@ -1,7 +1,6 @@
 -- A sample, computed from the definition: only LF begins a line, and stands itself in the line that it ends.
 use mathlib.Core.Path.{◌≡◌, refl}
 use mathlib.Core.List.{[], ◌∷◌}
-use Rattle.columns.specs.declared.Position.{Position}
 use Rattle.columns.specs.Columns.{past, onward, position}
 
 -- A CR LF B LF, and past its end

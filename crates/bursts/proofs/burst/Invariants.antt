@@ -1,6 +1,7 @@
 use Prim.Native.Nat.{◌≤◌}
 use mathlib.Core.Path.{◌≡◌}
 use mathlib.Core.Bool.{true, not}
+use mathlib.Core.List.{[], ◌∷◌}
 use lib.ListN.{length}
 use Rattle.meaning.specs.Bounds.{list_most}
 use Rattle.meaning.specs.Reader.{while, ahead_of}
@@ -12,8 +13,8 @@ use Rattle.bursts.proofs.burst.Given as goal
 
 abbrev pub invariant-loop-list : goal.invariant-loop-list
 invariant-loop-list l =
-    Leads l.text l.initial.cursor (while (λ ts. not (ahead_of t16 ts)) list_entry (listed_in l.text l.initial.list l.initial.count)) l.cursor
-    (while (λ ts. not (ahead_of t16 ts)) list_entry (listed_in l.text l.list l.count))
+    Leads l.text l.initial.cursor (while (λ ts. not (ahead_of (125 ∷ []) ts)) list_entry (listed_in l.text l.initial.list l.initial.count)) l.cursor
+    (while (λ ts. not (ahead_of (125 ∷ []) ts)) list_entry (listed_in l.text l.list l.count))
     × (length l.list ≡ list_length)
     × (alive l.cursor ≡ true → l.count ≤ list_most)
 

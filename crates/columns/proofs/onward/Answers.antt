@@ -1,5 +1,5 @@
 -- `onward` meets its contract. The invariant: from here the rest is gone over as all was from `at`, and line and column are numbers that a machine keeps.
-use Prim.Native.Nat.{◌+◌, ◌-◌}
+use Prim.Native.Nat.{◌+◌}
 use mathlib.Core.Path.{refl, sym, ◌∙◌, ap, subst}
 use native.Mathlib.Omega.{arith}
 use lib.ListN.{drop}

@@ -1,9 +1,9 @@
 -- The word is taken; then it is `r` and a number, or not allowed here.
-use mathlib.Core.Logic.{⊎_elim}
 use mathlib.Core.Path.{refl}
 use Rattle.words.proofs.Flow.{then, refused_by}
 use Rattle.data.proofs.Pieces.{repeat_some, repeat_other, repeat_end, times_some, times_none}
 use Rattle.data.proofs.times.Goals as goal
+use Rattle.data.proofs.times.Goals.{then-w-gt0+else-w-eq114, else-w-gt0}
 
 pub returns-then-w-eq114 : goal.returns-then-w-eq114
 returns-then-w-eq114 c =
@@ -14,5 +14,8 @@ returns-then-w-eq114 c =
 pub returns : goal.returns
 returns c =
     let w = c.bytes_of-w.result.now in
-    let e = ⊎_elim (λ z. repeat_other w z.2.left) (λ z. repeat_end w z.left) c.if-w-gt0.branch in
-    then _ c.step-d.ensures (times_none _ c.bytes_of-w.ensures e (refused_by c.refuse_if-cursor.ensures refl))
+    let no = refused_by c.refuse_if-cursor.ensures refl in
+    elim c.if-w-gt0.branch [
+        then-w-gt0+else-w-eq114 z ↦ then _ c.step-d.ensures (times_none _ c.bytes_of-w.ensures (repeat_other w z.if-w-eq114.false) no)
+        | else-w-gt0 z ↦ then _ c.step-d.ensures (times_none _ c.bytes_of-w.ensures (repeat_end w z.if-w-gt0.false) no)
+    ]

@@ -5,10 +5,15 @@ use Rattle.intake.proofs.close.Goals as goal
 pub returns-in-Open : goal.returns-in-Open
 returns-in-Open c =
     let args = c.args in
-    close_open args.store.now c.in-Open.is c.close_open.ensures
+    let p = close_open args.store.now c.in-Open.is (c.close_open.ensures.value, c.close_open.ensures.store_after) in
+    record { value = p.0; store_after = p.1 }
 
 pub returns-in-Refused : goal.returns-in-Refused
-returns-in-Refused c = close_refused c.args.store.now c.in-Refused.is
+returns-in-Refused c =
+    let p = close_refused c.args.store.now c.in-Refused.is in
+    record { value = p.0; store_after = p.1 }
 
 pub returns-in-Closed : goal.returns-in-Closed
-returns-in-Closed c = close_closed c.args.store.now c.in-Closed.is
+returns-in-Closed c =
+    let p = close_closed c.args.store.now c.in-Closed.is in
+    record { value = p.0; store_after = p.1 }

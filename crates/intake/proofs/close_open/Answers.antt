@@ -6,7 +6,8 @@ use Rattle.intake.proofs.close_open.Goals as goal
 pub returns-then-it : goal.returns-then-it
 returns-then-it c =
     let args = c.args in
-    close_in_comment args.store.now args.it c.if-it.true
+    let p = close_in_comment args.store.now args.it c.if-it.true in
+    record { value = p.0; store_after = p.1 }
 
 pub returns-then-lacks : goal.returns-then-lacks
 returns-then-lacks c =
@@ -14,8 +15,8 @@ returns-then-lacks c =
     let said =
     room_said args.store.now args.it.stored c.room.ensures
     (c.count-n.ensures 0) (sym c.lacks.ensures ∙ c.if-lacks.true) in
-    close_no_room args.store.now args.it c.if-it.false
-    c.last-c.ensures said
+    let p = close_no_room args.store.now args.it c.if-it.false c.last-c.ensures said in
+    record { value = p.0; store_after = p.1 }
 
 pub put-end-requires : goal.put-end-requires
 put-end-requires c =
@@ -32,5 +33,5 @@ returns c =
     let said =
     room_said args.store.now args.it.stored c.room.ensures
     (c.count-n.ensures 0) (sym c.lacks.ensures ∙ c.if-lacks.false) in
-    close_closes args.store.now args.it c.if-it.false
-    c.last-c.ensures said c.put-end.ensures
+    let p = close_closes args.store.now args.it c.if-it.false c.last-c.ensures said c.put-end.ensures in
+    record { value = p.0; store_after = p.1 }

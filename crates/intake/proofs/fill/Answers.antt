@@ -1,5 +1,4 @@
 -- `fill` meets its contract. The invariant: writing the rest from here gives the store that writing the whole chunk gives.
-use Prim.Native.Nat.{◌-◌}
 use mathlib.Core.Path.{refl}
 use Rattle.intake.proofs.Turns.{byte_free, fill_room, filled_on, filled_all}
 use Rattle.intake.proofs.fill.Goals as goal

@@ -1,5 +1,4 @@
 -- `look` meets its contract. The invariant: the bytes from here on answer what the whole chunk answers.
-use Prim.Native.Nat.{◌-◌}
 use mathlib.Core.Path.{refl, sym, ◌∙◌}
 use borrow.Author.Rules.{rules}
 use Rattle.intake.proofs.Bytes.{free, free_fits}

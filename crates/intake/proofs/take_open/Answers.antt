@@ -16,7 +16,8 @@ returns-in-Open c =
     let said =
     look_said args.it args.chunk.now args.store.now c.room.ensures
     c.in-Open.is c.look.ensures in
-    taken_on args.it args.chunk.now args.store.now said c.fill.ensures
+    let p = taken_on args.it args.chunk.now args.store.now said c.fill.ensures in
+    record { value = p.0; store_after = p.1 }
 
 pub returns-in-Refused : goal.returns-in-Refused
 returns-in-Refused c =
@@ -24,7 +25,8 @@ returns-in-Refused c =
     let said =
     look_said args.it args.chunk.now args.store.now c.room.ensures
     c.in-Refused.is c.look.ensures in
-    taken_refused args.it args.chunk.now args.store.now said
+    let p = taken_refused args.it args.chunk.now args.store.now said in
+    record { value = p.0; store_after = p.1 }
 
 pub returns-in-Closed : goal.returns-in-Closed
 returns-in-Closed c =
@@ -32,4 +34,5 @@ returns-in-Closed c =
     let said =
     look_said args.it args.chunk.now args.store.now c.room.ensures
     c.in-Closed.is c.look.ensures in
-    never_closed args.it args.chunk.now args.store.now said
+    let p = never_closed args.it args.chunk.now args.store.now said in
+    record { value = p.0; store_after = p.1 }

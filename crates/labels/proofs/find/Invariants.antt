@@ -1,4 +1,3 @@
-use Prim.Native.Nat.{◌-◌}
 use Rattle.labels.proofs.Chains.{Looks}
 use Rattle.labels.proofs.find.Given as goal
 

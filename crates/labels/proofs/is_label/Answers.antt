@@ -11,7 +11,7 @@ use Rattle.labels.proofs.is_label.Goals as goal
 pub overflow_add-last : goal.overflow_add-last
 overflow_add-last c =
     let shared-slice-known3 = c.type_inv.places in
-    omega (arith, c.number-last.ensures, shared-slice-known3.given (c.args.k * 2 + 1))
+    omega (arith, c.number-last.ensures, shared-slice-known3 (c.args.k * 2 + 1))
 
 pub returns : goal.returns
 returns c =

@@ -1,5 +1,5 @@
 use mathlib.Core.Bool.{not}
-use mathlib.Core.List.{[]}
+use mathlib.Core.List.{[], ◌∷◌}
 use Rattle.meaning.specs.Reader.{while, ahead_of}
 use Rattle.words.proofs.Loops.{room}
 use Rattle.words.specs.Table.{names}
@@ -10,7 +10,7 @@ use Rattle.reports.proofs.all_records.Given as goal
 abbrev pub invariant-loop-cursor : goal.invariant-loop-cursor
 invariant-loop-cursor l =
     let one = one_record (names l.text l.places l.count) in
-    On l.report l.initial.cursor (while (λ ts. not (ahead_of t7 ts)) one []) t7 one l.cursor
+    On l.report l.initial.cursor (while (λ ts. not (ahead_of (125 ∷ []) ts)) one []) (125 ∷ []) one l.cursor
 
 abbrev pub decreases-loop-cursor : goal.decreases-loop-cursor
 decreases-loop-cursor l = room l.report l.cursor

@@ -17,7 +17,7 @@ returns-then-not-is_digit c =
     sym (ap bounded (number_some _ (omega arith) ∙ c.loop-i.invariant.1 ∙ value_none _ _ _ c.loop-i-test.true other))
 
 pub overflow_add-n : goal.overflow_add-n
-overflow_add-n c = omega (arith, c.type_inv.w.given c.loop-i.i)
+overflow_add-n c = omega (arith, c.type_inv.w c.loop-i.i)
 
 pub returns-then-n-gt-OFFSET_MOST : goal.returns-then-n-gt-OFFSET_MOST
 returns-then-n-gt-OFFSET_MOST c =
