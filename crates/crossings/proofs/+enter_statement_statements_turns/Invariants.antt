@@ -1,3 +1,4 @@
+use Prim.Native.Nat.{◌+◌, ◌*◌}
 use Rattle.tokens.specs.Tokens.{left}
 use Rattle.words.specs.Cursor.{stream}
 use Rattle.plays.specs.Plays.{ground, arrays}
@@ -10,3 +11,15 @@ invariant-statements-loop-known l = Underway (ground l.text l.places l.lists l.t
 
 abbrev pub decreases-statements-loop-known : goal.decreases-statements-loop-known
 decreases-statements-loop-known l = left (stream l.text l.cursor)
+
+abbrev pub decreases-enter : goal.decreases-enter
+decreases-enter l = 4 * l.frame.depth
+
+abbrev pub decreases-statement : goal.decreases-statement
+decreases-statement l = 4 * l.frame.depth + 1
+
+abbrev pub decreases-statements : goal.decreases-statements
+decreases-statements l = 4 * l.frame.depth + 2
+
+abbrev pub decreases-turns : goal.decreases-turns
+decreases-turns l = 4 * l.frame.depth

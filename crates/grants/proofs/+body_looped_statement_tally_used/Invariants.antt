@@ -1,3 +1,4 @@
+use Prim.Native.Nat.{◌+◌, ◌*◌}
 use Rattle.tokens.specs.Tokens.{left}
 use Rattle.words.specs.Cursor.{stream}
 use Rattle.plays.specs.Plays.{ground}
@@ -11,3 +12,18 @@ invariant-tally-loop-known l =
 abbrev pub decreases-tally-loop-known : goal.decreases-tally-loop-known
 decreases-tally-loop-known l =
     left (stream l.text l.cursor)
+
+abbrev pub decreases-body : goal.decreases-body
+decreases-body l = 4 * l.depth + 3
+
+abbrev pub decreases-looped : goal.decreases-looped
+decreases-looped l = 4 * l.depth
+
+abbrev pub decreases-statement : goal.decreases-statement
+decreases-statement l = 4 * l.depth + 1
+
+abbrev pub decreases-tally : goal.decreases-tally
+decreases-tally l = 4 * l.depth + 2
+
+abbrev pub decreases-used : goal.decreases-used
+decreases-used l = 4 * l.depth

@@ -3,7 +3,6 @@ use Prim.Native.Nat.{ℕ}
 use native.Mathlib.Omega.{arith}
 use mathlib.Core.Path.{sym, ◌∙◌}
 use lib.ListN.{length-replicate}
-use borrow.Author.Tests.{not-false}
 use Rattle.meaning.specs.Bounds.{signals_most}
 use Rattle.plays.proofs.Passing.{room, stays, passes_macro, passes_procedure}
 use Rattle.plays.proofs.pass.Goals as goal
