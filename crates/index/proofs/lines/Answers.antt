@@ -34,7 +34,7 @@ pub loop-k-smaller : goal.loop-k-smaller
 loop-k-smaller c = omega (arith, c.loop-k-test.true)
 
 pub loop-k-preserved : goal.loop-k-preserved
-loop-k-preserved c = (omega (arith, c.loop-k-test.true), omega (arith, c.loop-k.invariant.1, c.line-end.auto.0), λ ps run h. wrote_next h (c.loop-k.invariant.2 ps run h) c.args.keys.now _ c.loop-k-test.true c.listed_at-s.ensures c.requires.2 c.name_bytes.ensures (rw c.number_at-keyword.ensures at c.line-end.ensures))
+loop-k-preserved c = (omega (arith, c.loop-k-test.true), omega (arith, c.loop-k.invariant.1, c.line-end.auto.page), λ ps run h. wrote_next h (c.loop-k.invariant.2 ps run h) c.args.keys.now _ c.loop-k-test.true c.listed_at-s.ensures c.requires.2 c.name_bytes.ensures (rw c.number_at-keyword.ensures at c.line-end.ensures))
 
 pub shape_of-page : goal.shape_of-page
 shape_of-page c = c.loop-k.invariant.1

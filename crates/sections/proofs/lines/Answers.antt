@@ -36,7 +36,7 @@ loop-i-preserved c =
     let short = name_short a.text.now a.places.now loop.i c.requires.0 c.loop-i-test.true in
     let fits : length name.result.now ≤ name_most = omega (arith, ap length name.ensures) in
     let line = line_adds a.text.now a.places.now loop.i loop.invariant.2 name.ensures fits c.put-end.ensures c.put-end-in-loop-i.ensures in
-    (omega arith, omega (arith, c.put-end-in-loop-i.auto.0, c.put-end.auto.0), line)
+    (omega arith, omega (arith, c.put-end-in-loop-i.auto.page, c.put-end.auto.page), line)
 
 pub shape_of-page : goal.shape_of-page
 shape_of-page c = c.loop-i.invariant.1
