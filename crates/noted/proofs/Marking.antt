@@ -154,8 +154,10 @@ chars_has s (x ∷ a) h = by (eqb x.0 s) refl h (chars_has s a)
   where
     by : (z : Bool) → eqb x.0 s ≡ z → (z || has s (assigned a)) ≡ true → (has s (assigned a) ≡ true → has (char_of s a) (chars a) ≡ true)
         → has (char_of s (x ∷ a)) (x.1 ∷ chars a) ≡ true
-    by true e h ih = rw (sym (eqb-true x.0 s e), char_first_lem) (has_first x.1 (chars a))
-    by false e h ih = rw (char_later x a s e) (has_behind (char_of s a) (x.1 ∷ []) (chars a) (ih h))
+    by true e h ih =
+        subst (λ (k : ℕ). has (char_of k (x ∷ a)) (x.1 ∷ chars a) ≡ true) (eqb-true x.0 s e)
+        (subst (λ (c : ℕ). has c (x.1 ∷ chars a) ≡ true) (sym (char_first_lem x a)) (has_first x.1 (chars a)))
+    by false e h ih = subst (λ (c : ℕ). has c (x.1 ∷ chars a) ≡ true) (sym (char_later x a s e)) (has_behind (char_of s a) (x.1 ∷ []) (chars a) (ih h))
 
 module _ (used : List ℕ) where
   gives_each : (a : Assigns) → repeats (assigned a) ≡ false

@@ -1,10 +1,10 @@
 -- Each turn takes the next signal.
 use Prim.Native.Nat.{◌-◌}
 use native.Mathlib.Omega.{arith}
-use mathlib.Core.Logic.{⊎_elim}
 use Rattle.meaning.specs.Bounds.{signals_most}
 use Rattle.noted.proofs.Marking.{noting_none, noting_kept, noting_next, noting_rest, noting_all}
 use Rattle.noted.proofs.note.Goals as goal
+use Rattle.noted.proofs.note.Goals.{then-c, else-c}
 
 pub loop-s-init : goal.loop-s-init
 loop-s-init c = (omega arith, noting_none)
@@ -16,10 +16,11 @@ note_char-requires c =
 
 pub loop-s-preserved : goal.loop-s-preserved
 loop-s-preserved c =
-    let x = c.loop-s.invariant.1 in (
-      omega arith,
-      ⊎_elim (λ w. rw w.5 (noting_next x w.2.ensures.0 w.2.ensures.1)) (λ w. rw w.1 (noting_kept x w.0.left)) c.if-c.branch,
-    )
+    let x = c.loop-s.invariant.1 in
+    elim c.if-c.branch [
+        then-c w ↦ (omega arith, rw w.used-is (noting_next x w.note_char.ensures.0 w.note_char.ensures.1))
+        | else-c w ↦ (omega arith, rw w.used-is (noting_kept x w.if-c.false))
+    ]
 
 pub shape_of-used : goal.shape_of-used
 shape_of-used c = c.loop-s.invariant.1.grows.long

@@ -1,10 +1,10 @@
 -- Each turn takes the next signal.
 use Prim.Native.Nat.{◌-◌}
 use native.Mathlib.Omega.{arith}
-use mathlib.Core.Logic.{⊎_elim}
 use Rattle.meaning.specs.Bounds.{signals_most}
 use Rattle.noted.proofs.Marking.{args_none, args_kept, args_next, args_rest, args_all}
 use Rattle.noted.proofs.note_args.Goals as goal
+use Rattle.noted.proofs.note_args.Goals.{then-given-s-ne0, else-given-s-ne0}
 
 pub loop-s-init : goal.loop-s-init
 loop-s-init c = (omega arith, args_none)
@@ -16,10 +16,11 @@ note_data-requires c =
 
 pub loop-s-preserved : goal.loop-s-preserved
 loop-s-preserved c =
-    let x = c.loop-s.invariant.1 in (
-      omega arith,
-      ⊎_elim (λ w. rw w.6 (args_next x w.3.ensures.0 w.3.ensures.1)) (λ w. rw w.1 (args_kept x w.0.left)) c.if-given-s-ne0.branch,
-    )
+    let x = c.loop-s.invariant.1 in
+    elim c.if-given-s-ne0.branch [
+        then-given-s-ne0 w ↦ (omega arith, rw w.used-is (args_next x w.note_data.ensures.0 w.note_data.ensures.1))
+        | else-given-s-ne0 w ↦ (omega arith, rw w.used-is (args_kept x w.if-given-s-ne0.false))
+    ]
 
 pub shape_of-used : goal.shape_of-used
 shape_of-used c = c.loop-s.invariant.1.grows.long

@@ -8,48 +8,23 @@ use Rattle.references.proofs.Stepping.{ends_step, vector_step, vector_few, assig
 use Rattle.references.proofs.Going.{going, going_on, fewer, ended}
 use Rattle.references.proofs.+fill_statement.Goals as goal
 
-abbrev μ-fill : Measures 3 fill-kinds.ps ℕ
-μ-fill κs a = 2 * a.1.1.1.1.1.1.1.1.1.1.1.1.0 + 1
-
-abbrev μ-statement : Measures 3 statement-kinds.ps ℕ
-μ-statement κs a = 2 * a.1.1.1.1.1.1.1.1.1.1.1.1.0
-
-abbrev fill_at : ℕ → In 3 fill-kinds.ps
-fill_at t = and 3 fill-kinds.ps (is 3 fill-kinds.ps μ-fill t) fill.Pre
-
-abbrev fill_below : ℕ → In 3 fill-kinds.ps
-fill_below t = and 3 fill-kinds.ps (falls 3 fill-kinds.ps ◌<◌ μ-fill t) fill.Pre
-
-abbrev statement_at : ℕ → In 3 statement-kinds.ps
-statement_at t = and 3 statement-kinds.ps (is 3 statement-kinds.ps μ-statement t) statement'.Pre
-
-abbrev statement_below : ℕ → In 3 statement-kinds.ps
-statement_below t =
-    and 3 statement-kinds.ps (falls 3 statement-kinds.ps ◌<◌ μ-statement t) statement'.Pre
-
-abbrev fill_calls : ℕ → fill-lts.Claims
-fill_calls t = (statement_below t, statement'.Post)
-
-abbrev statement_calls : ℕ → statement-lts.Claims
-statement_calls t = (head-reads.Asked, head-reads.Learnt, onward-reads.Asked, onward-reads.Learnt, note-reads.Asked, note-reads.Learnt, fill_below t, fill.Post, turned-reads.Asked, turned-reads.Learnt, measure-at-reads.Asked, measure-at-reads.Learnt, used-reads.Asked, used-reads.Learnt)
-
 pub fill-loop-known-init : goal.fill-loop-known-init
 fill-loop-known-init t c =
     let pre' = c.requires in
-    record { args_long = pre'.1.1; table_long = refl; onward = λ E b us st. going pre'.1.0 st }
+    record { args_long = pre'.1; table_long = refl; onward = λ E b us st. going pre'.0 st }
 
 pub fill-statement-r-requires : goal.fill-statement-r-requires
 fill-statement-r-requires t c =
     let pre' = c.requires in
     let loop' = c.loop-known in
-    let stood = pre'.1.4 in
+    let stood = pre'.4 in
     let o = loop'.invariant.onward stood.env stood.body stood.rest stood.standing in (
-      omega (arith, pre'.0),
+      omega (arith, c.decreases),
       (
         o.on,
         loop'.invariant.args_long,
-        pre'.1.2,
-        omega (arith, loop'.invariant.table_long, pre'.1.3),
+        pre'.2,
+        omega (arith, loop'.invariant.table_long, pre'.3),
         record { env = stood.env; body = o.rest; rest = stood.rest; standing = o.standing },
       ),
     )
@@ -57,7 +32,7 @@ fill-statement-r-requires t c =
 pub fill-shape_of-args-then-r : goal.fill-shape_of-args-then-r
 fill-shape_of-args-then-r t c =
     let pre' = c.requires in
-    c.statement-r.ensures.0 ∙ sym pre'.1.1
+    c.statement-r.ensures.0 ∙ sym pre'.1
 
 pub fill-shape_of-table-then-r : goal.fill-shape_of-table-then-r
 fill-shape_of-table-then-r t c = c.statement-r.ensures.1 ∙ c.loop-known.invariant.table_long
@@ -77,7 +52,7 @@ pub fill-loop-known-smaller : goal.fill-loop-known-smaller
 fill-loop-known-smaller t c =
     let pre' = c.requires in
     let loop' = c.loop-known in
-    let stood = pre'.1.4 in
+    let stood = pre'.4 in
     let o = loop'.invariant.onward stood.env stood.body stood.rest stood.standing in
     fewer o (c.statement-r.ensures.2.steps stood.env o.rest stood.rest o.standing) c.if-r.false
 
@@ -95,102 +70,79 @@ fill-loop-known-preserved t c =
 pub statement-head-h-requires : goal.statement-head-h-requires
 statement-head-h-requires t c =
     let pre' = c.requires in
-    let stood = pre'.1.4 in
-    (record { env = stood.env; describes = stood.standing.describes }, (omega arith), gave_zeros, pre'.1.1)
-
-pub statement-enum_told-1 : goal.statement-enum_told-1
-statement-enum_told-1 t c = c.in-Ends.keys1
-
-pub statement-enum_known-what : goal.statement-enum_known-what
-statement-enum_known-what t c = c.in-Vector.keys2
+    let stood = pre'.4 in
+    (record { env = stood.env; describes = stood.standing.describes }, (omega arith), gave_zeros, pre'.1)
 
 pub statement-overflow_add-cycles : goal.statement-overflow_add-cycles
 statement-overflow_add-cycles t c =
     let pre' = c.requires in
     let head' = c.head-h in
-    let stood = pre'.1.4 in
+    let stood = pre'.4 in
     let st = stood.standing in
-    omega (arith, vector_few st pre'.1.0 _ _ _ (head'.ensures.2 stood.env st.describes) _ c.in-Vector.is)
-
-pub statement-enum_told-in-Assigns : goal.statement-enum_told-in-Assigns
-statement-enum_told-in-Assigns t c = c.in-Assigns.keys3
+    omega (arith, vector_few st pre'.0 _ _ _ (head'.ensures.2 stood.env st.describes) _ c.in-Vector.is)
 
 pub statement-note-requires : goal.statement-note-requires
 statement-note-requires t c =
     let pre' = c.requires in
-    (pre'.1.0, pre'.1.2, pre'.1.3, omega (arith, pre'.1.4.standing.few))
-
-pub statement-enum_known-what-in-Chooses-1 : goal.statement-enum_known-what-in-Chooses-1
-statement-enum_known-what-in-Chooses-1 t c = c.in-Chooses.keys4
-
-pub statement-enum_known-what-in-Loops-1 : goal.statement-enum_known-what-in-Loops-1
-statement-enum_known-what-in-Loops-1 t c = c.in-Loops.keys5
+    (pre'.0, pre'.2, pre'.3, omega (arith, pre'.4.standing.few))
 
 pub statement-overflow_sub-depth : goal.statement-overflow_sub-depth
 statement-overflow_sub-depth t c =
     let pre' = c.requires in
     let head' = c.head-h in
-    let stood = pre'.1.4 in
+    let stood = pre'.4 in
     let st = stood.standing in
-    omega (arith, (in_loop st pre'.1.0 _ _ _ (head'.ensures.2 stood.env st.describes) _ c.in-Loops.is).deeper)
+    omega (arith, (in_loop st pre'.0 _ _ _ (head'.ensures.2 stood.env st.describes) _ c.in-Loops.is).deeper)
 
 pub statement-fill-r-requires : goal.statement-fill-r-requires
 statement-fill-r-requires t c =
     let pre' = c.requires in
     let head' = c.head-h in
-    let stood = pre'.1.4 in
+    let stood = pre'.4 in
     let st = stood.standing in
-    let i = in_loop st pre'.1.0 _ _ _ (head'.ensures.2 stood.env st.describes) _ c.in-Loops.is in (
-      omega (arith, pre'.0, i.deeper),
-      (i.on, head'.ensures.1, pre'.1.2, pre'.1.3, record { env = stood.env; body = i.body; rest = i.between; standing = i.standing }),
+    let i = in_loop st pre'.0 _ _ _ (head'.ensures.2 stood.env st.describes) _ c.in-Loops.is in (
+      omega (arith, c.decreases, i.deeper),
+      (i.on, head'.ensures.1, pre'.2, pre'.3, record { env = stood.env; body = i.body; rest = i.between; standing = i.standing }),
     )
 
 pub statement-turned-requires : goal.statement-turned-requires
 statement-turned-requires t c =
     let pre' = c.requires in
     let head' = c.head-h in
-    let stood = pre'.1.4 in
+    let stood = pre'.4 in
     let st = stood.standing in
-    let i = in_loop st pre'.1.0 _ _ _ (head'.ensures.2 stood.env st.describes) _ c.in-Loops.is in
+    let i = in_loop st pre'.0 _ _ _ (head'.ensures.2 stood.env st.describes) _ c.in-Loops.is in
     let s = c.fill-r.ensures.2.fills stood.env i.body i.between i.standing in
     (turns_rise st i s, turns_few st i s)
-
-pub statement-enum_told-in-Shifts : goal.statement-enum_told-in-Shifts
-statement-enum_told-in-Shifts t c = c.in-Shifts.keys6
-
-pub statement-enum_known-what-in-Uses-1 : goal.statement-enum_known-what-in-Uses-1
-statement-enum_known-what-in-Uses-1 t c = c.in-Uses.keys7
 
 pub statement-measure_at-requires : goal.statement-measure_at-requires
 statement-measure_at-requires t c =
     let pre' = c.requires in
     let head' = c.head-h in
-    let stood = pre'.1.4 in
+    let stood = pre'.4 in
     let st = stood.standing in
-    (st.describes.book_long, omega (arith, declared st pre'.1.0 _ _ _ (head'.ensures.2 stood.env st.describes) _ _ c.in-Uses.is))
+    (st.describes.book_long, omega (arith, declared st pre'.0 _ _ _ (head'.ensures.2 stood.env st.describes) _ _ c.in-Uses.is))
 
 pub statement-overflow_add-cycles-in-Uses : goal.statement-overflow_add-cycles-in-Uses
 statement-overflow_add-cycles-in-Uses t c =
     let pre' = c.requires in
     let head' = c.head-h in
-    let stood = pre'.1.4 in
+    let stood = pre'.4 in
     let st = stood.standing in
-    omega (arith, used_few st pre'.1.0 _ _ _ (head'.ensures.2 stood.env st.describes) _ _ c.in-Uses.is (rw c.measure_at.ensures at c.used-m.ensures))
+    omega (arith, used_few st pre'.0 _ _ _ (head'.ensures.2 stood.env st.describes) _ _ c.in-Uses.is (rw c.measure_at.ensures at c.used-m.ensures))
 
 pub statement-returns-in-Ends : goal.statement-returns-in-Ends
 statement-returns-in-Ends t c =
     let pre' = c.requires in
     let h = c.head-h.ensures in
-    let enum-told' = c.enum_told-1 in
-    (h.1, refl, record { steps = λ E b us st. ends_step st pre'.1.0 _ _ _ (h.2 E st.describes) enum-told'.given.1 })
+    (h.1, refl, record { steps = λ E b us st. ends_step st pre'.0 _ _ _ (h.2 E st.describes) c.in-Ends.is })
 
 pub statement-returns-in-Vector : goal.statement-returns-in-Vector
 statement-returns-in-Vector t c =
     let pre' = c.requires in
     let h = c.head-h.ensures in
-    let what' = c.what-1 in
     rw c.onward.ensures
-    (h.1, refl, record { steps = λ E b us st. vector_step st pre'.1.0 _ _ _ (h.2 E st.describes) _ what'.given.1 })
+    (h.1, refl, record { steps = λ E b us st. vector_step st pre'.0 _ _ _ (h.2 E st.describes) _ c.in-Vector.is })
 
 pub statement-shape_of-table-in-Assigns : goal.statement-shape_of-table-in-Assigns
 statement-shape_of-table-in-Assigns t c = c.note.ensures.long
@@ -200,22 +152,20 @@ statement-returns-in-Assigns t c =
     let pre' = c.requires in
     let h = c.head-h.ensures in
     let note' = c.note in
-    let enum-told2' = c.enum_told-in-Assigns-1 in
     rw c.onward-in-Assigns.ensures
-    (h.1, note'.ensures.long, record { steps = λ E b us st. assigns_step st pre'.1.0 _ _ _ (h.2 E st.describes) enum-told2'.given.1 note'.ensures })
+    (h.1, note'.ensures.long, record { steps = λ E b us st. assigns_step st pre'.0 _ _ _ (h.2 E st.describes) c.in-Assigns.is note'.ensures })
 
 pub statement-returns-in-Chooses : goal.statement-returns-in-Chooses
 statement-returns-in-Chooses t c =
     let pre' = c.requires in
     let h = c.head-h.ensures in
-    let what2' = c.what-in-Chooses-1 in
     rw c.onward-in-Chooses.ensures
-    (h.1, refl, record { steps = λ E b us st. chooses_step st pre'.1.0 _ _ _ (h.2 E st.describes) _ what2'.given.1 })
+    (h.1, refl, record { steps = λ E b us st. chooses_step st pre'.0 _ _ _ (h.2 E st.describes) _ c.in-Chooses.is })
 
 pub statement-shape_of-args-in-Loops : goal.statement-shape_of-args-in-Loops
 statement-shape_of-args-in-Loops t c =
     let pre' = c.requires in
-    c.fill-r.ensures.0 ∙ sym pre'.1.1
+    c.fill-r.ensures.0 ∙ sym pre'.1
 
 pub statement-shape_of-table-in-Loops : goal.statement-shape_of-table-in-Loops
 statement-shape_of-table-in-Loops t c = c.fill-r.ensures.1
@@ -224,7 +174,6 @@ pub statement-returns-in-Loops : goal.statement-returns-in-Loops
 statement-returns-in-Loops t c =
     let pre' = c.requires in
     let h = c.head-h.ensures in
-    let what3' = c.what-in-Loops-1 in
     let fill' = c.fill-r in
     let turned' = c.turned in
     rw c.onward-in-Loops.ensures (
@@ -232,7 +181,7 @@ statement-returns-in-Loops t c =
       fill'.ensures.1,
       record {
         steps = λ E b us st. (
-            let i = in_loop st pre'.1.0 _ _ _ (h.2 E st.describes) _ what3'.given.1 in
+            let i = in_loop st pre'.0 _ _ _ (h.2 E st.describes) _ c.in-Loops.is in
             loop_step st i (fill'.ensures.2.fills E i.body i.between i.standing) turned'.ensures);
       },
     )
@@ -241,20 +190,18 @@ pub statement-returns-in-Shifts : goal.statement-returns-in-Shifts
 statement-returns-in-Shifts t c =
     let pre' = c.requires in
     let h = c.head-h.ensures in
-    let enum-told3' = c.enum_told-in-Shifts-1 in
-    (h.1, refl, record { steps = λ E b us st. absurd (no_shift st pre'.1.0 _ _ _ (h.2 E st.describes) enum-told3'.given.1) })
+    (h.1, refl, record { steps = λ E b us st. absurd (no_shift st pre'.0 _ _ _ (h.2 E st.describes) c.in-Shifts.is) })
 
 pub statement-returns-in-Uses : goal.statement-returns-in-Uses
 statement-returns-in-Uses t c =
     let pre' = c.requires in
     let h = c.head-h.ensures in
-    let what4' = c.what-in-Uses-1 in
     let measure-at' = c.measure_at in
     let used' = c.used-m in
     rw c.onward-in-Uses.ensures (
       h.1,
       refl,
       record {
-        steps = λ E b us st. used_step st pre'.1.0 _ _ _ (h.2 E st.describes) _ _ what4'.given.1 (rw measure-at'.ensures at used'.ensures);
+        steps = λ E b us st. used_step st pre'.0 _ _ _ (h.2 E st.describes) _ _ c.in-Uses.is (rw measure-at'.ensures at used'.ensures);
       },
     )

@@ -1,3 +1,4 @@
+use Prim.Native.Nat.{◌+◌, ◌*◌}
 use Rattle.tokens.specs.Tokens.{left}
 use Rattle.words.specs.Cursor.{stream}
 use Rattle.references.specs.Filled.{tables}
@@ -10,3 +11,10 @@ invariant-fill-loop-known l =
 
 abbrev pub decreases-fill-loop-known : goal.decreases-fill-loop-known
 decreases-fill-loop-known l = left (stream l.text l.cursor)
+
+-- a Loop's body may stand one level less deep
+abbrev pub decreases-fill : goal.decreases-fill
+decreases-fill l = 2 * l.depth + 1
+
+abbrev pub decreases-statement : goal.decreases-statement
+decreases-statement l = 2 * l.depth
