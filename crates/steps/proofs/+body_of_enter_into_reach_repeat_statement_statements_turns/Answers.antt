@@ -10,7 +10,7 @@ use Rattle.meaning.specs.Run.{bare}
 use Rattle.walks.proofs.Loops.{some_cycles, turn_below}
 use Rattle.words.specs.Cursor.{stream}
 use Rattle.assigns.proofs.Table.{gave_zeros}
-use Rattle.plays.specs.Plays.{ground, arrays}
+use Rattle.plays.specs.Plays.{ground_of, arrays}
 use Rattle.plays.proofs.Fitting.{fits_some}
 use Rattle.plays.proofs.Heading.{begins_within}
 use Rattle.plays.proofs.Summing.{summed_empty}
@@ -277,7 +277,7 @@ into-returns t c =
 
 -- where the turns begin: with the first, or behind it
 reach-begun : (t : ℕ) (c : reach-Joined-j-gt0 t)
-    → Begun (ground c.args.text.now c.args.places.now c.args.lists.now c.args.tplaces.now c.args.book.now c.args.rows.now c.args.waves.now c.args.known c.args.signals) (stream c.args.text.now c.args.c)
+    → Begun (ground_of c.args.text.now c.args.places.now c.args.lists.now c.args.tplaces.now c.args.book.now c.args.rows.now c.args.waves.now c.args.known c.args.signals) (stream c.args.text.now c.args.c)
     (c.args.frame.depth - 1) c.args.frame.level c.args.table c.args.frame.turns c.args.n c.measure-m.result.measure.cycles (arrays c.args.values.now c.args.feeds.now c.measure-m.new.args) (spent c.args.walk (c.measure-m.result.measure.size + 1))
     c.if-j-gt0.chosen (arrays c.if-j-gt0.values c.if-j-gt0.feeds c.if-j-gt0.args)
 reach-begun t c =

@@ -11,7 +11,7 @@ use Rattle.walks.specs.Statement.{begun}
 use Rattle.words.proofs.Words.{rest}
 use Rattle.measures.specs.Measures.{Measures}
 use Rattle.measures.specs.Book.{first_pattern, entries, start_at, Entry}
-use Rattle.plays.specs.Plays.{ground}
+use Rattle.plays.specs.Plays.{ground_of}
 use Rattle.plays.specs.Run.{ListedAt}
 use Rattle.plays.proofs.Keeping.{sized_kept}
 use Rattle.plays.proofs.Entering.{sized_left, part_within, part_begins}
@@ -26,7 +26,7 @@ use Rattle.windows.proofs.pattern.Goals.{After-find-i, After-measure_at-m}
 abbrev Listing : After-find-i → Env → Decls → Decl → Type 0
 Listing c E ps d =
     ListedAt
-    (ground c.args.text.now c.args.places.now c.args.lists.now c.args.tplaces.now c.args.book.now c.args.rows.now c.args.waves.now
+    (ground_of c.args.text.now c.args.places.now c.args.lists.now c.args.tplaces.now c.args.book.now c.args.rows.now c.args.waves.now
     c.args.known c.args.signals) c.args.list.now c.args.patterns c.args.k E ps d
 
 -- its number was found
