@@ -1,7 +1,7 @@
 /*
  * A reader of STIL test patterns (IEEE 1450) whose answers are proved, for programs in C and C++.
  *
- * `rt staticlib stil` writes the library, target/staticlib/libstil.a, for x86-64 Linux. It wants memcpy and
+ * `tools/library` writes the library, target/libstil.a, for x86-64 Linux. It wants memcpy and
  * memset, and nothing else.
  *
  * A text is all the bytes of a STIL file, as they are. There is nothing to open or to close: each call is handed

@@ -18,6 +18,8 @@ MODULE = re.compile(r"use (Rattle\.\S+?|\S+?)\.\{([^}]*)\}")
 CLAUSE = re.compile(r"\bghost use\b|\b(?:requires|ensures)\*?(?: \w+)? (?=\{)")
 # Names that hide nothing when they fall together with another: a module's or a function's, which stand in paths alone.
 SUFFIX = "_lem"
+# A tactic's word, which no clause and no definition may have for a name.
+TACTICS = {"ground": "ground_of"}
 
 
 def snake(name):
@@ -98,6 +100,7 @@ def names():
         if "-" in name and (new in camel or (new in own and used[new] & used[name])):
             new += SUFFIX
         out[name] = new
+    out.update({name: new for name, new in TACTICS.items() if name in own})
     # Lemmas and fields whose name a definition now takes.
     for name in own:
         if name not in turned and name in camel and name not in brought:

@@ -1,32 +1,33 @@
 // The one line of an answer, to standard output.
 use crate::asked;
+use streams::System;
 
-pub fn refused(text: &[u8], no: u8, place: usize) {
+pub fn refused(rt: &impl System, text: &[u8], no: u8, place: usize) {
     let mut page = asked::page();
     let end = sections::refusal(&mut page, 0, text, no, place);
-    streams::write(&page, end);
+    streams::write(rt, &page, end);
 }
 
-pub fn visits(v: usize) {
+pub fn visits(rt: &impl System, v: usize) {
     let mut page = asked::page();
     let end = lines::visits(&mut page, 0, v);
-    streams::write(&page, end);
+    streams::write(rt, &page, end);
 }
 
-pub fn pattern(k: usize) {
+pub fn pattern(rt: &impl System, k: usize) {
     let mut page = asked::page();
     let end = lines::pattern(&mut page, 0, k);
-    streams::write(&page, end);
+    streams::write(rt, &page, end);
 }
 
-pub fn no_pattern() {
+pub fn no_pattern(rt: &impl System) {
     let mut page = asked::page();
     let end = lines::no_pattern(&mut page, 0);
-    streams::write(&page, end);
+    streams::write(rt, &page, end);
 }
 
-pub fn help() {
+pub fn help(rt: &impl System) {
     let mut page = asked::page();
     let end = lines::help(&mut page, 0);
-    streams::write(&page, end);
+    streams::write(rt, &page, end);
 }

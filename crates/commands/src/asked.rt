@@ -1,7 +1,11 @@
 // The words of the command line, and the one line on standard error for a word that is wrong.
 ghost use Rattle.std.specs.Prelude.{◌≡◌, ◌≤◌, ◌<◌, length};
+ghost use Rattle.streams.specs.Counts.{IsPrefixLen};
 
 use lines::Value;
+use std::env::FillError;
+use std::rt::Env;
+use streams::System;
 
 // The longest word that Linux hands to a program.
 const WORD: usize = 131_072;
@@ -22,44 +26,65 @@ pub fn page() -> [u8; PAGE]
     [0; PAGE]
 }
 
+// How many words there are, the program's own name among them.
+pub fn given(rt: &impl Env) -> usize {
+    let mut none = [0u8; 0];
+    for i in 0..usize::MAX {
+        if let Err(FillError::NotPresent) = rt.arg(i, &mut none) {
+            return i;
+        }
+    }
+    usize::MAX
+}
+
+// Word i at the front of a buffer, and its length; 0 where there is none, or where it is longer than the buffer.
+pub fn put_word(rt: &impl Env, i: usize, word: &mut [u8]) -> usize
+    ensures { IsPrefixLen result word.new }
+{
+    match rt.arg(i, word) {
+        Ok(n) => n,
+        Err(_) => 0,
+    }
+}
+
 // What is wrong, and the word.
-pub fn fault(what: &[u8], word: &[u8])
+pub fn fault(rt: &impl System, what: &[u8], word: &[u8])
     requires { (length what.now ≤ 64) × (length word.now ≤ 131072) }
 {
     let mut page = page();
     let end = lines::fault(&mut page, 0, what, word);
-    streams::tell(&page, end);
+    streams::tell(rt, &page, end);
 }
 
-pub fn missing(word: &[u8])
+pub fn missing(rt: &impl System, word: &[u8])
     requires { length word.now ≤ 64 }
 {
-    fault(b"missing word", word);
+    fault(rt, b"missing word", word);
 }
 
 // Word i is one too many.
-fn too_many(i: usize) {
+fn too_many(rt: &impl System, i: usize) {
     let mut word = word();
-    let n = os::arg(i, &mut word);
-    fault(b"one word too many", &word[..n]);
+    let n = put_word(rt, i, &mut word);
+    fault(rt, b"one word too many", &word[..n]);
 }
 
 // Is there no word behind the first `due`, the program's own name among them?
-pub fn no_more(due: usize) -> bool {
-    if due < os::arg_count() {
-        too_many(due);
+pub fn no_more(rt: &impl System, due: usize) -> bool {
+    if due < given(rt) {
+        too_many(rt, due);
         return false;
     }
     true
 }
 
 // Word i as a number.
-pub fn number(i: usize) -> Value {
+pub fn number(rt: &impl System, i: usize) -> Value {
     let mut word = word();
-    let n = os::arg(i, &mut word);
+    let n = put_word(rt, i, &mut word);
     let value = lines::number(&word[..n]);
     if !value.right {
-        fault(b"not a number", &word[..n]);
+        fault(rt, b"not a number", &word[..n]);
     }
     value
 }
@@ -71,18 +96,18 @@ fn wide(b: u8) -> u64
 }
 
 // Word i as one byte.
-pub fn byte(i: usize) -> Value
+pub fn byte(rt: &impl System, i: usize) -> Value
     ensures { result.value < 256 }
 {
     let mut word = word();
-    let n = os::arg(i, &mut word);
+    let n = put_word(rt, i, &mut word);
     if n == 1 {
         return Value {
             right: true,
             value: wide(word[0]),
         };
     }
-    fault(b"not one byte", &word[..n]);
+    fault(rt, b"not one byte", &word[..n]);
     Value {
         right: false,
         value: 0,
@@ -90,9 +115,9 @@ pub fn byte(i: usize) -> Value
 }
 
 // Word i as a kind of name: 1 for `table`, 0 for `signal`.
-pub fn kind(i: usize) -> Value {
+pub fn kind(rt: &impl System, i: usize) -> Value {
     let mut word = word();
-    let n = os::arg(i, &mut word);
+    let n = put_word(rt, i, &mut word);
     if words::equal(&word[..n], b"table") {
         return Value {
             right: true,
@@ -101,7 +126,7 @@ pub fn kind(i: usize) -> Value {
     }
     let right = words::equal(&word[..n], b"signal");
     if !right {
-        fault(b"neither signal nor table", &word[..n]);
+        fault(rt, b"neither signal nor table", &word[..n]);
     }
     Value { right, value: 0 }
 }

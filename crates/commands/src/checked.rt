@@ -3,6 +3,7 @@ ghost use Rattle.std.specs.Prelude.{◌≡◌, ◌+◌, ◌≤◌, ◌<◌, leng
 
 use crate::{asked, files};
 use services::Checked;
+use streams::System;
 
 #[derive(Clone, Copy)]
 enum Found {
@@ -56,18 +57,18 @@ fn judged_line(file: &[u8], text: &[u8], page: &mut [u8]) -> Line
     }
 }
 
-fn unread(file: &[u8]) -> Told
+fn unread(rt: &impl System, file: &[u8]) -> Told
     requires { length file.now ≤ 131072 }
 {
     let mut page = asked::page();
     let end = lines::unread(&mut page, 0, file);
     Told {
         found: Found::Unread,
-        written: streams::write(&page, end),
+        written: streams::write(rt, &page, end),
     }
 }
 
-fn judged(file: &[u8], text: &[u8]) -> Told
+fn judged(rt: &impl System, file: &[u8], text: &[u8]) -> Told
     requires { length file.now ≤ 131072 }
 {
     let mut page = asked::page();
@@ -76,21 +77,21 @@ fn judged(file: &[u8], text: &[u8]) -> Told
     let found = l.found;
     Told {
         found,
-        written: streams::write(&page, end),
+        written: streams::write(rt, &page, end),
     }
 }
 
 // The file that word i names.
-fn told_of(i: usize) -> Told {
+fn told_of(rt: &impl System, i: usize) -> Told {
     let mut word = asked::word();
-    let n = os::arg(i, &mut word);
+    let n = asked::put_word(rt, i, &mut word);
     let mut text = streams::room();
-    let t = files::read(&word[..n], &mut text);
+    let t = files::read(rt, &word[..n], &mut text);
     if !t.read {
-        return unread(&word[..n]);
+        return unread(rt, &word[..n]);
     }
     let k = t.length;
-    judged(&word[..n], &text[..k])
+    judged(rt, &word[..n], &text[..k])
 }
 
 // ---- all files
@@ -118,15 +119,15 @@ fn added(t: Tally, found: Found) -> Tally
     }
 }
 
-fn sum(t: Tally) {
+fn sum(rt: &impl System, t: Tally) {
     let mut page = asked::page();
     let end = lines::sum(&mut page, 0, t.good, t.hurt, t.unread);
-    streams::write(&page, end);
+    streams::write(rt, &page, end);
 }
 
-pub fn check() {
-    let words = os::arg_count();
-    let watched = streams::is_watched();
+pub fn check(rt: &impl System) {
+    let words = asked::given(rt);
+    let watched = streams::is_watched(rt);
     let mut tally = Tally {
         good: 0,
         hurt: 0,
@@ -134,7 +135,7 @@ pub fn check() {
     };
     let mut i = 2;
     while i < words {
-        let t = told_of(i);
+        let t = told_of(rt, i);
         if !t.written {
             return;
         }
@@ -142,8 +143,8 @@ pub fn check() {
         tally = added(tally, found);
         i += 1;
         if watched {
-            streams::progress(i - 2, words - 2);
+            streams::progress(rt, i - 2, words - 2);
         }
     }
-    sum(tally);
+    sum(rt, tally);
 }

@@ -1,34 +1,36 @@
 // The texts of files.
-ghost use Rattle.io.specs.Counts.{IsPrefixLen};
+ghost use Rattle.streams.specs.Counts.{IsPrefixLen};
 
 use crate::asked;
-use streams::Text;
+use std::fs;
+use streams::{System, Text};
 
-// The text of a file, at the front of a buffer.
-pub fn read(path: &[u8], text: &mut [u8]) -> Text
+// The text of a file, at the front of a buffer. A name that is no text names no file here.
+pub fn read(rt: &impl System, path: &[u8], text: &mut [u8]) -> Text
     ensures { IsPrefixLen result.length text.new }
 {
-    let fd = os::open_read(path);
-    if fd < 0 {
-        return Text {
-            read: false,
-            length: 0,
-        };
+    let unread = Text {
+        read: false,
+        length: 0,
+    };
+    let Ok(path) = str::from_utf8(path) else {
+        return unread;
+    };
+    match fs::open(rt, path) {
+        Ok(mut file) => streams::read(&mut file, text),
+        Err(_) => unread,
     }
-    let t = streams::read(fd, text);
-    libc::close(fd);
-    t
 }
 
 // The text of the file that word i names.
-pub fn text(i: usize, text: &mut [u8]) -> Text
+pub fn text(rt: &impl System, i: usize, text: &mut [u8]) -> Text
     ensures { IsPrefixLen result.length text.new }
 {
     let mut word = asked::word();
-    let n = os::arg(i, &mut word);
-    let t = read(&word[..n], text);
+    let n = asked::put_word(rt, i, &mut word);
+    let t = read(rt, &word[..n], text);
     if !t.read {
-        asked::fault(b"cannot be read", &word[..n]);
+        asked::fault(rt, b"cannot be read", &word[..n]);
     }
     t
 }

@@ -3,6 +3,7 @@ ghost use Rattle.std.specs.Prelude.{◌≡◌, ◌+◌, ◌*◌, ◌≤◌, leng
 
 use crate::{answers, asked, files, split};
 use services::Saved;
+use streams::System;
 
 // Two numbers for each span. A text has at most as many spans as bytes, so that all have room.
 const SPANS: usize = 131_072;
@@ -15,7 +16,7 @@ fn room() -> [u64; SPANS]
 }
 
 // A line for each of k spans, written whenever a page is half full; false where one cannot be written.
-fn put_spans(spans: &[u64], k: usize) -> bool
+fn put_spans(rt: &impl System, spans: &[u64], k: usize) -> bool
     requires { k * 2 ≤ length spans.now }
 {
     let mut space = asked::page();
@@ -23,7 +24,7 @@ fn put_spans(spans: &[u64], k: usize) -> bool
     let mut end = 0;
     let mut i = 0;
     while i < k {
-        let filled = split::emptied(page, end);
+        let filled = split::emptied(rt, page, end);
         if !filled.going {
             return false;
         }
@@ -31,38 +32,38 @@ fn put_spans(spans: &[u64], k: usize) -> bool
         i += 1;
     }
     let last = lines::spans(page, end, k);
-    streams::write(page, last)
+    streams::write(rt, page, last)
 }
 
-fn answer(text: &mut [u8]) {
+fn answer(rt: &impl System, text: &mut [u8]) {
     let mut spans = room();
     match services::save(text, &mut spans) {
         Saved::Spans(k) => {
             if SPANS / 2 < k {
-                return streams::broken(b"more spans than a text has bytes\n");
+                return streams::broken(rt, b"more spans than a text has bytes\n");
             }
-            if put_spans(&spans, k) {
-                streams::write(text, text.len());
+            if put_spans(rt, &spans, k) {
+                streams::write(rt, text, text.len());
             }
         }
-        Saved::Refused(no, place) => answers::refused(text, no, place),
+        Saved::Refused(no, place) => answers::refused(rt, text, no, place),
     }
 }
 
-fn file() {
+fn file(rt: &impl System) {
     let mut text = streams::room();
-    let t = files::text(2, &mut text);
+    let t = files::text(rt, 2, &mut text);
     if t.read {
         let n = t.length;
-        answer(&mut text[..n]);
+        answer(rt, &mut text[..n]);
     }
 }
 
-pub fn save() {
-    if os::arg_count() < 3 {
-        return asked::missing(b"FILE");
+pub fn save(rt: &impl System) {
+    if asked::given(rt) < 3 {
+        return asked::missing(rt, b"FILE");
     }
-    if asked::no_more(3) {
-        file();
+    if asked::no_more(rt, 3) {
+        file(rt);
     }
 }

@@ -3,6 +3,7 @@ ghost use Rattle.std.specs.Prelude.{◌≡◌, ◌≤◌, length};
 
 use crate::{answers, asked, files};
 use services::Shaped;
+use streams::System;
 
 // EVENTS k, and a line for each event; where the last ends.
 fn put_events(page: &mut [u8], times: &[u64], letters: &[u8], k: usize) -> usize
@@ -17,65 +18,65 @@ fn put_events(page: &mut [u8], times: &[u64], letters: &[u8], k: usize) -> usize
     end
 }
 
-fn events(times: &[u64], letters: &[u8], k: usize)
+fn events(rt: &impl System, times: &[u64], letters: &[u8], k: usize)
     requires { (length times.now ≡ 16) × (length letters.now ≡ 16) }
 {
     if waves::EVENTS < k {
-        return streams::broken(b"more events than a waveform has\n");
+        return streams::broken(rt, b"more events than a waveform has\n");
     }
     let mut page = asked::page();
     let end = put_events(&mut page, times, letters, k);
-    streams::write(&page, end);
+    streams::write(rt, &page, end);
 }
 
-fn answer(text: &[u8], table: usize, signal: usize, char: u8) {
+fn answer(rt: &impl System, text: &[u8], table: usize, signal: usize, char: u8) {
     let mut times = [0u64; waves::EVENTS];
     let mut letters = [0u8; waves::EVENTS];
     match services::waveform(text, table, signal, char, &mut times, &mut letters) {
-        Shaped::Events(k) => events(&times, &letters, k),
-        Shaped::Refused(no, place) => answers::refused(text, no, place),
+        Shaped::Events(k) => events(rt, &times, &letters, k),
+        Shaped::Refused(no, place) => answers::refused(rt, text, no, place),
     }
 }
 
-fn file(table: usize, signal: usize) {
-    let char = asked::byte(5);
+fn file(rt: &impl System, table: usize, signal: usize) {
+    let char = asked::byte(rt, 5);
     if !char.right {
         return;
     }
     let mut text = streams::room();
-    let t = files::text(2, &mut text);
+    let t = files::text(rt, 2, &mut text);
     if t.read {
         let n = t.length;
-        answer(&text[..n], table, signal, char.value as u8);
+        answer(rt, &text[..n], table, signal, char.value as u8);
     }
 }
 
-fn numbers() {
-    let table = asked::number(3);
+fn numbers(rt: &impl System) {
+    let table = asked::number(rt, 3);
     if !table.right {
         return;
     }
-    let signal = asked::number(4);
+    let signal = asked::number(rt, 4);
     if signal.right {
-        file(table.value as usize, signal.value as usize);
+        file(rt, table.value as usize, signal.value as usize);
     }
 }
 
-pub fn waveform() {
-    let words = os::arg_count();
+pub fn waveform(rt: &impl System) {
+    let words = asked::given(rt);
     if words < 3 {
-        return asked::missing(b"FILE");
+        return asked::missing(rt, b"FILE");
     }
     if words < 4 {
-        return asked::missing(b"TABLE");
+        return asked::missing(rt, b"TABLE");
     }
     if words < 5 {
-        return asked::missing(b"SIGNAL");
+        return asked::missing(rt, b"SIGNAL");
     }
     if words < 6 {
-        return asked::missing(b"CHARACTER");
+        return asked::missing(rt, b"CHARACTER");
     }
-    if asked::no_more(6) {
-        numbers();
+    if asked::no_more(rt, 6) {
+        numbers(rt);
     }
 }

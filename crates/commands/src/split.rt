@@ -2,6 +2,7 @@
 ghost use Rattle.std.specs.Prelude.{◌+◌, ◌≤◌, ◌<◌, length};
 
 use crate::{asked, files};
+use streams::System;
 use tokens::Step;
 
 // What is written once it stands on the page so far.
@@ -15,34 +16,34 @@ pub struct Filled {
 }
 
 // A page that is half full is written.
-pub fn emptied(page: &[u8], end: usize) -> Filled
+pub fn emptied(rt: &impl System, page: &[u8], end: usize) -> Filled
     ensures { result.end ≤ 131072 }
 {
     if end < HALF {
         return Filled { going: true, end };
     }
     Filled {
-        going: streams::write(page, end),
+        going: streams::write(rt, page, end),
         end: 0,
     }
 }
 
-fn count(page: &mut [u8], end: usize, k: usize)
+fn count(rt: &impl System, page: &mut [u8], end: usize, k: usize)
     requires { end + 128 ≤ length page.old }
 {
     let last = lines::tokens(page, end, k);
-    streams::write(page, last);
+    streams::write(rt, page, last);
 }
 
-fn refused(page: &mut [u8], end: usize, text: &[u8], no: u8, place: usize)
+fn refused(rt: &impl System, page: &mut [u8], end: usize, text: &[u8], no: u8, place: usize)
     requires { end + 128 ≤ length page.old }
 {
     let last = sections::refusal(page, end, text, no, place);
-    streams::write(page, last);
+    streams::write(rt, page, last);
 }
 
 // A line for each token, up to the first refusal.
-fn answer(text: &[u8])
+fn answer(rt: &impl System, text: &[u8])
     requires { length text.now ≤ 65537 }
 {
     let mut space = asked::page();
@@ -53,7 +54,7 @@ fn answer(text: &[u8])
     loop {
         match tokens::next_token(text, at) {
             Step::Token(p, l) => {
-                let filled = emptied(page, end);
+                let filled = emptied(rt, page, end);
                 if !filled.going {
                     return;
                 }
@@ -62,29 +63,29 @@ fn answer(text: &[u8])
                 end = lines::token(page, filled.end, p, &text[p..at]);
             }
             Step::Nothing => {
-                return count(page, end, k);
+                return count(rt, page, end, k);
             }
             Step::Refused(no, place) => {
-                return refused(page, end, text, no, place);
+                return refused(rt, page, end, text, no, place);
             }
         }
     }
 }
 
-fn file() {
+fn file(rt: &impl System) {
     let mut text = streams::room();
-    let t = files::text(2, &mut text);
+    let t = files::text(rt, 2, &mut text);
     if t.read {
         let n = t.length;
-        answer(&text[..n]);
+        answer(rt, &text[..n]);
     }
 }
 
-pub fn tokens() {
-    if os::arg_count() < 3 {
-        return asked::missing(b"FILE");
+pub fn tokens(rt: &impl System) {
+    if asked::given(rt) < 3 {
+        return asked::missing(rt, b"FILE");
     }
-    if asked::no_more(3) {
-        file();
+    if asked::no_more(rt, 3) {
+        file(rt);
     }
 }

@@ -1,34 +1,35 @@
 // intake FILE
 use crate::{answers, asked, files};
 use intake::Progress;
+use streams::System;
 
 // What the intake stores of a raw text.
-fn answer(raw: &[u8]) {
+fn answer(rt: &impl System, raw: &[u8]) {
     let mut store = streams::room();
     let taken = intake::take(intake::begin(), raw, &mut store);
     match intake::close(taken, &mut store) {
         Progress::Closed(n) => {
-            streams::write(&store, n);
+            streams::write(rt, &store, n);
         }
-        Progress::Refused(no, place) => answers::refused(raw, no, place),
-        Progress::Open(_) => streams::broken(b"the intake is not closed\n"),
+        Progress::Refused(no, place) => answers::refused(rt, raw, no, place),
+        Progress::Open(_) => streams::broken(rt, b"the intake is not closed\n"),
     }
 }
 
-fn file() {
+fn file(rt: &impl System) {
     let mut raw = streams::raw();
-    let t = files::text(2, &mut raw);
+    let t = files::text(rt, 2, &mut raw);
     if t.read {
         let n = t.length;
-        answer(&raw[..n]);
+        answer(rt, &raw[..n]);
     }
 }
 
-pub fn intake() {
-    if os::arg_count() < 3 {
-        return asked::missing(b"FILE");
+pub fn intake(rt: &impl System) {
+    if asked::given(rt) < 3 {
+        return asked::missing(rt, b"FILE");
     }
-    if asked::no_more(3) {
-        file();
+    if asked::no_more(rt, 3) {
+        file(rt);
     }
 }

@@ -11,7 +11,7 @@ ghost use Rattle.meaning.specs.Timing.{Tables};
 ghost use Rattle.meaning.specs.Edges.{in_order};
 ghost use Rattle.spans.specs.Spans.{Spans, Sized};
 ghost use Rattle.pins.specs.Shown.{Roomy, Others};
-ghost use Rattle.plays.specs.Plays.{ground, arrays};
+ghost use Rattle.plays.specs.Plays.{ground_of, arrays};
 ghost use Rattle.plays.specs.Run.{SomeRun, Runs};
 ghost use Rattle.meaning.specs.Body.{Body};
 ghost use Rattle.meaning.specs.Document.{Read};
@@ -383,8 +383,8 @@ fn shift<'a>(
     shown: &mut [u8],
     marks: &mut [usize],
 ) -> Played
-    requires { (alive c ≡ true) × Stood (ground text.now places.now lists.now tplaces.now book.now rows.now waves.now known signals) (clock firsts.now lasts.now periods.now) (stream text.now c) frame.depth frame.level table (arrays values.old feeds.old args.old) (seen shown.old marks.old) }
-    ensures { Shifted (ground text.now places.now lists.now tplaces.now book.now rows.now waves.now known signals) (clock firsts.now lasts.now periods.now) (stream text.now c) frame.depth frame.level table frame.turns (arrays values.old feeds.old args.old) (arrays values.new feeds.new args.new) (seen shown.old marks.old) (seen shown.new marks.new) result }
+    requires { (alive c ≡ true) × Stood (ground_of text.now places.now lists.now tplaces.now book.now rows.now waves.now known signals) (clock firsts.now lasts.now periods.now) (stream text.now c) frame.depth frame.level table (arrays values.old feeds.old args.old) (seen shown.old marks.old) }
+    ensures { Shifted (ground_of text.now places.now lists.now tplaces.now book.now rows.now waves.now known signals) (clock firsts.now lasts.now periods.now) (stream text.now c) frame.depth frame.level table frame.turns (arrays values.old feeds.old args.old) (arrays values.new feeds.new args.new) (seen shown.old marks.old) (seen shown.new marks.new) result }
 {
     let mut given = [0; sets::MOST];
     let h = heads::head(
@@ -443,8 +443,8 @@ fn turns<'a>(
     shown: &mut [u8],
     marks: &mut [usize],
 ) -> Played
-    requires { (alive c ≡ true) × (0 < n) × (0 < frame.depth) × (frame.depth ≤ depth_most) × Stood (ground text.now places.now lists.now tplaces.now book.now rows.now waves.now known signals) (clock firsts.now lasts.now periods.now) (stream text.now c) (frame.depth - 1) frame.level table (arrays values.old feeds.old args.old) (seen shown.old marks.old) }
-    ensures { Looped (ground text.now places.now lists.now tplaces.now book.now rows.now waves.now known signals) (clock firsts.now lasts.now periods.now) (stream text.now c) frame.depth frame.level table frame.turns n (arrays values.old feeds.old args.old) (arrays values.new feeds.new args.new) (seen shown.old marks.old) (seen shown.new marks.new) result }
+    requires { (alive c ≡ true) × (0 < n) × (0 < frame.depth) × (frame.depth ≤ depth_most) × Stood (ground_of text.now places.now lists.now tplaces.now book.now rows.now waves.now known signals) (clock firsts.now lasts.now periods.now) (stream text.now c) (frame.depth - 1) frame.level table (arrays values.old feeds.old args.old) (seen shown.old marks.old) }
+    ensures { Looped (ground_of text.now places.now lists.now tplaces.now book.now rows.now waves.now known signals) (clock firsts.now lasts.now periods.now) (stream text.now c) frame.depth frame.level table frame.turns n (arrays values.old feeds.old args.old) (arrays values.new feeds.new args.new) (seen shown.old marks.old) (seen shown.new marks.new) result }
 {
     let inner = Frame {
         turns: frame.turns,
@@ -500,8 +500,8 @@ fn enter<'a>(
     shown: &mut [u8],
     marks: &mut [usize],
 ) -> Played
-    requires { Used (ground text.now places.now lists.now tplaces.now book.now rows.now waves.now known signals) (clock firsts.now lasts.now periods.now) i frame.depth frame.level table (arrays values.old feeds.old args.old) (seen shown.old marks.old) }
-    ensures { Entered (ground text.now places.now lists.now tplaces.now book.now rows.now waves.now known signals) (clock firsts.now lasts.now periods.now) i frame.depth frame.level table t (arrays values.old feeds.old args.old) (arrays values.new feeds.new args.new) (seen shown.old marks.old) (seen shown.new marks.new) result }
+    requires { Used (ground_of text.now places.now lists.now tplaces.now book.now rows.now waves.now known signals) (clock firsts.now lasts.now periods.now) i frame.depth frame.level table (arrays values.old feeds.old args.old) (seen shown.old marks.old) }
+    ensures { Entered (ground_of text.now places.now lists.now tplaces.now book.now rows.now waves.now known signals) (clock firsts.now lasts.now periods.now) i frame.depth frame.level table t (arrays values.old feeds.old args.old) (arrays values.new feeds.new args.new) (seen shown.old marks.old) (seen shown.new marks.new) result }
 {
     let inner = Frame {
         turns: t,
@@ -555,8 +555,8 @@ fn statement<'a>(
     shown: &mut [u8],
     marks: &mut [usize],
 ) -> Played
-    requires { (alive c ≡ true) × Stood (ground text.now places.now lists.now tplaces.now book.now rows.now waves.now known signals) (clock firsts.now lasts.now periods.now) (stream text.now c) frame.depth frame.level table (arrays values.old feeds.old args.old) (seen shown.old marks.old) }
-    ensures { Stepped (ground text.now places.now lists.now tplaces.now book.now rows.now waves.now known signals) (clock firsts.now lasts.now periods.now) (stream text.now c) frame.depth frame.level table frame.turns (arrays values.old feeds.old args.old) (arrays values.new feeds.new args.new) (seen shown.old marks.old) (seen shown.new marks.new) result }
+    requires { (alive c ≡ true) × Stood (ground_of text.now places.now lists.now tplaces.now book.now rows.now waves.now known signals) (clock firsts.now lasts.now periods.now) (stream text.now c) frame.depth frame.level table (arrays values.old feeds.old args.old) (seen shown.old marks.old) }
+    ensures { Stepped (ground_of text.now places.now lists.now tplaces.now book.now rows.now waves.now known signals) (clock firsts.now lasts.now periods.now) (stream text.now c) frame.depth frame.level table frame.turns (arrays values.old feeds.old args.old) (arrays values.new feeds.new args.new) (seen shown.old marks.old) (seen shown.new marks.new) result }
 {
     let mut given = [0; sets::MOST];
     let h = heads::head(
@@ -650,8 +650,8 @@ fn statements<'a>(
     shown: &mut [u8],
     marks: &mut [usize],
 ) -> Played
-    requires { (alive c ≡ true) × Stood (ground text.now places.now lists.now tplaces.now book.now rows.now waves.now known signals) (clock firsts.now lasts.now periods.now) (stream text.now c) frame.depth frame.level table (arrays values.old feeds.old args.old) (seen shown.old marks.old) }
-    ensures { Promised (ground text.now places.now lists.now tplaces.now book.now rows.now waves.now known signals) (clock firsts.now lasts.now periods.now) (stream text.now c) frame.depth frame.level table frame.turns (arrays values.old feeds.old args.old) (arrays values.new feeds.new args.new) (seen shown.old marks.old) (seen shown.new marks.new) result }
+    requires { (alive c ≡ true) × Stood (ground_of text.now places.now lists.now tplaces.now book.now rows.now waves.now known signals) (clock firsts.now lasts.now periods.now) (stream text.now c) frame.depth frame.level table (arrays values.old feeds.old args.old) (seen shown.old marks.old) }
+    ensures { Promised (ground_of text.now places.now lists.now tplaces.now book.now rows.now waves.now known signals) (clock firsts.now lasts.now periods.now) (stream text.now c) frame.depth frame.level table frame.turns (arrays values.old feeds.old args.old) (arrays values.new feeds.new args.new) (seen shown.old marks.old) (seen shown.new marks.new) result }
 {
     let mut cursor = c;
     let mut chosen = table;
@@ -693,8 +693,8 @@ fn pattern<'a>(
     shown: &mut [u8],
     marks: &mut [usize],
 ) -> Played
-    requires { SomeListed (ground text.now places.now lists.now tplaces.now book.now rows.now waves.now known signals) (clock firsts.now lasts.now periods.now) list.now patterns k (arrays values.old feeds.old args.old) (seen shown.old marks.old) }
-    ensures { PlaysListed (ground text.now places.now lists.now tplaces.now book.now rows.now waves.now known signals) (clock firsts.now lasts.now periods.now) list.now patterns k (arrays values.new feeds.new args.new) (seen shown.new marks.new) result }
+    requires { SomeListed (ground_of text.now places.now lists.now tplaces.now book.now rows.now waves.now known signals) (clock firsts.now lasts.now periods.now) list.now patterns k (arrays values.old feeds.old args.old) (seen shown.old marks.old) }
+    ensures { PlaysListed (ground_of text.now places.now lists.now tplaces.now book.now rows.now waves.now known signals) (clock firsts.now lasts.now periods.now) list.now patterns k (arrays values.new feeds.new args.new) (seen shown.new marks.new) result }
 {
     let names = &book[measures::PATTERNS * 2..];
     let i = words::find(text, words::name_bytes(text, list, k), names, patterns);

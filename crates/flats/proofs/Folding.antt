@@ -18,7 +18,7 @@ use Rattle.timing.specs.declared.Watch.{Watch}
 use Rattle.texts.specs.Texts.{sound}
 use Rattle.texts.specs.Tables.{Found}
 use Rattle.texts.specs.declared.Verdict.{Verdict}
-use Rattle.plays.specs.Plays.{ground}
+use Rattle.plays.specs.Plays.{ground_of}
 use Rattle.verdicts.specs.declared.Unfit.{Unfit}
 use Rattle.pages.specs.Pages.{Puts as Put}
 use Rattle.verdicts.specs.Found.{meant_by, Plays}
@@ -63,7 +63,7 @@ module _ {w : Watch} {text places lists tplaces waves book rows list : List ℕ}
     }
 
     module _ (l : v.total.cycles ≤ folded_most) where
-      pub is_meant : Meant (ground text places lists tplaces book rows waves v.parts.known v.parts.signals) list v.parts.listed v.parts.patterns v.total.size (meant_by f.it)
+      pub is_meant : Meant (ground_of text places lists tplaces book rows waves v.parts.known v.parts.signals) list v.parts.listed v.parts.patterns v.total.size (meant_by f.it)
       unfolding counts names_of
       is_meant = record {
         parts = v.parts;
@@ -77,7 +77,7 @@ module _ {w : Watch} {text places lists tplaces waves book rows list : List ℕ}
       }
 
       pub flat_put : {page : List ℕ} {r : Flat}
-          → Puts (ground text places lists tplaces book rows waves v.parts.known v.parts.signals) list v.parts.listed v.parts.patterns v.total.size page r → Flattens text page r
+          → Puts (ground_of text places lists tplaces book rows waves v.parts.known v.parts.signals) list v.parts.listed v.parts.patterns v.total.size page r → Flattens text page r
       flat_put s =
           let x = s.stands _ is_meant in
           let e = by_cycles (le-leb (cycles 0 f.it.run) folded_most (omega (arith, cycles_are))) in

@@ -5,7 +5,7 @@
 ghost use Rattle.std.specs.Prelude.{◌≡◌, true, false, ◌++◌, [], ◌+◌, ◌*◌, ◌-◌, ◌≤◌, min, length};
 ghost use Rattle.tokens.specs.Refusals.{text_most};
 ghost use Rattle.meaning.specs.Meaning.{Meaning};
-ghost use Rattle.plays.specs.Plays.{ground};
+ghost use Rattle.plays.specs.Plays.{ground_of};
 ghost use Rattle.verdicts.specs.Found.{SomeFound};
 ghost use Rattle.folded.specs.Fold.{fold as fold_of};
 ghost use Rattle.pens.specs.Pens.{Holds, Writes};
@@ -83,8 +83,8 @@ fn window<'a>(
     hand: &mut [u8],
     buffer: &mut [u8],
 ) -> Folding
-    requires { Window (ground text.now places.now lists.now tplaces.now book.now rows.now waves.now known signals) list.now listed patterns size first due f hand.old buffer.old }
-    ensures { Shows (ground text.now places.now lists.now tplaces.now book.now rows.now waves.now known signals) list.now listed patterns size first due page.old f hand.old page.new result hand.new }
+    requires { Window (ground_of text.now places.now lists.now tplaces.now book.now rows.now waves.now known signals) list.now listed patterns size first due f hand.old buffer.old }
+    ensures { Shows (ground_of text.now places.now lists.now tplaces.now book.now rows.now waves.now known signals) list.now listed patterns size first due page.old f hand.old page.new result hand.new }
 {
     windows::window(
         text, places, lists, tplaces, book, rows, waves, list, known, signals, listed, patterns,
@@ -127,8 +127,8 @@ fn pattern<'a>(
     hand: &mut [u8],
     buffer: &mut [u8],
 ) -> Part
-    requires { Listed (ground text.now places.now lists.now tplaces.now book.now rows.now waves.now known signals) list.now listed patterns size first count i hand.old buffer.old }
-    ensures { Parts (ground text.now places.now lists.now tplaces.now book.now rows.now waves.now known signals) list.now listed patterns size first count page.old pen i page.new result }
+    requires { Listed (ground_of text.now places.now lists.now tplaces.now book.now rows.now waves.now known signals) list.now listed patterns size first count i hand.old buffer.old }
+    ensures { Parts (ground_of text.now places.now lists.now tplaces.now book.now rows.now waves.now known signals) list.now listed patterns size first count page.old pen i page.new result }
 {
     let most = buffer.len() / (signals + TAIL);
     let mut f = stretches::begin(page, pen, i);
@@ -184,8 +184,8 @@ fn patterns_of<'a>(
     hand: &mut [u8],
     buffer: &mut [u8],
 ) -> Part
-    requires { Run (ground text.now places.now lists.now tplaces.now book.now rows.now waves.now known signals) list.now listed patterns size hand.old buffer.old }
-    ensures { Patterned (ground text.now places.now lists.now tplaces.now book.now rows.now waves.now known signals) list.now listed patterns size page.old page.new result }
+    requires { Run (ground_of text.now places.now lists.now tplaces.now book.now rows.now waves.now known signals) list.now listed patterns size hand.old buffer.old }
+    ensures { Patterned (ground_of text.now places.now lists.now tplaces.now book.now rows.now waves.now known signals) list.now listed patterns size page.old page.new result }
 {
     let mut part = Part {
         pen: Pen { at: 0, full: false },
@@ -242,8 +242,8 @@ fn all_patterns<'a>(
     hand: &mut [u8],
     buffer: &mut [u8],
 ) -> Part
-    requires { Run (ground text.now places.now lists.now tplaces.now book.now rows.now waves.now known signals) list.now listed patterns size hand.old buffer.old }
-    ensures { Bodied (ground text.now places.now lists.now tplaces.now book.now rows.now waves.now known signals) list.now listed patterns size page.old page.new result }
+    requires { Run (ground_of text.now places.now lists.now tplaces.now book.now rows.now waves.now known signals) list.now listed patterns size hand.old buffer.old }
+    ensures { Bodied (ground_of text.now places.now lists.now tplaces.now book.now rows.now waves.now known signals) list.now listed patterns size page.old page.new result }
 {
     if listed == 0 {
         let p = pens::add(page, Pen { at: 0, full: false }, b"Pattern p0{\n}\n");
@@ -334,8 +334,8 @@ fn put<'a>(
     patterns: usize,
     size: usize,
 ) -> Flat
-    requires { SomeMeant (ground text.now places.now lists.now tplaces.now book.now rows.now waves.now known signals) list.now listed patterns size × (length page.old ≡ text_most) }
-    ensures { Puts (ground text.now places.now lists.now tplaces.now book.now rows.now waves.now known signals) list.now listed patterns size page.new result }
+    requires { SomeMeant (ground_of text.now places.now lists.now tplaces.now book.now rows.now waves.now known signals) list.now listed patterns size × (length page.old ≡ text_most) }
+    ensures { Puts (ground_of text.now places.now lists.now tplaces.now book.now rows.now waves.now known signals) list.now listed patterns size page.new result }
 {
     let mut body = room();
     let mut hand = [0u8; ROW];

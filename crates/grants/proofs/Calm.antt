@@ -110,8 +110,8 @@ module _ {tables : ℕ} {used : List ℕ} where
 
   puts_calm : {s : State} (a : Assigns) → Gives used a → Calm tables used s → Calm tables used (puts a s)
   unfolding Gives puts
-  puts_calm [] g h = h
-  puts_calm (x ∷ a) g h = puts_calm a g.1 (put_calm x g.0 h)
+  puts_calm {s = s} [] g h = h
+  puts_calm {s = s} (x ∷ a) g h = puts_calm {s = put x s} a g.1 (put_calm x g.0 h)
 
   changed_calm : {s : State} (x : Setting) → Sets tables used x → Calm tables used s → Calm tables used (changed x s)
   unfolding Sets changed

@@ -14,7 +14,7 @@ ghost use Rattle.meaning.specs.Meaning.{first_failing};
 ghost use Rattle.meaning.specs.Document.{Read};
 ghost use Rattle.held.specs.Held.{All};
 ghost use Rattle.texts.specs.declared.Parts.{Parts};
-ghost use Rattle.plays.specs.Plays.{ground, Summed};
+ghost use Rattle.plays.specs.Plays.{ground_of, Summed};
 ghost use Rattle.plays.specs.Run.{SomeRun, Runs};
 ghost use Rattle.timing.specs.Marks.{table_size};
 ghost use Rattle.measures.specs.Uses.{Given};
@@ -74,8 +74,8 @@ fn shift<'a>(
     r: usize,
     sums: &mut [u8],
 ) -> Tallied
-    requires { (alive c ≡ true) × ShiftStood (ground text.now places.now lists.now tplaces.now book.now rows.now waves.now known signals) (stream text.now c) r sums.old }
-    ensures { (more : ℕ) (marks : List ℕ) → Sized (ground text.now places.now lists.now tplaces.now book.now rows.now waves.now known signals) more r marks sums.old → Shifted (ground text.now places.now lists.now tplaces.now book.now rows.now waves.now known signals) (stream text.now c) more r marks sums.old sums.new result }
+    requires { (alive c ≡ true) × ShiftStood (ground_of text.now places.now lists.now tplaces.now book.now rows.now waves.now known signals) (stream text.now c) r sums.old }
+    ensures { (more : ℕ) (marks : List ℕ) → Sized (ground_of text.now places.now lists.now tplaces.now book.now rows.now waves.now known signals) more r marks sums.old → Shifted (ground_of text.now places.now lists.now tplaces.now book.now rows.now waves.now known signals) (stream text.now c) more r marks sums.old sums.new result }
 {
     let mut given = [0; sets::MOST];
     let mut args = [0usize; measures::ROW];
@@ -127,8 +127,8 @@ fn looped<'a>(
     marks: &mut [u8],
     sums: &mut [u8],
 ) -> Tallied
-    requires { (alive c ≡ true) × LoopStood (ground text.now places.now lists.now tplaces.now book.now rows.now waves.now known signals) (stream text.now c) depth n r marks.old sums.old }
-    ensures { Looped (ground text.now places.now lists.now tplaces.now book.now rows.now waves.now known signals) (stream text.now c) depth n r marks.old marks.new sums.old sums.new result }
+    requires { (alive c ≡ true) × LoopStood (ground_of text.now places.now lists.now tplaces.now book.now rows.now waves.now known signals) (stream text.now c) depth n r marks.old sums.old }
+    ensures { Looped (ground_of text.now places.now lists.now tplaces.now book.now rows.now waves.now known signals) (stream text.now c) depth n r marks.old marks.new sums.old sums.new result }
 {
     let row = LOOPS + DEPTH - depth;
     tallies::clear(sums, row);
@@ -175,8 +175,8 @@ fn body<'a>(
     marks: &mut [u8],
     sums: &mut [u8],
 )
-    requires { BodyStood (ground text.now places.now lists.now tplaces.now book.now rows.now waves.now known signals) depth i marks.old sums.old }
-    ensures { Bodied (ground text.now places.now lists.now tplaces.now book.now rows.now waves.now known signals) depth i marks.old marks.new sums.old sums.new }
+    requires { BodyStood (ground_of text.now places.now lists.now tplaces.now book.now rows.now waves.now known signals) depth i marks.old sums.old }
+    ensures { Bodied (ground_of text.now places.now lists.now tplaces.now book.now rows.now waves.now known signals) depth i marks.old marks.new sums.old sums.new }
 {
     if marks[i] != 0 {
         return;
@@ -218,8 +218,8 @@ fn used<'a>(
     marks: &mut [u8],
     sums: &mut [u8],
 )
-    requires { UseStood (ground text.now places.now lists.now tplaces.now book.now rows.now waves.now known signals) depth i t r given.now args.now marks.old sums.old }
-    ensures { Used (ground text.now places.now lists.now tplaces.now book.now rows.now waves.now known signals) depth i t r given.now args.now marks.old marks.new sums.old sums.new }
+    requires { UseStood (ground_of text.now places.now lists.now tplaces.now book.now rows.now waves.now known signals) depth i t r given.now args.now marks.old sums.old }
+    ensures { Used (ground_of text.now places.now lists.now tplaces.now book.now rows.now waves.now known signals) depth i t r given.now args.now marks.old marks.new sums.old sums.new }
 {
     body(
         text,
@@ -277,8 +277,8 @@ fn statement<'a>(
     marks: &mut [u8],
     sums: &mut [u8],
 ) -> Tallied
-    requires { (alive c ≡ true) × Stood (ground text.now places.now lists.now tplaces.now book.now rows.now waves.now known signals) (stream text.now c) depth r marks.old sums.old }
-    ensures { Stepped (ground text.now places.now lists.now tplaces.now book.now rows.now waves.now known signals) (stream text.now c) depth r marks.old marks.new sums.old sums.new result }
+    requires { (alive c ≡ true) × Stood (ground_of text.now places.now lists.now tplaces.now book.now rows.now waves.now known signals) (stream text.now c) depth r marks.old sums.old }
+    ensures { Stepped (ground_of text.now places.now lists.now tplaces.now book.now rows.now waves.now known signals) (stream text.now c) depth r marks.old marks.new sums.old sums.new result }
 {
     let mut given = [0; sets::MOST];
     let mut args = [0usize; measures::ROW];
@@ -344,8 +344,8 @@ fn tally<'a>(
     marks: &mut [u8],
     sums: &mut [u8],
 ) -> Tallied
-    requires { (alive c ≡ true) × Stood (ground text.now places.now lists.now tplaces.now book.now rows.now waves.now known signals) (stream text.now c) depth r marks.old sums.old }
-    ensures { Promised (ground text.now places.now lists.now tplaces.now book.now rows.now waves.now known signals) (stream text.now c) depth r marks.old marks.new sums.old sums.new result }
+    requires { (alive c ≡ true) × Stood (ground_of text.now places.now lists.now tplaces.now book.now rows.now waves.now known signals) (stream text.now c) depth r marks.old sums.old }
+    ensures { Promised (ground_of text.now places.now lists.now tplaces.now book.now rows.now waves.now known signals) (stream text.now c) depth r marks.old marks.new sums.old sums.new result }
 {
     let mut cursor = c;
     let mut shifts = false;
@@ -388,8 +388,8 @@ fn pattern<'a>(
     marks: &mut [u8],
     sums: &mut [u8],
 ) -> bool
-    requires { SomePattern (ground text.now places.now lists.now tplaces.now book.now rows.now waves.now known signals) list.now patterns k marks.old sums.old }
-    ensures { Patterned (ground text.now places.now lists.now tplaces.now book.now rows.now waves.now known signals) list.now patterns k marks.old marks.new sums.old sums.new result }
+    requires { SomePattern (ground_of text.now places.now lists.now tplaces.now book.now rows.now waves.now known signals) list.now patterns k marks.old sums.old }
+    ensures { Patterned (ground_of text.now places.now lists.now tplaces.now book.now rows.now waves.now known signals) list.now patterns k marks.old marks.new sums.old sums.new result }
 {
     let names = &book[measures::PATTERNS * 2..];
     let i = words::find(text, words::name_bytes(text, list, k), names, patterns);
@@ -423,7 +423,7 @@ pub fn granted<'a>(
     sums: &mut [u8],
 ) -> bool
     requires { SomeRun text.now places.now lists.now tplaces.now waves.now book.now rows.now list.now known signals listed patterns × Unknown marks.old sums.old }
-    ensures { (length marks.new ≡ length marks.old) × (length sums.new ≡ length sums.old) × ((p : Parts) (d : Read) (run : Body) (h : Runs text.now places.now lists.now tplaces.now waves.now book.now rows.now list.now known signals listed patterns p d run) → Summed (ground text.now places.now lists.now tplaces.now book.now rows.now waves.now known signals) marks.new sums.new h.tabled.parts.env × (result ≡ true → first_failing d.tables (cycles_of (length d.signals) run) ≡ none)) }
+    ensures { (length marks.new ≡ length marks.old) × (length sums.new ≡ length sums.old) × ((p : Parts) (d : Read) (run : Body) (h : Runs text.now places.now lists.now tplaces.now waves.now book.now rows.now list.now known signals listed patterns p d run) → Summed (ground_of text.now places.now lists.now tplaces.now book.now rows.now waves.now known signals) marks.new sums.new h.tabled.parts.env × (result ≡ true → first_failing d.tables (cycles_of (length d.signals) run) ≡ none)) }
 {
     let mut all = true;
     let mut k = 0;

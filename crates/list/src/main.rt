@@ -1,13 +1,10 @@
 // A text from standard input, and its listing (document 01).
 #![tactic(auto)]
 
-fn main() {
+fn main(rt: HostRuntime) {
     let mut text = streams::room();
-    let t = streams::read(libc::STDIN_FILENO, &mut text);
-    if !t.read {
-        os::fail(b"standard input");
-        return;
+    match streams::fill(&mut rt.stdin(), &mut text) {
+        Ok(n) => listing::list(&rt, &text[..n]),
+        Err(error) => streams::fail(&rt, b"standard input", error),
     }
-    let n = t.length;
-    listing::list(&text[..n]);
 }

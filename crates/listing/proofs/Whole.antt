@@ -3,7 +3,7 @@
 use Prim.Native.Nat.{ℕ, ◌+◌, ◌*◌, ◌-◌, ◌/◌, ◌≤◌, ◌<◌}
 use native.Mathlib.Nat.{one-mul, le-div_iff_mul-le}
 use native.Mathlib.Omega.{arith}
-use mathlib.Core.Path.{◌≡◌, refl, sym, ap, ap₂, ◌∙◌}
+use mathlib.Core.Path.{◌≡◌, refl, sym, ap, ap₂, ◌∙◌, subst}
 use mathlib.Core.Bool.{Bool, true, false}
 use mathlib.Core.List.{List, [], ◌∷◌, ◌++◌, append-nil}
 use lib.Dec.{leb}
@@ -121,7 +121,7 @@ module _ (text : List ℕ) (m : Meaning) (e : meaning text ≡ given m) where
   rows_end (t ∷ ts) {p} s f h =
       let on = stands_on s t.before f.0 in
       let same : p.width ≡ t.page.width = s.width_is ∙ sym on.width_is in
-      omega (arith, fewer_left s t.before f.0 h.0, rows_end ts on f.1 (rw same at h.1))
+      omega (arith, fewer_left s t.before f.0 h.0, rows_end ts on f.1 (subst (λ (w : ℕ). Roomy w ts) same h.1))
 
   -- its first page
   module _ {before after : List ℕ} {r : Page} (h : front_most ≤ length before) (b : Begins text before r after) where

@@ -7,6 +7,7 @@ ghost use Rattle.sections.specs.Listing.{front_most};
 ghost use Rattle.listing.specs.Pages.{fitting as fitting_of, Begins, GoesOn};
 
 use sections::Page;
+use streams::System;
 use texts::Verdict;
 use views::Shown;
 
@@ -130,22 +131,22 @@ pub fn go_on(text: &[u8], p: Page, page: &mut [u8]) -> Page
 // ---- to standard output
 
 // A text's listing to standard output, page by page. Where a page brings no row nearer to the end, that is told, and nothing is passed over silently.
-pub fn list(text: &[u8]) {
+pub fn list(rt: &impl System, text: &[u8]) {
     let mut space = streams::rows();
     let page: &mut [u8] = &mut space;
-    let watched = streams::is_watched();
+    let watched = streams::is_watched(rt);
     let mut p = begin(text, page);
     let all = p.left;
-    let mut going = streams::write(page, p.length);
+    let mut going = streams::write(rt, page, p.length);
     while going & (0 < p.left) {
         let next = go_on(text, p, page);
-        going = streams::write(page, next.length);
+        going = streams::write(rt, page, next.length);
         if p.left <= next.left {
-            return streams::broken(b"the listing stands still\n");
+            return streams::broken(rt, b"the listing stands still\n");
         }
         p = next;
         if watched {
-            streams::progress(all - p.left, all);
+            streams::progress(rt, all - p.left, all);
         }
     }
 }

@@ -47,8 +47,8 @@ pub record Ground : Type 0 where
   pub known : Known
   pub signals : ℕ
 
-abbrev pub ground : (text places lists tplaces book rows waves : List ℕ) → Known → ℕ → Ground
-ground text places lists tplaces book rows waves known signals = record {
+abbrev pub ground_of : (text places lists tplaces book rows waves : List ℕ) → Known → ℕ → Ground
+ground_of text places lists tplaces book rows waves known signals = record {
   text = text;
   places = places;
   lists = lists;

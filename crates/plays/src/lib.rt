@@ -20,7 +20,7 @@ ghost use Rattle.pins.specs.Shown.{values_length};
 ghost use Rattle.heads.specs.declared.Known.{Known};
 ghost use Rattle.texts.specs.declared.Parts.{Parts};
 ghost use Rattle.plays.specs.Run.{SomeListed, PlaysListed, SomeRun, Runs, Decides};
-ghost use Rattle.plays.specs.Plays.{ground, arrays, Heads, Behind, LoopAt, Stood, Used, Promised, nest_of, Looping, PromisedWhere, Begins, Stepped, Shifted, ShiftedOn, Entered, Performed, SomeInvoked, Served, Summed, use_at, Settles, Passing, Recalls, SumMarks, PassedMarks};
+ghost use Rattle.plays.specs.Plays.{ground_of, arrays, Heads, Behind, LoopAt, Stood, Used, Promised, nest_of, Looping, PromisedWhere, Begins, Stepped, Shifted, ShiftedOn, Entered, Performed, SomeInvoked, Served, Summed, use_at, Settles, Passing, Recalls, SumMarks, PassedMarks};
 ghost use Rattle.tallies.specs.Rows.{row_size, sum_at, Marked};
 ghost use Rattle.timing.specs.Held.{Held};
 ghost use Rattle.meaning.specs.Timing.{Tables};
@@ -127,8 +127,8 @@ fn shift_on<'a>(
     args: &mut [usize],
     memo: &mut [u16],
 ) -> Played
-    requires { (alive c ≡ true) × Stood (ground text.now places.now lists.now tplaces.now book.now rows.now waves.now known signals) (stream text.now c) frame.depth frame.level table (arrays values.old feeds.old args.old) }
-    ensures { ShiftedOn (ground text.now places.now lists.now tplaces.now book.now rows.now waves.now known signals) memo.old memo.new (stream text.now c) frame.depth frame.level table (arrays values.old feeds.old args.old) (arrays values.new feeds.new args.new) frame.seconds frame.turns result }
+    requires { (alive c ≡ true) × Stood (ground_of text.now places.now lists.now tplaces.now book.now rows.now waves.now known signals) (stream text.now c) frame.depth frame.level table (arrays values.old feeds.old args.old) }
+    ensures { ShiftedOn (ground_of text.now places.now lists.now tplaces.now book.now rows.now waves.now known signals) memo.old memo.new (stream text.now c) frame.depth frame.level table (arrays values.old feeds.old args.old) (arrays values.new feeds.new args.new) frame.seconds frame.turns result }
 {
     let mut given = [0; sets::MOST];
     let h = heads::head(
@@ -176,8 +176,8 @@ pub fn shift<'a>(
     feeds: &mut [usize],
     args: &mut [usize],
 ) -> Played
-    requires { (alive c ≡ true) × Stood (ground text.now places.now lists.now tplaces.now book.now rows.now waves.now known signals) (stream text.now c) frame.depth frame.level table (arrays values.old feeds.old args.old) }
-    ensures { Shifted (ground text.now places.now lists.now tplaces.now book.now rows.now waves.now known signals) (stream text.now c) frame.depth frame.level table (arrays values.old feeds.old args.old) (arrays values.new feeds.new args.new) frame.seconds frame.turns result }
+    requires { (alive c ≡ true) × Stood (ground_of text.now places.now lists.now tplaces.now book.now rows.now waves.now known signals) (stream text.now c) frame.depth frame.level table (arrays values.old feeds.old args.old) }
+    ensures { Shifted (ground_of text.now places.now lists.now tplaces.now book.now rows.now waves.now known signals) (stream text.now c) frame.depth frame.level table (arrays values.old feeds.old args.old) (arrays values.new feeds.new args.new) frame.seconds frame.turns result }
 {
     let mut memo = [0u16; 0];
     shift_on(
@@ -210,8 +210,8 @@ fn needed_turns<'a>(
     args: &mut [usize],
     memo: &mut [u16],
 ) -> Played
-    requires { (alive c ≡ true) × (0 < n) × (0 < frame.depth) × (h : Stood (ground text.now places.now lists.now tplaces.now book.now rows.now waves.now known signals) (stream text.now c) (frame.depth - 1) frame.level table (arrays values.old feeds.old args.old)) × Heads (ground text.now places.now lists.now tplaces.now book.now rows.now waves.now known signals) memo.old h.env }
-    ensures { PromisedWhere (Looping signals (nest_of (frame.depth - 1)) memo.old) (ground text.now places.now lists.now tplaces.now book.now rows.now waves.now known signals) marks.now sums.now memo.old memo.new (stream text.now c) (frame.depth - 1) frame.level (nest_of (frame.depth - 1)) table (arrays values.old feeds.old args.old) (arrays values.new feeds.new args.new) (λ b. loop_few n frame.seconds (λ j. play_few j frame.turns b)) result }
+    requires { (alive c ≡ true) × (0 < n) × (0 < frame.depth) × (h : Stood (ground_of text.now places.now lists.now tplaces.now book.now rows.now waves.now known signals) (stream text.now c) (frame.depth - 1) frame.level table (arrays values.old feeds.old args.old)) × Heads (ground_of text.now places.now lists.now tplaces.now book.now rows.now waves.now known signals) memo.old h.env }
+    ensures { PromisedWhere (Looping signals (nest_of (frame.depth - 1)) memo.old) (ground_of text.now places.now lists.now tplaces.now book.now rows.now waves.now known signals) marks.now sums.now memo.old memo.new (stream text.now c) (frame.depth - 1) frame.level (nest_of (frame.depth - 1)) table (arrays values.old feeds.old args.old) (arrays values.new feeds.new args.new) (λ b. loop_few n frame.seconds (λ j. play_few j frame.turns b)) result }
 {
     let first = Frame {
         seconds: frame.seconds,
@@ -275,8 +275,8 @@ fn looped<'a>(
     args: &mut [usize],
     memo: &mut [u16],
 ) -> Played
-    requires { (alive c ≡ true) × (0 < n) × (0 < frame.depth) × (frame.depth ≤ depth_most) × (h : Stood (ground text.now places.now lists.now tplaces.now book.now rows.now waves.now known signals) (stream text.now c) (frame.depth - 1) frame.level table (arrays values.old feeds.old args.old)) × Heads (ground text.now places.now lists.now tplaces.now book.now rows.now waves.now known signals) memo.old h.env × LoopAt (ground text.now places.now lists.now tplaces.now book.now rows.now waves.now known signals) head c n }
-    ensures { (result.ends ≡ false) × PromisedWhere Plain (ground text.now places.now lists.now tplaces.now book.now rows.now waves.now known signals) marks.now sums.now memo.old memo.new (stream text.now c) (frame.depth - 1) frame.level (nest_of frame.depth) table (arrays values.old feeds.old args.old) (arrays values.new feeds.new args.new) (λ b. loop_few n frame.seconds (λ j. play_few j frame.turns b)) result }
+    requires { (alive c ≡ true) × (0 < n) × (0 < frame.depth) × (frame.depth ≤ depth_most) × (h : Stood (ground_of text.now places.now lists.now tplaces.now book.now rows.now waves.now known signals) (stream text.now c) (frame.depth - 1) frame.level table (arrays values.old feeds.old args.old)) × Heads (ground_of text.now places.now lists.now tplaces.now book.now rows.now waves.now known signals) memo.old h.env × LoopAt (ground_of text.now places.now lists.now tplaces.now book.now rows.now waves.now known signals) head c n }
+    ensures { (result.ends ≡ false) × PromisedWhere Plain (ground_of text.now places.now lists.now tplaces.now book.now rows.now waves.now known signals) marks.now sums.now memo.old memo.new (stream text.now c) (frame.depth - 1) frame.level (nest_of frame.depth) table (arrays values.old feeds.old args.old) (arrays values.new feeds.new args.new) (λ b. loop_few n frame.seconds (λ j. play_few j frame.turns b)) result }
 {
     let inside = DEPTH - (frame.depth - 1);
     memos::fresh(memo, inside, signals);
@@ -331,8 +331,8 @@ pub fn turns<'a>(
     feeds: &mut [usize],
     args: &mut [usize],
 ) -> Played
-    requires { (alive c ≡ true) × (0 < n) × (0 < frame.depth) × Stood (ground text.now places.now lists.now tplaces.now book.now rows.now waves.now known signals) (stream text.now c) (frame.depth - 1) frame.level table (arrays values.old feeds.old args.old) }
-    ensures { Promised (ground text.now places.now lists.now tplaces.now book.now rows.now waves.now known signals) marks.now sums.now (stream text.now c) (frame.depth - 1) frame.level table (arrays values.old feeds.old args.old) (arrays values.new feeds.new args.new) (λ b. loop_few n frame.seconds (λ j. play_few j frame.turns b)) result }
+    requires { (alive c ≡ true) × (0 < n) × (0 < frame.depth) × Stood (ground_of text.now places.now lists.now tplaces.now book.now rows.now waves.now known signals) (stream text.now c) (frame.depth - 1) frame.level table (arrays values.old feeds.old args.old) }
+    ensures { Promised (ground_of text.now places.now lists.now tplaces.now book.now rows.now waves.now known signals) marks.now sums.now (stream text.now c) (frame.depth - 1) frame.level table (arrays values.old feeds.old args.old) (arrays values.new feeds.new args.new) (λ b. loop_few n frame.seconds (λ j. play_few j frame.turns b)) result }
 {
     let mut memo = [0u16; 0];
     needed_turns(
@@ -365,8 +365,8 @@ fn play_body<'a>(
     args: &mut [usize],
     memo: &mut [u16],
 ) -> Played
-    requires { (h : Used (ground text.now places.now lists.now tplaces.now book.now rows.now waves.now known signals) i frame.depth frame.level table (arrays values.old feeds.old args.old)) × Heads (ground text.now places.now lists.now tplaces.now book.now rows.now waves.now known signals) memo.old h.env }
-    ensures { Performed (ground text.now places.now lists.now tplaces.now book.now rows.now waves.now known signals) marks.now sums.now memo.old memo.new i frame.depth frame.level table (arrays values.old feeds.old args.old) (arrays values.new feeds.new args.new) frame.seconds t result }
+    requires { (h : Used (ground_of text.now places.now lists.now tplaces.now book.now rows.now waves.now known signals) i frame.depth frame.level table (arrays values.old feeds.old args.old)) × Heads (ground_of text.now places.now lists.now tplaces.now book.now rows.now waves.now known signals) memo.old h.env }
+    ensures { Performed (ground_of text.now places.now lists.now tplaces.now book.now rows.now waves.now known signals) marks.now sums.now memo.old memo.new i frame.depth frame.level table (arrays values.old feeds.old args.old) (arrays values.new feeds.new args.new) frame.seconds t result }
 {
     let inner = Frame {
         seconds: frame.seconds,
@@ -420,8 +420,8 @@ pub fn enter<'a>(
     feeds: &mut [usize],
     args: &mut [usize],
 ) -> Played
-    requires { Used (ground text.now places.now lists.now tplaces.now book.now rows.now waves.now known signals) i frame.depth frame.level table (arrays values.old feeds.old args.old) }
-    ensures { Entered (ground text.now places.now lists.now tplaces.now book.now rows.now waves.now known signals) marks.now sums.now i frame.depth frame.level table (arrays values.old feeds.old args.old) (arrays values.new feeds.new args.new) frame.seconds t result }
+    requires { Used (ground_of text.now places.now lists.now tplaces.now book.now rows.now waves.now known signals) i frame.depth frame.level table (arrays values.old feeds.old args.old) }
+    ensures { Entered (ground_of text.now places.now lists.now tplaces.now book.now rows.now waves.now known signals) marks.now sums.now i frame.depth frame.level table (arrays values.old feeds.old args.old) (arrays values.new feeds.new args.new) frame.seconds t result }
 {
     let mut memo = [0u16; 0];
     play_body(
@@ -457,7 +457,7 @@ fn pass(
     values: &mut [u8],
 ) -> Passed
     requires { (length waves.now ≡ tables_most * table_size) × (signals ≤ signals_most) × (i < bodies) × (length given.now ≡ signals_most) × (length args.now ≡ signals_most * 2) × (length values.old ≡ values_length) }
-    ensures { (places lists tplaces book rows : List ℕ) (known : Known) → Passing (ground text.now places lists tplaces book rows waves.now known signals) marks.now sums.now i t table given.now args.now values.old values.new result }
+    ensures { (places lists tplaces book rows : List ℕ) (known : Known) → Passing (ground_of text.now places lists tplaces book rows waves.now known signals) marks.now sums.now i t table given.now args.now values.old values.new result }
 {
     let stay = Passed { done: false, table };
     if (marks.len() <= i) | (sums.len() < i * tallies::ROW + tallies::ROW) {
@@ -636,8 +636,8 @@ fn used<'a>(
     args: &mut [usize],
     memo: &mut [u16],
 ) -> Played
-    requires { (h : SomeInvoked (ground text.now places.now lists.now tplaces.now book.now rows.now waves.now known signals) c i t frame.depth frame.level table given.now (arrays values.old feeds.old args.old)) × Heads (ground text.now places.now lists.now tplaces.now book.now rows.now waves.now known signals) memo.old h.env × Behind (ground text.now places.now lists.now tplaces.now book.now rows.now waves.now known signals) c behind }
-    ensures { Served (ground text.now places.now lists.now tplaces.now book.now rows.now waves.now known signals) marks.now sums.now memo.old memo.new c i t frame.depth frame.level table given.now (arrays values.old feeds.old args.old) (arrays values.new feeds.new args.new) frame.seconds result }
+    requires { (h : SomeInvoked (ground_of text.now places.now lists.now tplaces.now book.now rows.now waves.now known signals) c i t frame.depth frame.level table given.now (arrays values.old feeds.old args.old)) × Heads (ground_of text.now places.now lists.now tplaces.now book.now rows.now waves.now known signals) memo.old h.env × Behind (ground_of text.now places.now lists.now tplaces.now book.now rows.now waves.now known signals) c behind }
+    ensures { Served (ground_of text.now places.now lists.now tplaces.now book.now rows.now waves.now known signals) marks.now sums.now memo.old memo.new c i t frame.depth frame.level table given.now (arrays values.old feeds.old args.old) (arrays values.new feeds.new args.new) frame.seconds result }
 {
     let within = DEPTH - (frame.depth - 1);
     memos::fresh(memo, within, signals);
@@ -681,8 +681,8 @@ fn uses<'a>(
     args: &mut [usize],
     memo: &mut [u16],
 ) -> Played
-    requires { (h : SomeInvoked (ground text.now places.now lists.now tplaces.now book.now rows.now waves.now known signals) c i t frame.depth frame.level table given.now (arrays values.old feeds.old args.old)) × Heads (ground text.now places.now lists.now tplaces.now book.now rows.now waves.now known signals) memo.old h.env × Behind (ground text.now places.now lists.now tplaces.now book.now rows.now waves.now known signals) c past }
-    ensures { (result.cursor ≡ past) × (result.ends ≡ false) × Served (ground text.now places.now lists.now tplaces.now book.now rows.now waves.now known signals) marks.now sums.now memo.old memo.new c i t frame.depth frame.level table given.now (arrays values.old feeds.old args.old) (arrays values.new feeds.new args.new) frame.seconds result }
+    requires { (h : SomeInvoked (ground_of text.now places.now lists.now tplaces.now book.now rows.now waves.now known signals) c i t frame.depth frame.level table given.now (arrays values.old feeds.old args.old)) × Heads (ground_of text.now places.now lists.now tplaces.now book.now rows.now waves.now known signals) memo.old h.env × Behind (ground_of text.now places.now lists.now tplaces.now book.now rows.now waves.now known signals) c past }
+    ensures { (result.cursor ≡ past) × (result.ends ≡ false) × Served (ground_of text.now places.now lists.now tplaces.now book.now rows.now waves.now known signals) marks.now sums.now memo.old memo.new c i t frame.depth frame.level table given.now (arrays values.old feeds.old args.old) (arrays values.new feeds.new args.new) frame.seconds result }
 {
     let p = pass(
         text, waves, marks, sums, signals, i, t, given, args, table, values,
@@ -738,8 +738,8 @@ fn statement<'a>(
     args: &mut [usize],
     memo: &mut [u16],
 ) -> Played
-    requires { (alive c ≡ true) × (h : Stood (ground text.now places.now lists.now tplaces.now book.now rows.now waves.now known signals) (stream text.now c) frame.depth frame.level table (arrays values.old feeds.old args.old)) × Heads (ground text.now places.now lists.now tplaces.now book.now rows.now waves.now known signals) memo.old h.env }
-    ensures { Stepped (ground text.now places.now lists.now tplaces.now book.now rows.now waves.now known signals) marks.now sums.now memo.old memo.new (stream text.now c) frame.depth frame.level table (arrays values.old feeds.old args.old) (arrays values.new feeds.new args.new) frame.seconds frame.turns result }
+    requires { (alive c ≡ true) × (h : Stood (ground_of text.now places.now lists.now tplaces.now book.now rows.now waves.now known signals) (stream text.now c) frame.depth frame.level table (arrays values.old feeds.old args.old)) × Heads (ground_of text.now places.now lists.now tplaces.now book.now rows.now waves.now known signals) memo.old h.env }
+    ensures { Stepped (ground_of text.now places.now lists.now tplaces.now book.now rows.now waves.now known signals) marks.now sums.now memo.old memo.new (stream text.now c) frame.depth frame.level table (arrays values.old feeds.old args.old) (arrays values.new feeds.new args.new) frame.seconds frame.turns result }
 {
     let u = use_at(frame.seconds, c);
     let f = recall(memo, waves, u, table, values, signals);
@@ -826,8 +826,8 @@ fn statements<'a>(
     args: &mut [usize],
     memo: &mut [u16],
 ) -> Played
-    requires { (alive c ≡ true) × (h : Stood (ground text.now places.now lists.now tplaces.now book.now rows.now waves.now known signals) (stream text.now c) frame.depth frame.level table (arrays values.old feeds.old args.old)) × Heads (ground text.now places.now lists.now tplaces.now book.now rows.now waves.now known signals) memo.old h.env }
-    ensures { PromisedWhere (λ b. Unit {0}) (ground text.now places.now lists.now tplaces.now book.now rows.now waves.now known signals) marks.now sums.now memo.old memo.new (stream text.now c) frame.depth frame.level (nest_of frame.depth) table (arrays values.old feeds.old args.old) (arrays values.new feeds.new args.new) (play_few frame.seconds frame.turns) result }
+    requires { (alive c ≡ true) × (h : Stood (ground_of text.now places.now lists.now tplaces.now book.now rows.now waves.now known signals) (stream text.now c) frame.depth frame.level table (arrays values.old feeds.old args.old)) × Heads (ground_of text.now places.now lists.now tplaces.now book.now rows.now waves.now known signals) memo.old h.env }
+    ensures { PromisedWhere (λ b. Unit {0}) (ground_of text.now places.now lists.now tplaces.now book.now rows.now waves.now known signals) marks.now sums.now memo.old memo.new (stream text.now c) frame.depth frame.level (nest_of frame.depth) table (arrays values.old feeds.old args.old) (arrays values.new feeds.new args.new) (play_few frame.seconds frame.turns) result }
 {
     let mut cursor = c;
     let mut chosen = table;
@@ -866,8 +866,8 @@ fn body_of<'a>(
     args: &mut [usize],
     memo: &mut [u16],
 ) -> Played
-    requires { (length body.now ≤ length text.now) × (h : Stood (ground text.now places.now lists.now tplaces.now book.now rows.now waves.now known signals) (toks text.now (length text.now - length body.now)) frame.depth frame.level table (arrays values.old feeds.old args.old)) × Heads (ground text.now places.now lists.now tplaces.now book.now rows.now waves.now known signals) memo.old h.env }
-    ensures { PromisedWhere (λ b. Unit {0}) (ground text.now places.now lists.now tplaces.now book.now rows.now waves.now known signals) marks.now sums.now memo.old memo.new (toks text.now (length text.now - length body.now)) frame.depth frame.level (nest_of frame.depth) table (arrays values.old feeds.old args.old) (arrays values.new feeds.new args.new) (play_few frame.seconds frame.turns) result }
+    requires { (length body.now ≤ length text.now) × (h : Stood (ground_of text.now places.now lists.now tplaces.now book.now rows.now waves.now known signals) (toks text.now (length text.now - length body.now)) frame.depth frame.level table (arrays values.old feeds.old args.old)) × Heads (ground_of text.now places.now lists.now tplaces.now book.now rows.now waves.now known signals) memo.old h.env }
+    ensures { PromisedWhere (λ b. Unit {0}) (ground_of text.now places.now lists.now tplaces.now book.now rows.now waves.now known signals) marks.now sums.now memo.old memo.new (toks text.now (length text.now - length body.now)) frame.depth frame.level (nest_of frame.depth) table (arrays values.old feeds.old args.old) (arrays values.new feeds.new args.new) (play_few frame.seconds frame.turns) result }
 {
     let c = words::cursor_at(text, text.len() - body.len());
     statements(
@@ -899,8 +899,8 @@ fn pattern<'a>(
     args: &mut [usize],
     memo: &mut [u16],
 ) -> Played
-    requires { (h : SomeListed (ground text.now places.now lists.now tplaces.now book.now rows.now waves.now known signals) list.now patterns k (arrays values.old feeds.old args.old)) × Heads (ground text.now places.now lists.now tplaces.now book.now rows.now waves.now known signals) memo.old h.env }
-    ensures { PlaysListed (ground text.now places.now lists.now tplaces.now book.now rows.now waves.now known signals) marks.now sums.now memo.old memo.new list.now patterns k (arrays values.new feeds.new args.new) result }
+    requires { (h : SomeListed (ground_of text.now places.now lists.now tplaces.now book.now rows.now waves.now known signals) list.now patterns k (arrays values.old feeds.old args.old)) × Heads (ground_of text.now places.now lists.now tplaces.now book.now rows.now waves.now known signals) memo.old h.env }
+    ensures { PlaysListed (ground_of text.now places.now lists.now tplaces.now book.now rows.now waves.now known signals) marks.now sums.now memo.old memo.new list.now patterns k (arrays values.new feeds.new args.new) result }
 {
     let names = &book[measures::PATTERNS * 2..];
     let i = words::find(text, words::name_bytes(text, list, k), names, patterns);
@@ -953,7 +953,7 @@ pub fn first_failing<'a>(
     patterns: usize,
 ) -> Failing
     requires { SomeRun text.now places.now lists.now tplaces.now waves.now book.now rows.now list.now known signals listed patterns }
-    ensures { (p : Parts) (d : Read) (run : Body) (h : Runs text.now places.now lists.now tplaces.now waves.now book.now rows.now list.now known signals listed patterns p d run) → Summed (ground text.now places.now lists.now tplaces.now book.now rows.now waves.now known signals) marks.now sums.now h.tabled.parts.env → Decides d run result }
+    ensures { (p : Parts) (d : Read) (run : Body) (h : Runs text.now places.now lists.now tplaces.now waves.now book.now rows.now list.now known signals listed patterns p d run) → Summed (ground_of text.now places.now lists.now tplaces.now book.now rows.now waves.now known signals) marks.now sums.now h.tabled.parts.env → Decides d run result }
 {
     let mut values = [0u8; pins::VALUES];
     let mut feeds = [0usize; pins::FEEDS];

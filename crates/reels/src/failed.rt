@@ -4,19 +4,19 @@ ghost use Rattle.std.specs.Prelude.{◌≡◌, ◌+◌, ◌≤◌, length};
 use commands::{answers, asked, files};
 use fails::Failures;
 use lines::LINE;
-use streams::ROWS;
+use streams::{ROWS, System};
 
 // No report of 65,536 bytes has more answers: each has at least two bytes of it.
 const FAILS: usize = 32_768;
 
 // A page with less room than a line is written, and filled from its front again.
-fn emptied(page: &[u8], end: usize) -> usize
+fn emptied(rt: &impl System, page: &[u8], end: usize) -> usize
     ensures { result + 128 ≤ 1048576 }
 {
     if end <= ROWS - LINE {
         return end;
     }
-    streams::write(page, end);
+    streams::write(rt, page, end);
     0
 }
 
@@ -31,71 +31,78 @@ fn put_fail(page: &mut [u8], at: usize, cycle: u64, signal: u64, letter: u8) -> 
 }
 
 // FAILS k, and a line for each of them.
-fn put_fails(page: &mut [u8], cycles: &[u64], signals: &[u64], letters: &[u8], k: usize)
+fn put_fails(
+    rt: &impl System,
+    page: &mut [u8],
+    cycles: &[u64],
+    signals: &[u64],
+    letters: &[u8],
+    k: usize,
+)
     requires { (length page.old ≡ 1048576) × (length cycles.now ≡ 32768) × (length signals.now ≡ 32768) × (length letters.now ≡ 32768) × (k ≤ 32768) }
 {
     let mut end = lines::fails(page, 0, k);
     let mut i = 0;
     while i < k {
-        let at = emptied(page, end);
+        let at = emptied(rt, page, end);
         end = put_fail(page, at, cycles[i], signals[i], letters[i]);
         i += 1;
     }
-    streams::write(page, end);
+    streams::write(rt, page, end);
 }
 
-fn tell(cycles: &[u64], signals: &[u64], letters: &[u8], k: usize)
+fn tell(rt: &impl System, cycles: &[u64], signals: &[u64], letters: &[u8], k: usize)
     requires { (length cycles.now ≡ 32768) × (length signals.now ≡ 32768) × (length letters.now ≡ 32768) }
 {
     if FAILS < k {
-        return streams::broken(b"more answers than there is room for\n");
+        return streams::broken(rt, b"more answers than there is room for\n");
     }
     let mut page = streams::rows();
-    put_fails(&mut page, cycles, signals, letters, k);
+    put_fails(rt, &mut page, cycles, signals, letters, k);
 }
 
 // The report's refusal says that it is the report's.
-fn faulty(report: &[u8], no: u8, place: usize) {
+fn faulty(rt: &impl System, report: &[u8], no: u8, place: usize) {
     let mut page = asked::page();
     let end = lines::hurt(&mut page, 0, b"REPORT", report, no, place);
-    streams::write(&page, end);
+    streams::write(rt, &page, end);
 }
 
-fn answer<'a>(text: &'a [u8], report: &'a [u8]) {
+fn answer<'a>(rt: &impl System, text: &'a [u8], report: &'a [u8]) {
     let mut cycles = [0u64; FAILS];
     let mut signals = [0u64; FAILS];
     let mut letters = [0u8; FAILS];
     match fails::report(text, report, &mut cycles, &mut signals, &mut letters) {
-        Failures::Answers(k) => tell(&cycles, &signals, &letters, k),
-        Failures::Refused(no, place) => answers::refused(text, no, place),
-        Failures::ReportRefused(no, place) => faulty(report, no, place),
+        Failures::Answers(k) => tell(rt, &cycles, &signals, &letters, k),
+        Failures::Refused(no, place) => answers::refused(rt, text, no, place),
+        Failures::ReportRefused(no, place) => faulty(rt, report, no, place),
     }
 }
 
-fn both() {
+fn both(rt: &impl System) {
     let mut text = streams::room();
-    let t = files::text(2, &mut text);
+    let t = files::text(rt, 2, &mut text);
     if !t.read {
         return;
     }
     let mut report = streams::room();
-    let r = files::text(3, &mut report);
+    let r = files::text(rt, 3, &mut report);
     if r.read {
         let n = t.length;
         let m = r.length;
-        answer(&text[..n], &report[..m]);
+        answer(rt, &text[..n], &report[..m]);
     }
 }
 
-pub fn report() {
-    let words = os::arg_count();
+pub fn report(rt: &impl System) {
+    let words = asked::given(rt);
     if words < 3 {
-        return asked::missing(b"FILE");
+        return asked::missing(rt, b"FILE");
     }
     if words < 4 {
-        return asked::missing(b"REPORTFILE");
+        return asked::missing(rt, b"REPORTFILE");
     }
-    if asked::no_more(4) {
-        both();
+    if asked::no_more(rt, 4) {
+        both(rt);
     }
 }

@@ -1,31 +1,32 @@
 // fold FILE
 use commands::{answers, asked, files};
 use flats::Folded;
+use streams::System;
 
-fn answer(text: &[u8]) {
+fn answer(rt: &impl System, text: &[u8]) {
     let mut page = streams::room();
     match flats::fold(text, &mut page) {
         Folded::Text(n) => {
-            streams::write(&page, n);
+            streams::write(rt, &page, n);
         }
-        Folded::Refused(no, place) => answers::refused(text, no, place),
+        Folded::Refused(no, place) => answers::refused(rt, text, no, place),
     }
 }
 
-fn file() {
+fn file(rt: &impl System) {
     let mut text = streams::room();
-    let t = files::text(2, &mut text);
+    let t = files::text(rt, 2, &mut text);
     if t.read {
         let n = t.length;
-        answer(&text[..n]);
+        answer(rt, &text[..n]);
     }
 }
 
-pub fn fold() {
-    if os::arg_count() < 3 {
-        return asked::missing(b"FILE");
+pub fn fold(rt: &impl System) {
+    if asked::given(rt) < 3 {
+        return asked::missing(rt, b"FILE");
     }
-    if asked::no_more(3) {
-        file();
+    if asked::no_more(rt, 3) {
+        file(rt);
     }
 }

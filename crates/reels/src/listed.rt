@@ -1,20 +1,21 @@
 // list FILE
 use commands::{asked, files};
+use streams::System;
 
-fn file() {
+fn file(rt: &impl System) {
     let mut text = streams::room();
-    let t = files::text(2, &mut text);
+    let t = files::text(rt, 2, &mut text);
     if t.read {
         let n = t.length;
-        listing::list(&text[..n]);
+        listing::list(rt, &text[..n]);
     }
 }
 
-pub fn list() {
-    if os::arg_count() < 3 {
-        return asked::missing(b"FILE");
+pub fn list(rt: &impl System) {
+    if asked::given(rt) < 3 {
+        return asked::missing(rt, b"FILE");
     }
-    if asked::no_more(3) {
-        file();
+    if asked::no_more(rt, 3) {
+        file(rt);
     }
 }

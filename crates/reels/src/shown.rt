@@ -5,7 +5,7 @@ ghost use Rattle.meaning.specs.Bounds.{signals_most};
 use commands::{answers, asked, files};
 use lines::Value;
 use services::Checked;
-use streams::ROWS;
+use streams::{ROWS, System};
 use views::Shown;
 
 // The mark for an unassigned pin where none is chosen: `?`.
@@ -45,94 +45,110 @@ fn over() -> Piece {
 }
 
 // The rows of n cycles from the cycle `first` on.
-fn some_rows(text: &[u8], first: usize, n: usize, width: usize, mark: u8, page: &mut [u8]) -> Piece
+fn some_rows(
+    rt: &impl System,
+    text: &[u8],
+    first: usize,
+    n: usize,
+    width: usize,
+    mark: u8,
+    page: &mut [u8],
+) -> Piece
     requires { n * width ≤ length page.old }
 {
     match views::window(text, first, n, mark, page) {
         Shown::Rows(count, visits) => {
             if count != n {
-                streams::broken(b"fewer rows than are due\n");
+                streams::broken(rt, b"fewer rows than are due\n");
                 return over();
             }
             Piece {
-                going: streams::write(page, n * width),
+                going: streams::write(rt, page, n * width),
                 visits,
             }
         }
         Shown::Refused(no, place) => {
-            answers::refused(text, no, place);
+            answers::refused(rt, text, no, place);
             over()
         }
     }
 }
 
 // Windows laid end to end, all with one mark, then the visits of the first.
-fn rows(text: &[u8], first: usize, due: usize, width: usize, mark: u8)
+fn rows(rt: &impl System, text: &[u8], first: usize, due: usize, width: usize, mark: u8)
     requires { (2 ≤ width) × (width ≤ signals_most + 2) × (first + due ≤ 18446744073709551615) }
 {
     let mut space = streams::rows();
     let page: &mut [u8] = &mut space;
     let mut done = fitting(due, width);
-    let front = some_rows(text, first, done, width, mark, page);
+    let front = some_rows(rt, text, first, done, width, mark, page);
     if !front.going {
         return;
     }
     while done < due {
         let n = fitting(due - done, width);
-        let piece = some_rows(text, first + done, n, width, mark, page);
+        let piece = some_rows(rt, text, first + done, n, width, mark, page);
         if !piece.going {
             return;
         }
         done += n;
     }
-    answers::visits(front.visits);
+    answers::visits(rt, front.visits);
 }
 
-fn answer(text: &[u8], first: usize, wanted: usize, mark: u8) {
+fn answer(rt: &impl System, text: &[u8], first: usize, wanted: usize, mark: u8) {
     match services::check(text) {
         Checked::Counted(signals, _, _, cycles, _) => {
             if sets::MOST < signals {
-                return streams::broken(b"more signals than a text has\n");
+                return streams::broken(rt, b"more signals than a text has\n");
             }
-            rows(text, first, due(cycles, first, wanted), signals + 2, mark);
+            rows(
+                rt,
+                text,
+                first,
+                due(cycles, first, wanted),
+                signals + 2,
+                mark,
+            );
         }
         Checked::Refused(no, place) => {
-            answers::refused(text, no, place);
+            answers::refused(rt, text, no, place);
         }
     }
 }
 
 // The mark that was chosen, or else `?`.
-fn mark() -> Value
+fn mark(rt: &impl System) -> Value
     ensures { result.value < 256 }
 {
-    if os::arg_count() < 6 {
+    if asked::given(rt) < 6 {
         return Value {
             right: true,
             value: QUESTION,
         };
     }
-    asked::byte(5)
+    asked::byte(rt, 5)
 }
 
-fn file() {
-    let first = asked::number(3);
+fn file(rt: &impl System) {
+    let first = asked::number(rt, 3);
     if !first.right {
         return;
     }
-    let wanted = asked::number(4);
+    let wanted = asked::number(rt, 4);
     if !wanted.right {
         return;
     }
-    let mark = mark();
+    let mark = mark(rt);
     if !mark.right {
         return;
     }
     let mut text = streams::room();
-    let t = files::text(2, &mut text);
+    let t = files::text(rt, 2, &mut text);
     if t.read {
         let n = t.length;
         answer(
+            rt,
             &text[..n],
             first.value as usize,
             wanted.value as usize,
@@ -141,18 +157,18 @@ fn file() {
     }
 }
 
-pub fn window() {
-    let words = os::arg_count();
+pub fn window(rt: &impl System) {
+    let words = asked::given(rt);
     if words < 3 {
-        return asked::missing(b"FILE");
+        return asked::missing(rt, b"FILE");
     }
     if words < 4 {
-        return asked::missing(b"FIRST");
+        return asked::missing(rt, b"FIRST");
     }
     if words < 5 {
-        return asked::missing(b"COUNT");
+        return asked::missing(rt, b"COUNT");
     }
-    if asked::no_more(6) {
-        file();
+    if asked::no_more(rt, 6) {
+        file(rt);
     }
 }

@@ -6,7 +6,7 @@
 ghost use Rattle.std.specs.Prelude.{◌≡◌, true, false, ◌-◌, ◌<◌, ◌≤◌, length};
 ghost use Rattle.tokens.specs.Tokens.{toks};
 ghost use Rattle.words.specs.Cursor.{alive, stream};
-ghost use Rattle.plays.specs.Plays.{ground, arrays};
+ghost use Rattle.plays.specs.Plays.{ground_of, arrays};
 ghost use Rattle.plays.specs.declared.Frame.{Frame};
 ghost use Rattle.steps.specs.Walks.{once_of, Alike, Copiable, Repeated, Stood, Promised, Stepped, LoopStood, Looped, TurnStood, Turned, ShiftStood, Shifted, UseStood, Entered, IntoStood, WentInto};
 
@@ -59,8 +59,8 @@ fn shift<'a>(
     args: &mut [usize],
     buffer: &mut [u8],
 ) -> Walked
-    requires { (alive c ≡ true) × ShiftStood (ground text.now places.now lists.now tplaces.now book.now rows.now waves.now known signals) (stream text.now c) frame.depth frame.level table frame.turns (arrays values.old feeds.old args.old) walk buffer.old }
-    ensures { Shifted (ground text.now places.now lists.now tplaces.now book.now rows.now waves.now known signals) (stream text.now c) frame.depth frame.level table frame.turns (arrays values.old feeds.old args.old) (arrays values.new feeds.new args.new) walk buffer.old buffer.new result }
+    requires { (alive c ≡ true) × ShiftStood (ground_of text.now places.now lists.now tplaces.now book.now rows.now waves.now known signals) (stream text.now c) frame.depth frame.level table frame.turns (arrays values.old feeds.old args.old) walk buffer.old }
+    ensures { Shifted (ground_of text.now places.now lists.now tplaces.now book.now rows.now waves.now known signals) (stream text.now c) frame.depth frame.level table frame.turns (arrays values.old feeds.old args.old) (arrays values.new feeds.new args.new) walk buffer.old buffer.new result }
 {
     let w = rows::spend(walk, 2);
     if frame.turns <= w.pass {
@@ -179,8 +179,8 @@ fn turns<'a>(
     args: &mut [usize],
     buffer: &mut [u8],
 ) -> Walked
-    requires { (alive c ≡ true) × (0 < frame.depth) × TurnStood (ground text.now places.now lists.now tplaces.now book.now rows.now waves.now known signals) (stream text.now c) (frame.depth - 1) frame.level table frame.turns n (arrays values.old feeds.old args.old) walk buffer.old }
-    ensures { Turned (ground text.now places.now lists.now tplaces.now book.now rows.now waves.now known signals) (stream text.now c) (frame.depth - 1) frame.level table frame.turns n (arrays values.old feeds.old args.old) (arrays values.new feeds.new args.new) walk buffer.old buffer.new result }
+    requires { (alive c ≡ true) × (0 < frame.depth) × TurnStood (ground_of text.now places.now lists.now tplaces.now book.now rows.now waves.now known signals) (stream text.now c) (frame.depth - 1) frame.level table frame.turns n (arrays values.old feeds.old args.old) walk buffer.old }
+    ensures { Turned (ground_of text.now places.now lists.now tplaces.now book.now rows.now waves.now known signals) (stream text.now c) (frame.depth - 1) frame.level table frame.turns n (arrays values.old feeds.old args.old) (arrays values.new feeds.new args.new) walk buffer.old buffer.new result }
 {
     let inner = Frame {
         seconds: frame.seconds,
@@ -246,8 +246,8 @@ fn reach<'a>(
     args: &mut [usize],
     buffer: &mut [u8],
 ) -> Walked
-    requires { (alive c ≡ true) × (0 < n) × (0 < frame.depth) × LoopStood (ground text.now places.now lists.now tplaces.now book.now rows.now waves.now known signals) (stream text.now c) (frame.depth - 1) frame.level table frame.turns n (arrays values.old feeds.old args.old) walk buffer.old }
-    ensures { Looped (ground text.now places.now lists.now tplaces.now book.now rows.now waves.now known signals) (stream text.now c) (frame.depth - 1) frame.level table frame.turns n (arrays values.old feeds.old args.old) (arrays values.new feeds.new args.new) walk buffer.old buffer.new result }
+    requires { (alive c ≡ true) × (0 < n) × (0 < frame.depth) × LoopStood (ground_of text.now places.now lists.now tplaces.now book.now rows.now waves.now known signals) (stream text.now c) (frame.depth - 1) frame.level table frame.turns n (arrays values.old feeds.old args.old) walk buffer.old }
+    ensures { Looped (ground_of text.now places.now lists.now tplaces.now book.now rows.now waves.now known signals) (stream text.now c) (frame.depth - 1) frame.level table frame.turns n (arrays values.old feeds.old args.old) (arrays values.new feeds.new args.new) walk buffer.old buffer.new result }
 {
     let m = loops::measure(
         text,
@@ -364,8 +364,8 @@ fn repeat<'a>(
     args: &mut [usize],
     buffer: &mut [u8],
 ) -> Walked
-    requires { (alive c ≡ true) × (0 < n) × (0 < frame.depth) × LoopStood (ground text.now places.now lists.now tplaces.now book.now rows.now waves.now known signals) (stream text.now c) (frame.depth - 1) frame.level table frame.turns n (arrays values.old feeds.old args.old) walk buffer.old }
-    ensures { Looped (ground text.now places.now lists.now tplaces.now book.now rows.now waves.now known signals) (stream text.now c) (frame.depth - 1) frame.level table frame.turns n (arrays values.old feeds.old args.old) (arrays values.new feeds.new args.new) walk buffer.old buffer.new result }
+    requires { (alive c ≡ true) × (0 < n) × (0 < frame.depth) × LoopStood (ground_of text.now places.now lists.now tplaces.now book.now rows.now waves.now known signals) (stream text.now c) (frame.depth - 1) frame.level table frame.turns n (arrays values.old feeds.old args.old) walk buffer.old }
+    ensures { Looped (ground_of text.now places.now lists.now tplaces.now book.now rows.now waves.now known signals) (stream text.now c) (frame.depth - 1) frame.level table frame.turns n (arrays values.old feeds.old args.old) (arrays values.new feeds.new args.new) walk buffer.old buffer.new result }
 {
     if walk.walking {
         return reach(
@@ -403,8 +403,8 @@ fn into<'a>(
     args: &mut [usize],
     buffer: &mut [u8],
 ) -> Walked
-    requires { IntoStood (ground text.now places.now lists.now tplaces.now book.now rows.now waves.now known signals) i frame.depth frame.level table t (arrays values.old feeds.old args.old) walk buffer.old }
-    ensures { WentInto (ground text.now places.now lists.now tplaces.now book.now rows.now waves.now known signals) i frame.depth frame.level table t (arrays values.old feeds.old args.old) (arrays values.new feeds.new args.new) walk buffer.old buffer.new result }
+    requires { IntoStood (ground_of text.now places.now lists.now tplaces.now book.now rows.now waves.now known signals) i frame.depth frame.level table t (arrays values.old feeds.old args.old) walk buffer.old }
+    ensures { WentInto (ground_of text.now places.now lists.now tplaces.now book.now rows.now waves.now known signals) i frame.depth frame.level table t (arrays values.old feeds.old args.old) (arrays values.new feeds.new args.new) walk buffer.old buffer.new result }
 {
     let inner = Frame {
         seconds: frame.seconds,
@@ -458,8 +458,8 @@ fn enter<'a>(
     args: &mut [usize],
     buffer: &mut [u8],
 ) -> Walked
-    requires { UseStood (ground text.now places.now lists.now tplaces.now book.now rows.now waves.now known signals) i frame.depth frame.level table t (arrays values.old feeds.old args.old) walk buffer.old }
-    ensures { Entered (ground text.now places.now lists.now tplaces.now book.now rows.now waves.now known signals) i frame.depth frame.level table t (arrays values.old feeds.old args.old) (arrays values.new feeds.new args.new) walk buffer.old buffer.new result }
+    requires { UseStood (ground_of text.now places.now lists.now tplaces.now book.now rows.now waves.now known signals) i frame.depth frame.level table t (arrays values.old feeds.old args.old) walk buffer.old }
+    ensures { Entered (ground_of text.now places.now lists.now tplaces.now book.now rows.now waves.now known signals) i frame.depth frame.level table t (arrays values.old feeds.old args.old) (arrays values.new feeds.new args.new) walk buffer.old buffer.new result }
 {
     let m = measures::measure_at(book, i);
     let w = rows::spend(walk, m.size + 1);
@@ -532,8 +532,8 @@ fn statement<'a>(
     args: &mut [usize],
     buffer: &mut [u8],
 ) -> Walked
-    requires { (alive c ≡ true) × Stood (ground text.now places.now lists.now tplaces.now book.now rows.now waves.now known signals) (stream text.now c) frame.depth frame.level table frame.turns (arrays values.old feeds.old args.old) walk buffer.old }
-    ensures { Stepped (ground text.now places.now lists.now tplaces.now book.now rows.now waves.now known signals) (stream text.now c) frame.depth frame.level table frame.turns (arrays values.old feeds.old args.old) (arrays values.new feeds.new args.new) walk buffer.old buffer.new result }
+    requires { (alive c ≡ true) × Stood (ground_of text.now places.now lists.now tplaces.now book.now rows.now waves.now known signals) (stream text.now c) frame.depth frame.level table frame.turns (arrays values.old feeds.old args.old) walk buffer.old }
+    ensures { Stepped (ground_of text.now places.now lists.now tplaces.now book.now rows.now waves.now known signals) (stream text.now c) frame.depth frame.level table frame.turns (arrays values.old feeds.old args.old) (arrays values.new feeds.new args.new) walk buffer.old buffer.new result }
 {
     let mut given = [0; sets::MOST];
     let h = heads::head(
@@ -603,8 +603,8 @@ fn statements<'a>(
     args: &mut [usize],
     buffer: &mut [u8],
 ) -> Walked
-    requires { (alive c ≡ true) × Stood (ground text.now places.now lists.now tplaces.now book.now rows.now waves.now known signals) (stream text.now c) frame.depth frame.level table frame.turns (arrays values.old feeds.old args.old) walk buffer.old }
-    ensures { Promised (ground text.now places.now lists.now tplaces.now book.now rows.now waves.now known signals) (stream text.now c) frame.depth frame.level table frame.turns (arrays values.old feeds.old args.old) (arrays values.new feeds.new args.new) walk buffer.old buffer.new result }
+    requires { (alive c ≡ true) × Stood (ground_of text.now places.now lists.now tplaces.now book.now rows.now waves.now known signals) (stream text.now c) frame.depth frame.level table frame.turns (arrays values.old feeds.old args.old) walk buffer.old }
+    ensures { Promised (ground_of text.now places.now lists.now tplaces.now book.now rows.now waves.now known signals) (stream text.now c) frame.depth frame.level table frame.turns (arrays values.old feeds.old args.old) (arrays values.new feeds.new args.new) walk buffer.old buffer.new result }
 {
     let mut cursor = c;
     let mut chosen = table;
@@ -644,8 +644,8 @@ pub fn body_of<'a>(
     args: &mut [usize],
     buffer: &mut [u8],
 ) -> Walked
-    requires { (length body.now ≤ length text.now) × Stood (ground text.now places.now lists.now tplaces.now book.now rows.now waves.now known signals) (toks text.now (length text.now - length body.now)) frame.depth frame.level table frame.turns (arrays values.old feeds.old args.old) walk buffer.old }
-    ensures { Promised (ground text.now places.now lists.now tplaces.now book.now rows.now waves.now known signals) (toks text.now (length text.now - length body.now)) frame.depth frame.level table frame.turns (arrays values.old feeds.old args.old) (arrays values.new feeds.new args.new) walk buffer.old buffer.new result }
+    requires { (length body.now ≤ length text.now) × Stood (ground_of text.now places.now lists.now tplaces.now book.now rows.now waves.now known signals) (toks text.now (length text.now - length body.now)) frame.depth frame.level table frame.turns (arrays values.old feeds.old args.old) walk buffer.old }
+    ensures { Promised (ground_of text.now places.now lists.now tplaces.now book.now rows.now waves.now known signals) (toks text.now (length text.now - length body.now)) frame.depth frame.level table frame.turns (arrays values.old feeds.old args.old) (arrays values.new feeds.new args.new) walk buffer.old buffer.new result }
 {
     let c = words::cursor_at(text, text.len() - body.len());
     statements(

@@ -1,4 +1,4 @@
-// The services, folding (`flats`), fail reports (`fails`), the next token, the line of a place and the intake for callers in C or Rust: the answer is 0, with what it holds at the front of buffers,
+// The services, folding (`flats`), fail reports (`fails`), the next token, the line of a place and the intake for callers in C or Rust (`stil_c` exports them): the answer is 0, with what it holds at the front of buffers,
 // or a refusal, and all buffers are as they were; but a list of waveforms leaves those that were served before it, and the intake its state.
 #![tactic(auto)]
 
@@ -41,8 +41,7 @@ fn pack(no: u8, place: usize) -> u64
 }
 
 // Check: signals, tables, listed patterns, cycles and the size of the run. A buffer of less than five numbers is 19.
-#[unsafe(no_mangle)]
-pub extern "C" fn lutemeteor_check(text: &[u8], numbers: &mut [u64]) -> u64
+pub fn lutemeteor_check(text: &[u8], numbers: &mut [u64]) -> u64
     ensures { Hands 5 five_of (check_of text.now) numbers.old result numbers.new }
 {
     match services::check(text) {
@@ -62,8 +61,7 @@ pub extern "C" fn lutemeteor_check(text: &[u8], numbers: &mut [u64]) -> u64
 }
 
 // Name: place and length of a table's name, or where `table` is 0 of a signal's. A buffer of less than two numbers is 19.
-#[unsafe(no_mangle)]
-pub extern "C" fn lutemeteor_name(text: &[u8], table: u8, number: usize, numbers: &mut [u64]) -> u64
+pub fn lutemeteor_name(text: &[u8], table: u8, number: usize, numbers: &mut [u64]) -> u64
     ensures { Hands 2 two_of (name_of text.now (which_of (not (eqb table 0))) number) numbers.old result numbers.new }
 {
     match services::name(text, table != 0, number) {
@@ -80,8 +78,7 @@ pub extern "C" fn lutemeteor_name(text: &[u8], table: u8, number: usize, numbers
 }
 
 // Window: the rows, with a mark for unassigned pins, and how many there are, and the visits. A buffer without room for its part is 19.
-#[unsafe(no_mangle)]
-pub extern "C" fn lutemeteor_window(
+pub fn lutemeteor_window(
     text: &[u8],
     first: usize,
     wanted: usize,
@@ -102,8 +99,7 @@ pub extern "C" fn lutemeteor_window(
 }
 
 // Waveform: times in ps, each the 64 bits of a signed number, and letters, and how many events there are. A buffer without room for its part is 19.
-#[unsafe(no_mangle)]
-pub extern "C" fn lutemeteor_waveform(
+pub fn lutemeteor_waveform(
     text: &[u8],
     table: usize,
     signal: usize,
@@ -134,8 +130,7 @@ pub extern "C" fn lutemeteor_waveform(
 
 // Waveforms by the list: what `waveforms` writes; and how many events there are, or where one was refused how many were served before it. A buffer without
 // room for that number is 19.
-#[unsafe(no_mangle)]
-pub extern "C" fn lutemeteor_waveforms(
+pub fn lutemeteor_waveforms(
     text: &[u8],
     asked: &[u64],
     times: &mut [u64],
@@ -171,8 +166,7 @@ fn hand_two(first: usize, second: usize, numbers: &mut [u64]) -> u64
 }
 
 // Index: its bytes, and its length. A buffer without room for its part is 19.
-#[unsafe(no_mangle)]
-pub extern "C" fn lutemeteor_index(text: &[u8], buffer: &mut [u8], numbers: &mut [u64]) -> u64
+pub fn lutemeteor_index(text: &[u8], buffer: &mut [u8], numbers: &mut [u64]) -> u64
     ensures { Writes (index_of text.now buffer.old) buffer.old buffer.new numbers.old result numbers.new }
 {
     match services::write_index(text, 1 <= numbers.len(), buffer) {
@@ -185,8 +179,7 @@ pub extern "C" fn lutemeteor_index(text: &[u8], buffer: &mut [u8], numbers: &mut
 }
 
 // Does an index belong to a text? 0, or the refusal.
-#[unsafe(no_mangle)]
-pub extern "C" fn lutemeteor_belongs(text: &[u8], bytes: &[u8]) -> u64
+pub fn lutemeteor_belongs(text: &[u8], bytes: &[u8]) -> u64
     ensures { result ≡ packed (belongs_to text.now bytes.now) }
 {
     match services::belongs(text, bytes) {
@@ -196,13 +189,7 @@ pub extern "C" fn lutemeteor_belongs(text: &[u8], bytes: &[u8]) -> u64
 }
 
 // The listed pattern that holds a cycle: 1 and its number in the list, or twice 0 past the end. A buffer of less than two numbers is 19.
-#[unsafe(no_mangle)]
-pub extern "C" fn lutemeteor_holds(
-    text: &[u8],
-    bytes: &[u8],
-    cycle: usize,
-    numbers: &mut [u64],
-) -> u64
+pub fn lutemeteor_holds(text: &[u8], bytes: &[u8], cycle: usize, numbers: &mut [u64]) -> u64
     ensures { Hands 2 holder_two (holds_in text.now bytes.now cycle) numbers.old result numbers.new }
 {
     match services::holds(text, bytes, cycle) {
@@ -213,8 +200,7 @@ pub extern "C" fn lutemeteor_holds(
 }
 
 // A hurt text saved where it stands: its overwritten spans, two numbers for each, and how many there are. A buffer without room for its part is 19.
-#[unsafe(no_mangle)]
-pub extern "C" fn lutemeteor_save(text: &mut [u8], spans: &mut [u64], numbers: &mut [u64]) -> u64
+pub fn lutemeteor_save(text: &mut [u8], spans: &mut [u64], numbers: &mut [u64]) -> u64
     ensures { Restores (save_of text.old spans.old) text.old text.new spans.old spans.new numbers.old result numbers.new }
 {
     match services::save_text(text, 1 <= numbers.len(), spans) {
@@ -227,8 +213,7 @@ pub extern "C" fn lutemeteor_save(text: &mut [u8], spans: &mut [u64], numbers: &
 }
 
 // A text folded flat: its bytes, and its length. A buffer without room for its part is 19.
-#[unsafe(no_mangle)]
-pub extern "C" fn lutemeteor_fold(text: &[u8], folded: &mut [u8], numbers: &mut [u64]) -> u64
+pub fn lutemeteor_fold(text: &[u8], folded: &mut [u8], numbers: &mut [u64]) -> u64
     ensures { Flattens (fold_of text.now folded.old) folded.old folded.new numbers.old result numbers.new }
 {
     match flats::fold_text(text, 1 <= numbers.len(), folded) {
@@ -252,8 +237,7 @@ fn pack_report(no: u8, place: usize) -> u64
 
 // A fail report: for each offset the run's cycle, the signal's number and the letter, 0 for none; and how many there are. A buffer without room for its part is
 // 19.
-#[unsafe(no_mangle)]
-pub extern "C" fn lutemeteor_report<'a>(
+pub fn lutemeteor_report<'a>(
     text: &'a [u8],
     report: &'a [u8],
     cycles: &mut [u64],
@@ -288,8 +272,7 @@ fn hand_three(first: usize, second: usize, third: usize, numbers: &mut [u64]) ->
 
 // The next token from a place on, by the token rules alone: 1, its place and its length, or three times 0 where there is none. A buffer of less than three
 // numbers is 19.
-#[unsafe(no_mangle)]
-pub extern "C" fn lutemeteor_token(text: &[u8], at: usize, numbers: &mut [u64]) -> u64
+pub fn lutemeteor_token(text: &[u8], at: usize, numbers: &mut [u64]) -> u64
     ensures { Hands 3 three_of (token_of (next_token text.now at)) numbers.old result numbers.new }
 {
     match tokens::next_token(text, at) {
@@ -300,8 +283,7 @@ pub extern "C" fn lutemeteor_token(text: &[u8], at: usize, numbers: &mut [u64]) 
 }
 
 // The line and the column of a place, also of one past the text's end. A buffer of less than two numbers is 19, and nothing else is refused.
-#[unsafe(no_mangle)]
-pub extern "C" fn lutemeteor_line(text: &[u8], place: usize, numbers: &mut [u64]) -> u64
+pub fn lutemeteor_line(text: &[u8], place: usize, numbers: &mut [u64]) -> u64
     ensures { Hands 2 position_of (given (position text.now place)) numbers.old result numbers.new }
 {
     let p = columns::position_of(text, place);
@@ -411,8 +393,7 @@ fn put_progress(p: Progress, state: &mut [u64]) -> u64
 }
 
 // The next chunk of a raw text. A state of less than six numbers is 19.
-#[unsafe(no_mangle)]
-pub extern "C" fn lutemeteor_intake(state: &mut [u64], chunk: &[u8], store: &mut [u8]) -> u64
+pub fn lutemeteor_intake(state: &mut [u64], chunk: &[u8], store: &mut [u8]) -> u64
     ensures { Carries (λ p s. chunked p chunk.now s) state.old store.old result state.new store.new }
 {
     if state.len() < STATE {
@@ -424,8 +405,7 @@ pub extern "C" fn lutemeteor_intake(state: &mut [u64], chunk: &[u8], store: &mut
 }
 
 // The end of a raw text. A state of less than six numbers is 19.
-#[unsafe(no_mangle)]
-pub extern "C" fn lutemeteor_intake_close(state: &mut [u64], store: &mut [u8]) -> u64
+pub fn lutemeteor_intake_close(state: &mut [u64], store: &mut [u8]) -> u64
     ensures { Carries closed_of state.old store.old result state.new store.new }
 {
     if state.len() < STATE {

@@ -1,9 +1,39 @@
-// A text from a descriptor, and pages to standard output. No contract can say what is read or written: the work is done by functions on slices, which have theirs.
+// A text from a reader, and pages to standard output. No contract can say what is read or written: the work is done by functions on slices, which have theirs.
 #![tactic(auto)]
 
-ghost use Rattle.std.specs.Prelude.{◌≡◌, length};
+mod why;
+
+ghost use Rattle.std.specs.Prelude.{◌≡◌, IfOk, length};
 ghost use Rattle.streams.specs.Pages.{room_most, raw_room, rows_most};
-ghost use Rattle.io.specs.Counts.{IsPrefixLen};
+ghost use Rattle.streams.specs.Counts.{IsPrefixLen};
+
+use std::io;
+use std::io::{IsTerminal, Read};
+use std::rt::{Env, Files};
+
+// What the programs ask of the system: files, the words of the command line, standard output; and standard error as bytes, since a word need not be text.
+pub trait System: Files + Env + Print {
+    fn tell_bytes(&self, bytes: &[u8]) -> io::Result<()>;
+
+    // Is somebody looking at standard error? At standard output?
+    fn is_error_seen(&self) -> bool;
+
+    fn is_output_seen(&self) -> bool;
+}
+
+impl System for HostRuntime {
+    fn tell_bytes(&self, bytes: &[u8]) -> io::Result<()> {
+        self.stderr().write_all(bytes)
+    }
+
+    fn is_error_seen(&self) -> bool {
+        self.stderr().is_terminal()
+    }
+
+    fn is_output_seen(&self) -> bool {
+        self.stdout().is_terminal()
+    }
+}
 
 // One byte more than a text may have, so that one that is too long is refused and never cut.
 const TEXT: usize = tokens::TEXT_MOST + 1;
@@ -49,69 +79,85 @@ fn unread() -> Text
     }
 }
 
-// A read that fails in the middle is a text that cannot be read, never a shorter one.
-pub fn read(fd: i32, text: &mut [u8]) -> Text
-    ensures { IsPrefixLen result.length text.new }
+// So many bytes stand at the buffer's front; or why the reading failed.
+pub fn fill(from: &mut impl Read, text: &mut [u8]) -> io::Result<usize>
+    ensures { IfOk result (λ n. IsPrefixLen n text.new) }
 {
     let mut done = 0;
     while done < text.len() {
-        let got = libc::read(fd, &mut text[done..]);
-        if got < 0 {
-            return unread();
-        }
-        let more = io::count(got, &text[done..]);
+        let more = from.read(&mut text[done..])?;
         if more == 0 {
-            return Text {
-                read: true,
-                length: done,
-            };
+            return Ok(done);
         }
         done += more;
     }
-    Text {
-        read: true,
-        length: done,
+    Ok(done)
+}
+
+// A read that fails in the middle is a text that cannot be read, never a shorter one.
+pub fn read(from: &mut impl Read, text: &mut [u8]) -> Text
+    ensures { IsPrefixLen result.length text.new }
+{
+    match fill(from, text) {
+        Ok(length) => Text { read: true, length },
+        Err(_) => unread(),
     }
 }
 
 // ---- pages to standard output and standard error
 
 // What the promises of the library rule out is told all the same: nothing goes on silently.
-pub fn broken(what: &[u8]) {
-    io::write_all(libc::STDERR_FILENO, what);
+pub fn broken(rt: &impl System, what: &[u8]) {
+    let _ = rt.tell_bytes(what);
+}
+
+// What failed, and why, in the system's words.
+pub fn fail(rt: &impl System, what: &[u8], error: io::Error) {
+    let words = why::said_of(error);
+    let _ = rt.tell_bytes(what);
+    let _ = rt.tell_bytes(b": ");
+    let _ = rt.tell_bytes(words.said());
+    let _ = rt.tell_bytes(b"\n");
 }
 
 // The first bytes of a page. A page that is shorter is never cut silently.
-fn write_front(fd: i32, page: &[u8], length: usize) -> bool {
+fn front<'a>(rt: &impl System, page: &'a [u8], length: usize) -> Option<&'a [u8]> {
     if page.len() < length {
-        broken(b"a page is too short for its line\n");
-        return false;
+        broken(rt, b"a page is too short for its line\n");
+        return None;
     }
-    io::write_all(fd, &page[..length])
+    Some(&page[..length])
 }
 
 // A page's first bytes to standard output; a write that fails is told on standard error.
-pub fn write(page: &[u8], length: usize) -> bool {
-    let written = write_front(libc::STDOUT_FILENO, page, length);
-    if !written {
-        os::fail(b"standard output");
+pub fn write(rt: &impl System, page: &[u8], length: usize) -> bool {
+    let Some(front) = front(rt, page, length) else {
+        return false;
+    };
+    match rt.write_all(front) {
+        Ok(()) => true,
+        Err(error) => {
+            fail(rt, b"standard output", error);
+            false
+        }
     }
-    written
 }
 
 // A page's first bytes to standard error.
-pub fn tell(page: &[u8], length: usize) {
-    write_front(libc::STDERR_FILENO, page, length);
+pub fn tell(rt: &impl System, page: &[u8], length: usize) {
+    if let Some(front) = front(rt, page, length) {
+        let _ = rt.tell_bytes(front);
+    }
 }
 
 // Is somebody looking at standard error who does not see standard output?
-pub fn is_watched() -> bool {
-    (libc::isatty(libc::STDERR_FILENO) != 0) & (libc::isatty(libc::STDOUT_FILENO) == 0)
+pub fn is_watched(rt: &impl System) -> bool {
+    rt.is_error_seen() & !rt.is_output_seen()
 }
 
 // How far it is, to standard error.
-pub fn progress(done: usize, all: usize) {
+pub fn progress(rt: &impl System, done: usize, all: usize) {
     let mut line = [0; lines::LINE];
     let end = lines::progress(&mut line, 0, done, all);
-    tell(&line, end);
+    tell(rt, &line, end);
 }

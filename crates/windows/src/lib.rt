@@ -4,7 +4,7 @@
 ghost use Rattle.meaning.specs.Meaning.{Meaning};
 ghost use Rattle.meaning.specs.Document.{Read};
 ghost use Rattle.texts.specs.declared.Parts.{Parts};
-ghost use Rattle.plays.specs.Plays.{ground, arrays};
+ghost use Rattle.plays.specs.Plays.{ground_of, arrays};
 ghost use Rattle.windows.specs.Run.{SomeListed, WentListed, SomeText, Accepts, Windows};
 
 use heads::Known;
@@ -35,8 +35,8 @@ fn pattern<'a>(
     args: &mut [usize],
     buffer: &mut [u8],
 ) -> Walk
-    requires { SomeListed (ground text.now places.now lists.now tplaces.now book.now rows.now waves.now known signals) list.now patterns k (arrays values.old feeds.old args.old) walk buffer.old }
-    ensures { WentListed (ground text.now places.now lists.now tplaces.now book.now rows.now waves.now known signals) list.now patterns k (arrays values.new feeds.new args.new) walk result buffer.old buffer.new }
+    requires { SomeListed (ground_of text.now places.now lists.now tplaces.now book.now rows.now waves.now known signals) list.now patterns k (arrays values.old feeds.old args.old) walk buffer.old }
+    ensures { WentListed (ground_of text.now places.now lists.now tplaces.now book.now rows.now waves.now known signals) list.now patterns k (arrays values.new feeds.new args.new) walk result buffer.old buffer.new }
 {
     let names = &book[measures::PATTERNS * 2..];
     let i = words::find(text, words::name_bytes(text, list, k), names, patterns);

@@ -15,79 +15,56 @@ use Rattle.measures.specs.Uses.{Uses}
 use Rattle.arguments.specs.Supplied.{Supplied}
 use Rattle.arguments.proofs.Named.{one_below}
 use Rattle.arguments.proofs.Reading.{Tests, tests, one, Naming, Data, unknown, unsuited, refused, done}
-use Rattle.arguments.proofs.argument.Tie as tie
 use Rattle.arguments.proofs.argument.Goals as goal
+use Rattle.arguments.proofs.argument.Goals.{Else-a-ne0, After-refuse_if-d, Else-d-ne0, After-refuse_if-r}
 
--- a known name: before it the start, and behind it its number
-abbrev begin : tie.Else1 → tie.Start
-begin c = c.before.before.before.before.before.before.before.before.before.before
-
-abbrev named : tie.Else1 → tie.After-old-name
-named c = c.before.before.before
-
-row : (c : tie.Else-a-ne0) → Row (begin c).args.lists.now (named c).old-name.result.number (begin c).args.given.now
-row c = row_of (begin c).requires.0 (named c).old-name.ensures (begin c).args.given.now (eq-eqb _ _ c.if-a-ne0.false) (begin c).requires.2
+-- a known name's row
+row : (c : Else-a-ne0) → Row c.args.lists.now c.old_name-x.result.number c.args.given.now
+row c = row_of c.requires.0 c.old_name-x.ensures c.args.given.now (eq-eqb _ _ c.if-a-ne0.false) c.requires.2
 
 -- its two tests
-abbrev known : tie.After-struct-known2 → tie.Else1
-known k = k.before.before.before.before.before.before
-
-abbrev start : tie.After-struct-known2 → tie.Start
-start k = begin (known k)
-
-abbrev number : tie.After-struct-known2 → ℕ
-number k = (named (known k)).old-name.result.number
-
-abbrev met : tie.After-struct-known2 → tie.After-met
-met k = k.before.before.before.before
-
-naming : (k : tie.After-struct_known-2-1)
-    → Naming (start k).args.text.now (start k).args.places.now (start k).args.lists.now (start k).args.names (start k).args.c
-    c.refuse_if-d.result (number k) (met k).met.result c.suits.result
-naming k =
+naming : (c : After-refuse_if-d)
+    → Naming c.args.text.now c.args.places.now c.args.lists.now c.args.names c.args.c
+    c.refuse_if-d.result c.old_name-x.result.number c.met.result c.suits.result
+naming c =
     record {
-      behind = (named (known k)).old-name.result.cursor;
+      behind = c.old_name-x.result.cursor;
       met = c.refuse_if-b.result;
-      name = (named (known k)).old-name.ensures;
+      name = c.old_name-x.ensures;
       once = c.refuse_if-b.ensures;
       suited = c.refuse_if-d.ensures;
     }
 
-told : (k : tie.After-struct_known-2-1) (b : Body) (xs : Args) → Uses b (start k).args.row.now
-    → Supplied (start k).args.text.now xs (start k).args.given.now (start k).args.args.now
-    → Tests (list_at (start k).args.lists.now (number k)) (met k).met.result c.suits.result b xs
-told k b xs uses sup = tests _ c.suits.ensures (met k).met.ensures uses sup
+told : (c : After-refuse_if-d) (b : Body) (xs : Args) → Uses b c.args.row.now
+    → Supplied c.args.text.now xs c.args.given.now c.args.args.now
+    → Tests (list_at c.args.lists.now c.old_name-x.result.number) c.met.result c.suits.result b xs
+told c b xs uses sup = tests _ c.suits.ensures c.met.ensures uses sup
 
 -- they passed: it is one signal, which has its place in the tables
-single : (c : tie.Else-d-ne0) → length (list_at (start c.before).args.lists.now (number c.before)) ≡ 1
+single : (c : Else-d-ne0) → length (list_at c.args.lists.now c.old_name-x.result.number) ≡ 1
 single c =
     let passes = not-false _ (passed c.refuse_if-d.ensures refl (eq-eqb _ _ c.if-d-ne0.false)) in
-    one _ c.suits.ensures (start c.before).requires.1 passes
+    one _ c.suits.ensures c.requires.1 passes
 
-below : (c : tie.Else-d-ne0) → get_or (start c.before).args.lists.now (number c.before * row_length + 1) 0 < signals_most
-below c = one_below (start c.before).args.lists.now (number c.before) (single c) (row (known c.before)).tidy
+below : (c : Else-d-ne0) → get_or c.args.lists.now (c.old_name-x.result.number * row_length + 1) 0 < signals_most
+below c =
+    one_below c.args.lists.now c.old_name-x.result.number (single c)
+    (row_of c.requires.0 c.old_name-x.ensures c.args.given.now (eq-eqb _ _ c.if-a-ne0.false) c.requires.2).tidy
 
 -- DATA, and before it that place
-abbrev suited : tie.After-struct-known4 → tie.Else2
-suited k = k.before.before.before.before.before.before.before.before.before.before
-
-abbrev filled : tie.After-struct-known4 → tie.After-data
-filled k = k.before.before.before.before.before
-
-data_read_lem : (k : tie.After-struct_known-4-1)
-    → Data (start (suited k).before).args.text.now (suited k).before.before.refuse-if2.result c.refuse_if-r.result
-    (filled k).«data».result.n
+data_read_lem : (c : After-refuse_if-r)
+    → Data c.args.text.now c.refuse_if-d.result c.refuse_if-r.result c.data-f.result.n
 unfolding bytes
-data_read_lem k =
+data_read_lem c =
     record {
-      equals = (filled k).before.before.due.result;
-      behind = (filled k).«data».result.cursor;
+      equals = c.due-e.result;
+      behind = c.data-f.result.cursor;
       place = _;
-      last = (filled k).«data».result.last;
+      last = c.data-f.result.last;
       entry = _;
       buffer = _;
-      due_goes = (filled k).before.before.due.ensures;
-      fills = (filled k).«data».ensures;
+      due_goes = c.due-e.ensures;
+      fills = c.data-f.ensures;
       few = c.refuse_if-r.ensures;
     }
 
@@ -97,57 +74,47 @@ returns-then-a-ne0 c =
     λ b xs uses sup. unknown b xs pre.0 c.old_name-x.ensures (ne_eqb _ _ c.if-a-ne0.true)
 
 pub met-requires : goal.met-requires
-met-requires c = row c.before
+met-requires c = row (goal.at.met-requires c).Else-a-ne0
 
 pub suits-requires : goal.suits-requires
 suits-requires c =
-    let r = row c.before.before.before in
-    (r.rows, r.below, r.tidy, (begin c.before.before.before).requires.1.uses.long)
+    let r = row (goal.at.suits-requires c).Else-a-ne0 in
+    (r.rows, r.below, r.tidy, c.requires.1.uses.long)
 
 pub returns-then-d-ne0 : goal.returns-then-d-ne0
 returns-then-d-ne0 c =
-    λ b xs uses sup. unsuited (naming c.before) b xs (ne_eqb _ _ c.if-d-ne0.true) (told c.before b xs uses sup)
+    let k = (goal.at.returns-then-d-ne0 c).After-refuse_if-d in
+    λ b xs uses sup. unsuited (naming k) b xs (ne_eqb _ _ c.if-d-ne0.true) (told k b xs uses sup)
 
 pub overflow_mul-s : goal.overflow_mul-s
-overflow_mul-s c = omega (arith, (row (known c.before)).below)
+overflow_mul-s c = omega (arith, (row (goal.at.overflow_mul-s c).Else-a-ne0).below)
 
 pub overflow_add-s : goal.overflow_add-s
-overflow_add-s c = omega (arith, (row (known c.before)).below)
+overflow_add-s c = omega (arith, (row (goal.at.overflow_add-s c).Else-a-ne0).below)
 
 pub offset_bounds-lists-i : goal.offset_bounds-lists-i
-offset_bounds-lists-i c = omega (arith, (row (known c.before)).below)
+offset_bounds-lists-i c = omega (arith, (row (goal.at.offset_bounds-lists-i c).Else-a-ne0).below)
 
 pub bounds-lists-i : goal.bounds-lists-i
-bounds-lists-i c = let r = row (known c.before.before) in omega (arith, r.below, r.rows)
-
-pub overflow_cast-s : goal.overflow_cast-s
-overflow_cast-s c = omega (arith, below c.before)
+bounds-lists-i c = let r = row (goal.at.bounds-lists-i c).Else-a-ne0 in omega (arith, r.below, r.rows)
 
 pub returns-then-r-ne0 : goal.returns-then-r-ne0
 returns-then-r-ne0 c =
-    let n = (suited c.before).before in
-    λ b xs uses sup. refused (naming n) (data_read_lem c.before) (told n b xs uses sup) (ne_eqb _ _ c.if-r-ne0.true)
+    let k = (goal.at.returns-then-r-ne0 c).After-refuse_if-d in
+    λ b xs uses sup.
+    refused (naming k) (data_read_lem (goal.at.returns-then-r-ne0 c).After-refuse_if-r) (told k b xs uses sup) (ne_eqb _ _ c.if-r-ne0.true)
 
 pub bounds-given-s : goal.bounds-given-s
-bounds-given-s c = omega (arith, below (suited c.before), (start (suited c.before).before).requires.2)
-
-pub offset_bounds-args-s : goal.offset_bounds-args-s
-offset_bounds-args-s c = omega (arith, below (suited c.before))
+bounds-given-s c = omega (arith, below (goal.at.bounds-given-s c).Else-d-ne0, c.requires.2)
 
 pub bounds-args-s : goal.bounds-args-s
-bounds-args-s c = omega (arith, below (suited c.before), (start (suited c.before).before).requires.3)
-
-pub overflow_add-args : goal.overflow_add-args
-overflow_add-args c = omega (arith, below (suited c.before))
-
-pub offset_bounds-args-s-2 : goal.offset_bounds-args-s-2
-offset_bounds-args-s-2 c = omega (arith, below (suited c.before))
+bounds-args-s c = omega (arith, below (goal.at.bounds-args-s c).Else-d-ne0, c.requires.3)
 
 pub bounds-args-s-2 : goal.bounds-args-s-2
-bounds-args-s-2 c = simp length-set (omega (arith, below (suited c.before), (start (suited c.before).before).requires.3))
+bounds-args-s-2 c = simp length-set (omega (arith, below (goal.at.bounds-args-s-2 c).Else-d-ne0, c.requires.3))
 
 pub returns : goal.returns
 returns c =
-    let n = (suited c.before).before in
+    let k = (goal.at.returns c).After-refuse_if-d in
     λ b xs uses sup.
-    done (naming n) (data_read_lem c.before) (told n b xs uses sup) (eq-eqb _ _ c.if-r-ne0.false) (single (suited c.before)) (row (known n)).tidy sup
+    done (naming k) (data_read_lem (goal.at.returns c).After-refuse_if-r) (told k b xs uses sup) (eq-eqb _ _ c.if-r-ne0.false) (single (goal.at.returns c).Else-d-ne0) (row (goal.at.returns c).Else-a-ne0).tidy sup

@@ -8,10 +8,6 @@ use Rattle.arguments.proofs.Supplying.{supplied_none}
 use Rattle.arguments.proofs.Choosing.{no_arguments, braced, not_arguments}
 use Rattle.arguments.proofs.arguments.Goals as goal
 
--- the start, from the loop
-abbrev start : tie.At-loop invariant-loop decreases-loop → tie.Start invariant-loop decreases-loop
-start k = k.before.before.before.before.before.before.before.before.before.before.before.before.before.before
-
 pub returns-then-is : goal.returns-then-is
 unfolding bytes
 returns-then-is c =
@@ -25,12 +21,12 @@ loop-given-init c =
 
 pub argument-cursor-requires : goal.argument-cursor-requires
 argument-cursor-requires c =
-    ((start c.before.before.before.before.before).requires.0, (start c.before.before.before.before.before).requires.1, c.loop-given.invariant.0, c.loop-given.invariant.1)
+    (c.requires.0, c.requires.1, c.loop-given.invariant.0, c.loop-given.invariant.1)
 
 pub loop-given-smaller : goal.loop-given-smaller
 unfolding bytes
 loop-given-smaller c =
-    let used = (start c.before.before.before.before.before.before.before.before.before.before).requires.1 in
+    let used = c.requires.1 in
     fewer (takes_argument _ used.body) (c.loop-given.invariant.2 used.body used.uses) c.until.ensures c.loop-given-test.true
     (λ xs sup. c.argument-cursor.ensures used.body xs used.uses sup)
 
@@ -39,17 +35,17 @@ unfolding bytes
 loop-given-preserved c =
     let argument = c.argument-cursor in
     let loop = c.loop-given in (
-      argument.auto.1.1.1.1.1.1.0 ∙ loop.invariant.0,
-      argument.auto.1.1.1.1.1.1.1.0 ∙ loop.invariant.1,
+      argument.auto.given ∙ loop.invariant.0,
+      argument.auto.args ∙ loop.invariant.1,
       λ b uses.
           again (takes_argument _ b) (loop.invariant.2 b uses) c.until.ensures c.loop-given-test.true (λ xs sup. argument.ensures b xs uses sup),
     )
 
 pub shape_of-given-then-is-2 : goal.shape_of-given-then-is-2
-shape_of-given-then-is-2 c = c.loop-given.invariant.0 ∙ sym (start c.before.before.before.before.before).requires.2.long
+shape_of-given-then-is-2 c = c.loop-given.invariant.0 ∙ sym c.requires.2.long
 
 pub shape_of-args-then-is-2 : goal.shape_of-args-then-is-2
-shape_of-args-then-is-2 c = c.loop-given.invariant.1 ∙ sym (start c.before.before.before.before.before).requires.3
+shape_of-args-then-is-2 c = c.loop-given.invariant.1 ∙ sym c.requires.3
 
 pub returns-then-is-2 : goal.returns-then-is-2
 unfolding bytes

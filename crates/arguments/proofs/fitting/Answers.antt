@@ -1,11 +1,10 @@
 -- Each answer is the test of the definition, by what the row and the table have of the signal.
-use borrow.Author.Tests.{eqb-true, eqb-false, not-true, not-false}
 use native.Mathlib.Omega.{arith}
 use Rattle.arguments.proofs.Counted.{fits_unused, fits_outside, fits_short, fits_beyond}
 use Rattle.arguments.proofs.fitting.Goals as goal
 
 pub overflow_cast-u : goal.overflow_cast-u
-overflow_cast-u c = omega (arith, c.type_inv.row.given c.args.s)
+overflow_cast-u c = omega (arith, c.type_inv.row c.args.s)
 
 pub returns-then-given-s-eq0 : goal.returns-then-given-s-eq0
 returns-then-given-s-eq0 c =
@@ -14,14 +13,14 @@ returns-then-given-s-eq0 c =
 pub returns-then-not-shifted : goal.returns-then-not-shifted
 returns-then-not-shifted c =
     λ text b xs uses sup. fits_outside uses sup c.args.s c.requires.3 c.args.t c.if-given-s-eq0.false
-    (eqb-true _ _ (not-false _ c.if-not-shifted.true))
+    c.if-not-shifted.true
 
 pub returns-then-n-u : goal.returns-then-n-u
 returns-then-n-u c =
     λ text b xs uses sup. fits_short uses sup c.args.s c.requires.3 c.args.t c.if-given-s-eq0.false
-    (eqb-false _ _ (not-true _ c.if-not-shifted.false)) c.if-n-u.true
+    c.if-not-shifted.false c.if-n-u.true
 
 pub returns : goal.returns
 returns c =
     λ text b xs uses sup. fits_beyond uses sup c.args.s c.requires.3 c.args.t c.if-given-s-eq0.false
-    (eqb-false _ _ (not-true _ c.if-not-shifted.false)) c.if-n-u.false
+    c.if-not-shifted.false c.if-n-u.false

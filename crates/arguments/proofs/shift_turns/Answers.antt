@@ -23,7 +23,7 @@ pub bounds-row-s-then-row-s-ne0 : goal.bounds-row-s-then-row-s-ne0
 bounds-row-s-then-row-s-ne0 c = omega (arith, c.requires.0)
 
 pub overflow_cast-u : goal.overflow_cast-u
-overflow_cast-u c = omega (arith, c.type_inv.row.given c.loop-s.s)
+overflow_cast-u c = omega (arith, c.type_inv.row c.loop-s.s)
 
 pub returns-then-u-n : goal.returns-then-u-n
 returns-then-u-n c =

@@ -11,34 +11,20 @@ use Rattle.meaning.specs.Bounds.{signals_most}
 use Rattle.assigns.specs.Given.{Row}
 use Rattle.assigns.proofs.Rows.{row_most_lem}
 use Rattle.assigns.proofs.Assigning.{row_of, no_name, Assigning, assign_read, refused, all_put}
-use Rattle.assigns.proofs.assign.Tie as tie
 use Rattle.assigns.proofs.assign.Goals as goal
+use Rattle.assigns.proofs.assign.Goals.{After-refuse_if-r}
 
--- places before the last test: the start, behind the name, behind DATA
-abbrev start : tie.After-struct-known3 → tie.Start
-start k = k.before.before.before.before.before.before.before.before.before.before.before.before.before.before.before.before.before.before.before.before.before
-
-abbrev named : tie.After-struct-known3 → tie.After-old-name
-named k = k.before.before.before.before.before.before.before.before.before.before.before.before.before.before.before.before
-
-abbrev filled : tie.After-struct-known3 → tie.After-data
-filled k = k.before.before.before.before.before.before
-
--- all readers, up to that test
-whole : (k : tie.After-struct_known-3-1)
-    → Assigning (start k).args.text.now (start k).args.places.now (start k).args.lists.now (start k).args.names (start k).args.may
-    (start k).args.c c.refuse_if-r.result (named k).old-name.result.number c.met.result (replicate signals_most 0)
-    (filled k).«data».new.1.1.1.0
+-- all readers, up to the last test
+whole : (c : After-refuse_if-r)
+    → Assigning c.args.text.now c.args.places.now c.args.lists.now c.args.names c.args.may
+    c.args.c c.refuse_if-r.result c.old_name-x.result.number c.met.result (replicate signals_most 0)
+    c.data-f.new.buffer
 unfolding bytes
-whole k =
-    assign_read (named k).old-name.ensures c.refuse_if-b.ensures (filled k).before.before.due.ensures
-    (filled k).«data».ensures
+whole c =
+    assign_read c.old_name-x.ensures c.refuse_if-b.ensures c.due-d.ensures
+    c.data-f.ensures
     c.refuse_if-r.ensures
-    (ap (λ (n : ℕ). not (eqb (filled k).«data».result.n n)) c.size.ensures)
-
--- the name's row, where the name was known
-row : (k : tie.After-struct_known-3-1) → Row (start k).args.lists.now (named k).old-name.result.number (start k).args.given.now
-row k = row_of (start k).requires.0 (named k).old-name.ensures (start k).args.given.now (eq-eqb _ _ c.if-a-ne0.false) (start k).requires.1
+    (ap (λ (n : ℕ). not (eqb c.data-f.result.n n)) c.size.ensures)
 
 pub returns-then-a-ne0 : goal.returns-then-a-ne0
 returns-then-a-ne0 c =
@@ -55,17 +41,19 @@ size-requires c =
 
 pub returns-then-r-ne0 : goal.returns-then-r-ne0
 returns-then-r-ne0 c =
-    λ xs g. refused (whole c.before) xs (c.met.ensures xs g) (ne_eqb _ _ c.if-r-ne0.true) (start c.before).requires.1
+    λ xs g. refused (whole (goal.at.returns-then-r-ne0 c).After-refuse_if-r) xs (c.met.ensures xs g) (ne_eqb _ _ c.if-r-ne0.true) c.requires.1
 
 pub put-requires : goal.put-requires
 put-requires c =
-    let lists = (start c.before.before.before).args.lists.now in
-    (row c.before.before.before, omega (arith, row_most_lem lists (named c.before.before.before).old-name.result.number, (filled c.before.before.before).«data».ensures.kept, length-replicate {A = ℕ} signals_most 0))
+    let r : Row c.args.lists.now c.old_name-x.result.number c.args.given.now =
+    row_of c.requires.0 c.old_name-x.ensures c.args.given.now (eq-eqb _ _ c.if-a-ne0.false) c.requires.1 in
+    (r, omega (arith, row_most_lem c.args.lists.now c.old_name-x.result.number, c.data-f.ensures.kept, length-replicate {A = ℕ} signals_most 0))
 
 pub returns : goal.returns
 returns c =
-    let put = c.put in
+    let r : Row c.args.lists.now c.old_name-x.result.number c.args.given.now =
+    row_of c.requires.0 c.old_name-x.ensures c.args.given.now (eq-eqb _ _ c.if-a-ne0.false) c.requires.1 in
     λ xs g.
-    all_put (whole c.before.before.before.before.before.before) xs (eq-eqb _ _ c.if-r-ne0.false) (length-replicate {A = ℕ} signals_most 0) (row c.before.before.before.before.before.before).tidy g (c.met.ensures xs g)
-    put.ensures
-    (put.auto.1.1.1.0 ∙ (start c.before.before.before.before.before.before).requires.1)
+    all_put (whole (goal.at.returns c).After-refuse_if-r) xs (eq-eqb _ _ c.if-r-ne0.false) (length-replicate {A = ℕ} signals_most 0) r.tidy g (c.met.ensures xs g)
+    c.put.ensures
+    (c.put.auto.given ∙ c.requires.1)

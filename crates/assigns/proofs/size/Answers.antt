@@ -6,7 +6,7 @@ use Rattle.assigns.proofs.Rows.{row_length_lem}
 use Rattle.assigns.proofs.size.Goals as goal
 
 pub overflow_cast-n : goal.overflow_cast-n
-overflow_cast-n c = omega (arith, c.type_inv.lists.given (c.args.i * row_length))
+overflow_cast-n c = omega (arith, c.type_inv.lists (c.args.i * row_length))
 
 pub returns-then-n-lt-MOST : goal.returns-then-n-lt-MOST
 returns-then-n-lt-MOST c =

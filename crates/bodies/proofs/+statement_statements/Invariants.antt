@@ -1,4 +1,4 @@
-use Prim.Native.Nat.{◌*◌}
+use Prim.Native.Nat.{◌+◌, ◌*◌}
 use mathlib.Core.Path.{◌≡◌}
 use lib.ListN.{length}
 use Rattle.meaning.specs.Bounds.{signals_most}
@@ -11,6 +11,13 @@ use Rattle.heads.specs.Known.{Describes}
 use Rattle.bodies.specs.Bodies.{Notes}
 use Rattle.bodies.proofs.Reading.{Reading}
 use Rattle.bodies.proofs.+statement_statements.Given as goal
+
+-- a Loop's body may stand one level less deep, so that twice the levels fall
+abbrev pub decreases-statement : goal.decreases-statement
+decreases-statement l = 2 * l.d
+
+abbrev pub decreases-statements : goal.decreases-statements
+decreases-statements l = 2 * l.d + 1
 
 abbrev pub invariant-statements-loop-cursor : goal.invariant-statements-loop-cursor
 invariant-statements-loop-cursor l =

@@ -14,7 +14,10 @@ behind-requires c =
     let args' = c.args in
     let head' = c.head-h in
     let s = pre'.0.describes in
-    ((s.ready, pre'.2, head'.ensures.0, s.book_long, head'.ensures.1, pre'.4), (args'.c, _, args'.known.tables, head_is args'.rows.now (head'.ensures.2 pre'.0.env s)))
+    record {
+      ready = (s.ready, pre'.2, head'.ensures.0, s.book_long, head'.ensures.1, pre'.4);
+      by_index = (args'.c, _, args'.known.tables, head_is args'.rows.now (head'.ensures.2 pre'.0.env s));
+    }
 
 pub returns : goal.returns
 returns c =

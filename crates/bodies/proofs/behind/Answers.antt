@@ -38,31 +38,28 @@ returns-in-Ends c =
 pub returns-in-Vector : goal.returns-in-Vector
 returns-in-Vector c =
     let if1' = c.if-cursor-ne0 in
-    let what' = c.what-1 in
     let count' = c.count in
     let vector' = c.vector in
     let note' = c.note in (
       λ e d k tables n t.
-          begun_vector t (eq-eqb _ _ if1'.false) c.plus.ensures note'.ensures.1 what'.given.1 vector'.ensures count'.ensures c.went.ensures,
+          begun_vector t (eq-eqb _ _ if1'.false) c.plus.ensures note'.ensures.1 c.in-Vector.is vector'.ensures count'.ensures c.went.ensures,
       note'.ensures.0,
     )
 
 pub returns-in-Assigns : goal.returns-in-Assigns
 returns-in-Assigns c =
     let if1' = c.if-cursor-ne0 in
-    let enum-told2' = c.enum_told-in-Assigns-1 in
     let setting' = c.setting in
     let note2' = c.note-in-Assigns in (
-      λ e d k tables n t. begun_assigns t (eq-eqb _ _ if1'.false) c.plus-in-Assigns.ensures note2'.ensures.1 setting'.ensures c.went-in-Assigns.ensures enum-told2'.given.1,
+      λ e d k tables n t. begun_assigns t (eq-eqb _ _ if1'.false) c.plus-in-Assigns.ensures note2'.ensures.1 setting'.ensures c.went-in-Assigns.ensures c.in-Assigns.is,
       note2'.ensures.0,
     )
 
 pub returns-in-Chooses : goal.returns-in-Chooses
 returns-in-Chooses c =
     let if1' = c.if-cursor-ne0 in
-    let what2' = c.what-in-Chooses-1 in
     let setting2' = c.setting-in-Chooses in
-    (λ e d k tables n t. begun_chooses t (eq-eqb _ _ if1'.false) c.plus-in-Chooses.ensures setting2'.ensures c.went-in-Chooses.ensures what2'.given.1, grows_none)
+    (λ e d k tables n t. begun_chooses t (eq-eqb _ _ if1'.false) c.plus-in-Chooses.ensures setting2'.ensures c.went-in-Chooses.ensures c.in-Chooses.is, grows_none)
 
 pub returns-in-Loops : goal.returns-in-Loops
 returns-in-Loops c =
@@ -72,23 +69,21 @@ returns-in-Loops c =
 pub returns-in-Shifts : goal.returns-in-Shifts
 returns-in-Shifts c =
     let if1' = c.if-cursor-ne0 in
-    let enum-told3' = c.enum_told-in-Shifts-1 in
     let in-shift' = c.in_shift-r in
     let shift' = c.shift in (
       λ e d k tables n t.
-          begun_shift t (eq-eqb _ _ if1'.false) c.plus-in-Shifts.ensures enum-told3'.given.1 n in-shift'.ensures.0 shift'.ensures c.went-in-Shifts.ensures,
+          begun_shift t (eq-eqb _ _ if1'.false) c.plus-in-Shifts.ensures c.in-Shifts.is n in-shift'.ensures.0 shift'.ensures c.went-in-Shifts.ensures,
       in-shift'.ensures.1,
     )
 
 pub returns-in-Uses : goal.returns-in-Uses
 returns-in-Uses c =
     let if1' = c.if-cursor-ne0 in
-    let what4' = c.what-in-Uses-1 in
     let measure-at' = c.measure_at in
     let used5' = c.used-x in
     let note-args' = c.note_args in (
       λ e d k tables n t.
-          begun_used t (eq-eqb _ _ if1'.false) c.plus-in-Uses.ensures what4'.given.1 measure-at'.ensures used5'.ensures c.went-in-Uses.ensures
+          begun_used t (eq-eqb _ _ if1'.false) c.plus-in-Uses.ensures c.in-Uses.is measure-at'.ensures used5'.ensures c.went-in-Uses.ensures
           note-args'.ensures.0 note-args'.ensures.1,
       note-args'.ensures.0,
     )

@@ -1,5 +1,6 @@
 -- `block` meets its contract. What is kept at each body: reading on with what is declared so far is reading the whole block, and the tables describe that and note it.
-use mathlib.Core.Path.{refl, ◌∙◌}
+use mathlib.Core.Path.{refl, ap, ◌∙◌}
+use mathlib.Core.Bool.{not}
 use Rattle.tokens.specs.Written.{bytes}
 use Rattle.words.proofs.Loops.{on}
 use Rattle.timing.proofs.Making.{looping, again, fewer, leaves, closes, makes_onward}
@@ -12,7 +13,7 @@ pub returns-then-not-begins : goal.returns-then-not-begins
 unfolding bytes
 returns-then-not-begins c =
     let args' = c.args in
-    (λ e s. block_missing args'.macros e c.begins.ensures c.if-not-begins.true-raw (record { describes = s; knows = λ k. k }), grows_none)
+    (λ e s. block_missing args'.macros e c.begins.ensures (ap not c.if-not-begins.true) (record { describes = s; knows = λ k. k }), grows_none)
 
 pub loop-book-init : goal.loop-book-init
 loop-book-init c = (refl, refl, refl, grows_none, λ e s. looping e (λ live. record { describes = s; knows = λ k. k }))
@@ -43,9 +44,9 @@ loop-book-preserved c =
     let until' = c.until in
     let if2' = c.loop-book-test in
     let one-body' = c.one_body-x in (
-      one-body'.auto.1.1.1.1.1.0 ∙ loop'.invariant.0,
-      one-body'.auto.1.1.1.1.1.1.0 ∙ loop'.invariant.1,
-      one-body'.auto.1.1.1.1.1.1.1.1.1.0 ∙ loop'.invariant.2,
+      one-body'.auto.book ∙ loop'.invariant.0,
+      one-body'.auto.rows ∙ loop'.invariant.1,
+      one-body'.auto.args ∙ loop'.invariant.2,
       grows_then loop'.invariant.3 one-body'.ensures.1,
       λ e s. again (takes_one args'.macros) (loop'.invariant.4 e s) until'.ensures if2'.true (λ f h. declared_then h (one-body'.ensures.0 f h.describes)),
     )
@@ -81,7 +82,7 @@ returns c =
     let until' = c.until in
     let if2' = c.loop-book-test in (
       λ e s.
-          block_there args'.macros e begins'.ensures if1'.false-raw
+          block_there args'.macros e begins'.ensures (ap not if1'.false)
           (makes_onward (opened'.ensures _) (closes "}" (one_of args'.macros) e (leaves (takes_one args'.macros) (loop'.invariant.4 e s) until'.ensures if2'.false) c.due-end.ensures)),
       loop'.invariant.3,
     )

@@ -1,5 +1,6 @@
 use mathlib.Core.Path.{◌≡◌}
 use mathlib.Core.Bool.{not}
+use mathlib.Core.List.{[], ◌∷◌}
 use lib.ListN.{length}
 use Rattle.meaning.specs.Reader.{ahead_of, while}
 use Rattle.meaning.specs.Statements.{Env}
@@ -18,7 +19,7 @@ invariant-loop-book l =
     × (length l.args ≡ length l.initial.args)
     × Grows l.initial.used l.used
     × ((e : Env) → Describes l.text l.places l.lists l.tplaces l.initial.book l.initial.rows l.initial.all e
-    → Looping l.text l.initial.cursor (while (λ ts. not (ahead_of t15 ts)) (one_of l.macros) e) (λ ts. not (ahead_of t15 ts)) (one_of l.macros) l.cursor
+    → Looping l.text l.initial.cursor (while (λ ts. not (ahead_of (125 ∷ []) ts)) (one_of l.macros) e) (λ ts. not (ahead_of (125 ∷ []) ts)) (one_of l.macros) l.cursor
     (Declared l.text l.places l.lists l.tplaces l.book l.rows l.all (Knows l.initial.all.tables l.initial.used e) l.used))
 
 abbrev pub decreases-loop-book : goal.decreases-loop-book

@@ -12,8 +12,8 @@ returns-then-cursor-ne0 c =
     let begins' = c.begins-macros in
     let block' = c.block-m in
     let s = pre'.0.describes in (
-      block'.auto.1.1.1.1.1.0 ∙ s.book_long,
-      block'.auto.1.1.1.1.1.1.0 ∙ s.rows_long,
+      block'.auto.book ∙ s.book_long,
+      block'.auto.rows ∙ s.rows_long,
       λ e s. block_refused begins'.result e begins'.ensures (block'.ensures.0 e s) (ne_eqb _ _ c.if-cursor-ne0.true),
       block'.ensures.1,
     )
@@ -34,8 +34,8 @@ returns c =
     let if1' = c.if-cursor-ne0 in
     let block2' = c.block in
     let s = pre'.0.describes in (
-      block2'.auto.1.1.1.1.1.0 ∙ block'.auto.1.1.1.1.1.0 ∙ s.book_long,
-      block2'.auto.1.1.1.1.1.1.0 ∙ block'.auto.1.1.1.1.1.1.0 ∙ s.rows_long,
+      block2'.auto.book ∙ block'.auto.book ∙ s.book_long,
+      block2'.auto.rows ∙ block'.auto.rows ∙ s.rows_long,
       λ e s.
           let m = block'.ensures.0 e s in
           let h = m.held (eq-eqb _ _ if1'.false) in

@@ -6,13 +6,13 @@ use Rattle.tokens.specs.Written.{bytes}
 use Rattle.meaning.specs.Bounds.{bodies_most}
 use Rattle.bodies.proofs.Declaring.{first_most, count_below, room_for, body_refused, body_kept}
 use borrow.Author.Rules.{rules}
-use Rattle.bodies.proofs.one_body.Tie as tie
 use Rattle.bodies.proofs.one_body.Goals as goal
+use Rattle.bodies.proofs.one_body.Goals.{Else-end-ne0}
 
 -- where nothing was refused
-room : (k : tie.Else-end-ne0) → c.args.known.macros + c.args.known.procs < bodies_most
+room : (c : Else-end-ne0) → c.args.known.macros + c.args.known.procs < bodies_most
 unfolding bytes
-room k =
+room c =
     let s = c.requires.0 in
     room_for c.args.macros c.part_of-part.ensures s.describes c.new_name-a.ensures c.refuse_if-b.ensures c.due-d.ensures
     (c.statements-x.ensures.2 s.env s.describes)
@@ -64,20 +64,20 @@ pub overflow_add-first : goal.overflow_add-first
 overflow_add-first c =
     let args' = c.args in
     let part-of' = c.part_of-part in
-    omega (arith, first_most args'.known args'.macros part-of'.ensures, count_below args'.known args'.macros part-of'.ensures (room c.before.before))
+    omega (arith, first_most args'.known args'.macros part-of'.ensures, count_below args'.known args'.macros part-of'.ensures (room (goal.at.overflow_add-first c).Else-end-ne0))
 
 pub keep-requires : goal.keep-requires
 keep-requires c =
     let pre' = c.requires in
     let args' = c.args in
     let part-of' = c.part_of-part in
-    (pre'.0.describes.book_long, omega (arith, first_most args'.known args'.macros part-of'.ensures, count_below args'.known args'.macros part-of'.ensures (room c.before.before)))
+    (pre'.0.describes.book_long, omega (arith, first_most args'.known args'.macros part-of'.ensures, count_below args'.known args'.macros part-of'.ensures (room (goal.at.keep-requires c).Else-end-ne0)))
 
 pub overflow_add-first-2 : goal.overflow_add-first-2
 overflow_add-first-2 c =
     let args' = c.args in
     let part-of' = c.part_of-part in
-    omega (arith, first_most args'.known args'.macros part-of'.ensures, count_below args'.known args'.macros part-of'.ensures (room c.before.before.before.before.before.before))
+    omega (arith, first_most args'.known args'.macros part-of'.ensures, count_below args'.known args'.macros part-of'.ensures (room (goal.at.overflow_add-first-2 c).Else-end-ne0))
 
 pub keep_row-requires : goal.keep_row-requires
 keep_row-requires c =
@@ -85,10 +85,10 @@ keep_row-requires c =
     let args' = c.args in
     let part-of' = c.part_of-part in
     let statements' = c.statements-x in
-    (pre'.0.describes.rows_long, statements'.ensures.0, omega (arith, first_most args'.known args'.macros part-of'.ensures, count_below args'.known args'.macros part-of'.ensures (room c.before.before.before.before.before.before.before)))
+    (pre'.0.describes.rows_long, statements'.ensures.0, omega (arith, first_most args'.known args'.macros part-of'.ensures, count_below args'.known args'.macros part-of'.ensures (room (goal.at.keep_row-requires c).Else-end-ne0)))
 
 pub one_more-more-requires : goal.one_more-more-requires
-one_more-more-requires c = room c.before.before.before.before.before.before.before.before.before.before
+one_more-more-requires c = room (goal.at.one_more-more-requires c).Else-end-ne0
 
 pub returns : goal.returns
 unfolding bytes

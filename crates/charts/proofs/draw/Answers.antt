@@ -13,7 +13,7 @@ pub put-requires : goal.put-requires
 put-requires c =
     let read = c.read-n in
     let d = read.ensures c.requires.0 c.requires.1 in
-    ((omega (arith, d.count, d.few, read.auto.1.1.1.0), omega (arith, d.count, d.few, read.auto.1.1.1.1.0)), roomy _ _ _ c.if-times-n.false)
+    record { n_in_bounds = (omega (arith, d.count, d.few, read.auto.times), omega (arith, d.count, d.few, read.auto.letters)); n_in_bounds_2 = roomy _ _ _ c.if-times-n.false }
 
 pub returns : goal.returns
 returns c =

@@ -20,66 +20,18 @@ use Rattle.crossings.proofs.Entering.{macro_tells, procedure_tells}
 use Prim.Native.Nat.{ℕ, ◌<◌}
 use Rattle.crossings.proofs.+enter_statement_statements_turns.Goals as goal
 
-abbrev μ-enter : Measures 6 enter-kinds.ps ℕ
-μ-enter κs a = 4 * a.1.1.1.1.1.1.1.1.1.1.1.1.0.depth
-
-abbrev μ-statement : Measures 6 statement-kinds.ps ℕ
-μ-statement κs a = 4 * a.1.1.1.1.1.1.1.1.1.1.1.1.1.0.depth + 1
-
-abbrev μ-statements : Measures 6 statements-kinds.ps ℕ
-μ-statements κs a = 4 * a.1.1.1.1.1.1.1.1.1.1.1.1.1.0.depth + 2
-
-abbrev μ-turns : Measures 6 turns-kinds.ps ℕ
-μ-turns κs a = 4 * a.1.1.1.1.1.1.1.1.1.1.1.1.1.0.depth
-
-abbrev enter_at : ℕ → In 6 enter-kinds.ps
-enter_at t = and 6 enter-kinds.ps (is 6 enter-kinds.ps μ-enter t) enter.Pre
-
-abbrev enter_below : ℕ → In 6 enter-kinds.ps
-enter_below t = and 6 enter-kinds.ps (falls 6 enter-kinds.ps ◌<◌ μ-enter t) enter.Pre
-
-abbrev statement_at : ℕ → In 6 statement-kinds.ps
-statement_at t = and 6 statement-kinds.ps (is 6 statement-kinds.ps μ-statement t) statement'.Pre
-
-abbrev statement_below : ℕ → In 6 statement-kinds.ps
-statement_below t =
-    and 6 statement-kinds.ps (falls 6 statement-kinds.ps ◌<◌ μ-statement t) statement'.Pre
-
-abbrev statements_at : ℕ → In 6 statements-kinds.ps
-statements_at t =
-    and 6 statements-kinds.ps (is 6 statements-kinds.ps μ-statements t) statements.Pre
-
-abbrev statements_below : ℕ → In 6 statements-kinds.ps
-statements_below t =
-    and 6 statements-kinds.ps (falls 6 statements-kinds.ps ◌<◌ μ-statements t) statements.Pre
-
-abbrev turns_at : ℕ → In 6 turns-kinds.ps
-turns_at t = and 6 turns-kinds.ps (is 6 turns-kinds.ps μ-turns t) turns.Pre
-
-abbrev turns_below : ℕ → In 6 turns-kinds.ps
-turns_below t = and 6 turns-kinds.ps (falls 6 turns-kinds.ps ◌<◌ μ-turns t) turns.Pre
-
-abbrev enter_calls : ℕ → enter-lts.Claims
-enter_calls t = (start-at-reads.Asked, start-at-reads.Learnt, cursor-at-reads.Asked, cursor-at-reads.Learnt, statements_below t, statements.Post, leave-reads.Asked, leave-reads.Learnt, come-back-reads.Asked, come-back-reads.Learnt)
-
-abbrev statement_calls : ℕ → statement-lts.Claims
-statement_calls t = (head-reads.Asked, head-reads.Learnt, rows-of-reads.Asked, rows-of-reads.Learnt, vectors-reads.Asked, vectors-reads.Learnt, put_reads.Asked, put_reads.Learnt, gone-reads.Asked, gone-reads.Learnt, turns_below t, turns.Post, on-to-reads.Asked, on-to-reads.Learnt, shift-reads.Asked, shift-reads.Learnt, supply-reads.Asked, supply-reads.Learnt, enter_below t, enter.Post)
-
-abbrev turns_calls : ℕ → turns-lts.Claims
-turns_calls t = (rows-of-reads.Asked, rows-of-reads.Learnt, forget-reads.Asked, forget-reads.Learnt, store_reads.Asked, store_reads.Learnt, statements_below t, statements.Post, same__reads.Asked, same__reads.Learnt, finish-reads.Asked, finish-reads.Learnt)
-
 pub enter-overflow_sub-inner : goal.enter-overflow_sub-inner
-enter-overflow_sub-inner t c = omega (arith, c.requires.1.use'.some_more)
+enter-overflow_sub-inner t c = omega (arith, c.requires.use'.some_more)
 
 pub enter-overflow_add-inner : goal.enter-overflow_add-inner
-enter-overflow_add-inner t c = omega (arith, c.requires.1.use'.fits.levels)
+enter-overflow_add-inner t c = omega (arith, c.requires.use'.fits.levels)
 
 pub enter-statements-requires : goal.enter-statements-requires
 enter-statements-requires t c =
-    let used = c.requires.1 in
+    let used = c.requires in
     let u = used.use' in
     let at = c.start_at.ensures (omega (arith, u.declared)) in (
-      omega (arith, c.requires.0, u.some_more),
+      omega (arith, u.some_more),
       (
         eq-eqb _ 0 c.cursor_at-c.ensures.on,
         rw (c.cursor_at-c.ensures.there, at) (record {
@@ -113,7 +65,7 @@ enter-shape_of-marks-then-i-lt-PROCEDURES t c = c.statements.ensures.long.marks_
 
 pub enter-returns-then-i-lt-PROCEDURES : goal.enter-returns-then-i-lt-PROCEDURES
 enter-returns-then-i-lt-PROCEDURES t c =
-    let u = c.requires.1.use' in
+    let u = c.requires.use' in
     let at = c.start_at.ensures (omega (arith, u.declared)) in
     let p = rw (c.cursor_at-c.ensures.there, at) at c.statements.ensures in
     record {
@@ -123,14 +75,14 @@ enter-returns-then-i-lt-PROCEDURES t c =
     }
 
 pub enter-leave-requires : goal.enter-leave-requires
-enter-leave-requires t c = (c.requires.1.sized.roomy.values_long, omega (arith, c.requires.1.use'.fits.levels))
+enter-leave-requires t c = (c.requires.sized.roomy.values_long, omega (arith, c.requires.use'.fits.levels))
 
 pub enter-statements-r-requires : goal.enter-statements-r-requires
 enter-statements-r-requires t c =
-    let used = c.requires.1 in
+    let used = c.requires in
     let u = used.use' in
     let at = c.start_at.ensures (omega (arith, u.declared)) in (
-      omega (arith, c.requires.0, u.some_more),
+      omega (arith, u.some_more),
       (
         eq-eqb _ 0 c.cursor_at-c.ensures.on,
         rw (c.cursor_at-c.ensures.there, at) (record {
@@ -148,7 +100,7 @@ enter-statements-r-requires t c =
     )
 
 pub enter-come_back-requires : goal.enter-come_back-requires
-enter-come_back-requires t c = (c.statements-r.ensures.kept.values_long ∙ c.leave.ensures.long ∙ c.requires.1.sized.roomy.values_long, omega (arith, c.requires.1.use'.fits.levels))
+enter-come_back-requires t c = (c.statements-r.ensures.kept.values_long ∙ c.leave.ensures.long ∙ c.requires.sized.roomy.values_long, omega (arith, c.requires.use'.fits.levels))
 
 pub enter-shape_of-values : goal.enter-shape_of-values
 enter-shape_of-values t c = c.come_back.ensures.long ∙ c.statements-r.ensures.kept.values_long ∙ c.leave.ensures.long
@@ -167,7 +119,7 @@ enter-shape_of-marks t c = c.statements-r.ensures.long.marks_long
 
 pub enter-returns : goal.enter-returns
 enter-returns t c =
-    let used = c.requires.1 in
+    let used = c.requires in
     let u = used.use' in
     let at = c.start_at.ensures (omega (arith, u.declared)) in
     let p = rw (c.cursor_at-c.ensures.there, at) at c.statements-r.ensures in
@@ -179,41 +131,26 @@ enter-returns t c =
 
 pub statement-head-h-requires : goal.statement-head-h-requires
 statement-head-h-requires t c =
-    let stood = c.requires.1.1 in
+    let stood = c.requires.1 in
     (record { env = stood.env; describes = stood.standing.holding.describes }, (omega arith), gave_zeros, stood.sized.args_long)
 
-pub statement-enum_told-1 : goal.statement-enum_told-1
-statement-enum_told-1 t c = c.in-Ends.keys1
-
-pub statement-enum_known-what : goal.statement-enum_known-what
-statement-enum_known-what t c = c.in-Vector.keys2
-
 pub statement-rows_of-requires : goal.statement-rows_of-requires
-statement-rows_of-requires t c = omega (arith, c.requires.1.1.standing.fits.levels)
+statement-rows_of-requires t c = omega (arith, c.requires.1.standing.fits.levels)
 
 pub statement-vectors-failed-requires : goal.statement-vectors-failed-requires
 statement-vectors-failed-requires t c =
-    let stood = c.requires.1.1 in
+    let stood = c.requires.1 in
     (stood.sized.roomy, c.head-h.ensures.0, stood.fitted, stood.ample, omega (arith, c.rows_of.ensures))
 
-pub statement-enum_told-in-Assigns : goal.statement-enum_told-in-Assigns
-statement-enum_told-in-Assigns t c = c.in-Assigns.keys3
-
 pub statement-put-requires : goal.statement-put-requires
-statement-put-requires t c = (c.requires.1.1.sized.roomy, c.head-h.ensures.0)
-
-pub statement-enum_known-what-in-Chooses-1 : goal.statement-enum_known-what-in-Chooses-1
-statement-enum_known-what-in-Chooses-1 t c = c.in-Chooses.keys4
-
-pub statement-enum_known-what-in-Loops-1 : goal.statement-enum_known-what-in-Loops-1
-statement-enum_known-what-in-Loops-1 t c = c.in-Loops.keys5
+statement-put-requires t c = (c.requires.1.sized.roomy, c.head-h.ensures.0)
 
 pub statement-turns-r-requires : goal.statement-turns-r-requires
 statement-turns-r-requires t c =
-    let stood = c.requires.1.1 in
+    let stood = c.requires.1 in
     let st = stood.standing in
-    let i = in_loop st c.requires.1.0 _ _ _ (c.head-h.ensures.2 stood.env st.holding.describes) _ c.in-Loops.is in (
-      omega (arith, c.requires.0),
+    let i = in_loop st c.requires.0 _ _ _ (c.head-h.ensures.2 stood.env st.holding.describes) _ c.in-Loops.is in (
+      omega arith,
       (
         i.1.on,
         i.0,
@@ -233,14 +170,11 @@ statement-turns-r-requires t c =
       ),
     )
 
-pub statement-enum_told-in-Shifts : goal.statement-enum_told-in-Shifts
-statement-enum_told-in-Shifts t c = c.in-Shifts.keys6
-
 pub statement-shift-requires : goal.statement-shift-requires
 statement-shift-requires t c =
-    let stood = c.requires.1.1 in
+    let stood = c.requires.1 in
     let st = stood.standing in
-    let i = in_shift_lem st c.requires.1.0 _ _ _ (c.head-h.ensures.2 stood.env st.holding.describes) c.in-Shifts.is in (
+    let i = in_shift_lem st c.requires.0 _ _ _ (c.head-h.ensures.2 stood.env st.holding.describes) c.in-Shifts.is in (
       i.on,
       record {
         env = stood.env;
@@ -255,26 +189,23 @@ statement-shift-requires t c =
       },
     )
 
-pub statement-enum_known-what-in-Uses-1 : goal.statement-enum_known-what-in-Uses-1
-statement-enum_known-what-in-Uses-1 t c = c.in-Uses.keys7
-
 pub statement-overflow_add-frame : goal.statement-overflow_add-frame
-statement-overflow_add-frame t c = omega (arith, c.requires.1.1.sized.roomy.inside_levels)
+statement-overflow_add-frame t c = omega (arith, c.requires.1.sized.roomy.inside_levels)
 
 pub statement-supply-requires : goal.statement-supply-requires
 statement-supply-requires t c =
-    let stood = c.requires.1.1 in
+    let stood = c.requires.1 in
     let st = stood.standing in
-    let d = called st c.requires.1.0 _ _ _ (c.head-h.ensures.2 stood.env st.holding.describes) _ _ c.in-Uses.is in
+    let d = called st c.requires.0 _ _ _ (c.head-h.ensures.2 stood.env st.holding.describes) _ _ c.in-Uses.is in
     (c.head-h.ensures.0, c.head-h.ensures.1, stood.sized.roomy.feeds_long, omega (arith, d.body_fits.levels))
 
 pub statement-enter-r-requires : goal.statement-enter-r-requires
 statement-enter-r-requires t c =
-    let stood = c.requires.1.1 in
+    let stood = c.requires.1 in
     let st = stood.standing in
-    let d = called st c.requires.1.0 _ _ _ (c.head-h.ensures.2 stood.env st.holding.describes) _ _ c.in-Uses.is in
+    let d = called st c.requires.0 _ _ _ (c.head-h.ensures.2 stood.env st.holding.describes) _ _ c.in-Uses.is in
     let s = c.supply.ensures in (
-      omega (arith, c.requires.0),
+      omega arith,
       record {
         env = stood.env;
         body = d.body;
@@ -290,15 +221,15 @@ statement-enter-r-requires t c =
     )
 
 pub statement-shape_of-args-in-Ends : goal.statement-shape_of-args-in-Ends
-statement-shape_of-args-in-Ends t c = c.head-h.ensures.1 ∙ sym c.requires.1.1.sized.args_long
+statement-shape_of-args-in-Ends t c = c.head-h.ensures.1 ∙ sym c.requires.1.sized.args_long
 
 pub statement-returns-in-Ends : goal.statement-returns-in-Ends
 statement-returns-in-Ends t c =
     let h = c.head-h.ensures in
     record {
-      kept = kept_args c.requires.1.1.sized h.1;
+      kept = kept_args c.requires.1.sized h.1;
       long = long_none;
-      steps = λ E b us s st runs. ends_step st c.requires.1.0 _ _ _ (h.2 E st.holding.describes) c.in-Ends.is st.shows;
+      steps = λ E b us s st runs. ends_step st c.requires.0 _ _ _ (h.2 E st.holding.describes) c.in-Ends.is st.shows;
     }
 
 pub statement-shape_of-values-in-Vector : goal.statement-shape_of-values-in-Vector
@@ -308,7 +239,7 @@ pub statement-shape_of-feeds-in-Vector : goal.statement-shape_of-feeds-in-Vector
 statement-shape_of-feeds-in-Vector t c = c.vectors-failed.ensures.0.feeds_long
 
 pub statement-shape_of-args-in-Vector : goal.statement-shape_of-args-in-Vector
-statement-shape_of-args-in-Vector t c = c.head-h.ensures.1 ∙ sym c.requires.1.1.sized.args_long
+statement-shape_of-args-in-Vector t c = c.head-h.ensures.1 ∙ sym c.requires.1.sized.args_long
 
 pub statement-shape_of-shown-in-Vector : goal.statement-shape_of-shown-in-Vector
 statement-shape_of-shown-in-Vector t c = c.vectors-failed.ensures.1.pins_long
@@ -321,9 +252,9 @@ statement-returns-in-Vector t c =
     let h = c.head-h.ensures in
     let v = c.vectors-failed.ensures in
     record {
-      kept = kept_others c.requires.1.1.sized v.0 h.1;
+      kept = kept_others c.requires.1.sized v.0 h.1;
       long = v.1;
-      steps = λ E b us s st runs. vector_step st c.requires.1.0 _ _ _ (h.2 E st.holding.describes) _ c.in-Vector.is runs (rw c.rows_of.ensures at v.2);
+      steps = λ E b us s st runs. vector_step st c.requires.0 _ _ _ (h.2 E st.holding.describes) _ c.in-Vector.is runs (rw c.rows_of.ensures at v.2);
     }
 
 pub statement-shape_of-values-in-Assigns : goal.statement-shape_of-values-in-Assigns
@@ -333,28 +264,28 @@ pub statement-shape_of-feeds-in-Assigns : goal.statement-shape_of-feeds-in-Assig
 statement-shape_of-feeds-in-Assigns t c = c.put.ensures.0.feeds_long
 
 pub statement-shape_of-args-in-Assigns : goal.statement-shape_of-args-in-Assigns
-statement-shape_of-args-in-Assigns t c = c.head-h.ensures.1 ∙ sym c.requires.1.1.sized.args_long
+statement-shape_of-args-in-Assigns t c = c.head-h.ensures.1 ∙ sym c.requires.1.sized.args_long
 
 pub statement-returns-in-Assigns : goal.statement-returns-in-Assigns
 statement-returns-in-Assigns t c =
     let h = c.head-h.ensures in
     let v = c.put.ensures in
     rw c.gone.ensures (record {
-      kept = kept_others c.requires.1.1.sized v.0 h.1;
+      kept = kept_others c.requires.1.sized v.0 h.1;
       long = long_none;
-      steps = λ E b us s st runs. assigns_step st c.requires.1.0 _ _ _ (h.2 E st.holding.describes) c.in-Assigns.is v.1;
+      steps = λ E b us s st runs. assigns_step st c.requires.0 _ _ _ (h.2 E st.holding.describes) c.in-Assigns.is v.1;
     })
 
 pub statement-shape_of-args-in-Chooses : goal.statement-shape_of-args-in-Chooses
-statement-shape_of-args-in-Chooses t c = c.head-h.ensures.1 ∙ sym c.requires.1.1.sized.args_long
+statement-shape_of-args-in-Chooses t c = c.head-h.ensures.1 ∙ sym c.requires.1.sized.args_long
 
 pub statement-returns-in-Chooses : goal.statement-returns-in-Chooses
 statement-returns-in-Chooses t c =
     let h = c.head-h.ensures in
     rw c.gone-in-Chooses.ensures (record {
-      kept = kept_args c.requires.1.1.sized h.1;
+      kept = kept_args c.requires.1.sized h.1;
       long = long_none;
-      steps = λ E b us s st runs. chooses_step st c.requires.1.0 _ _ _ (h.2 E st.holding.describes) _ c.in-Chooses.is st.shows;
+      steps = λ E b us s st runs. chooses_step st c.requires.0 _ _ _ (h.2 E st.holding.describes) _ c.in-Chooses.is st.shows;
     })
 
 pub statement-shape_of-values-in-Loops : goal.statement-shape_of-values-in-Loops
@@ -364,7 +295,7 @@ pub statement-shape_of-feeds-in-Loops : goal.statement-shape_of-feeds-in-Loops
 statement-shape_of-feeds-in-Loops t c = c.turns-r.ensures.kept.feeds_long
 
 pub statement-shape_of-args-in-Loops : goal.statement-shape_of-args-in-Loops
-statement-shape_of-args-in-Loops t c = c.turns-r.ensures.kept.args_long ∙ c.head-h.ensures.1 ∙ sym c.requires.1.1.sized.args_long
+statement-shape_of-args-in-Loops t c = c.turns-r.ensures.kept.args_long ∙ c.head-h.ensures.1 ∙ sym c.requires.1.sized.args_long
 
 pub statement-shape_of-shown-in-Loops : goal.statement-shape_of-shown-in-Loops
 statement-shape_of-shown-in-Loops t c = c.turns-r.ensures.long.pins_long
@@ -377,10 +308,10 @@ statement-returns-in-Loops t c =
     let h = c.head-h.ensures in
     let v = c.turns-r.ensures in
     rw c.on_to.ensures (record {
-      kept = kept_then (kept_args c.requires.1.1.sized h.1) v.kept;
+      kept = kept_then (kept_args c.requires.1.sized h.1) v.kept;
       long = v.long;
       steps = λ E b us s st runs. (
-          let i = in_loop st c.requires.1.0 _ _ _ (h.2 E st.holding.describes) _ c.in-Loops.is in
+          let i = in_loop st c.requires.0 _ _ _ (h.2 E st.holding.describes) _ c.in-Loops.is in
           let p = v.plays E i.1.body i.1.between s (loop_standing st i.1 st.shows) (loop_plain i.1) runs in
           loop_step st.holding i.1 refl (record { tells = p.tells; behind = p.behind }));
     })
@@ -392,7 +323,7 @@ pub statement-shape_of-feeds-in-Shifts : goal.statement-shape_of-feeds-in-Shifts
 statement-shape_of-feeds-in-Shifts t c = c.shift.ensures.kept.feeds_long
 
 pub statement-shape_of-args-in-Shifts : goal.statement-shape_of-args-in-Shifts
-statement-shape_of-args-in-Shifts t c = c.shift.ensures.kept.args_long ∙ c.head-h.ensures.1 ∙ sym c.requires.1.1.sized.args_long
+statement-shape_of-args-in-Shifts t c = c.shift.ensures.kept.args_long ∙ c.head-h.ensures.1 ∙ sym c.requires.1.sized.args_long
 
 pub statement-shape_of-shown-in-Shifts : goal.statement-shape_of-shown-in-Shifts
 statement-shape_of-shown-in-Shifts t c = c.shift.ensures.long.pins_long
@@ -405,10 +336,10 @@ statement-returns-in-Shifts t c =
     let h = c.head-h.ensures in
     let v = c.shift.ensures in
     record {
-      kept = kept_then (kept_args c.requires.1.1.sized h.1) v.kept;
+      kept = kept_then (kept_args c.requires.1.sized h.1) v.kept;
       long = v.long;
       steps = λ E b us s st runs. (
-          let i = in_shift_lem st c.requires.1.0 _ _ _ (h.2 E st.holding.describes) c.in-Shifts.is in
+          let i = in_shift_lem st c.requires.0 _ _ _ (h.2 E st.holding.describes) c.in-Shifts.is in
           shift_step st.holding i v.goes_on (v.plays E _ _ i.between s (shift_standing st i st.shows) runs));
     }
 
@@ -416,10 +347,10 @@ pub statement-shape_of-values-in-Uses : goal.statement-shape_of-values-in-Uses
 statement-shape_of-values-in-Uses t c = c.enter-r.ensures.kept.values_long
 
 pub statement-shape_of-feeds-in-Uses : goal.statement-shape_of-feeds-in-Uses
-statement-shape_of-feeds-in-Uses t c = c.enter-r.ensures.kept.feeds_long ∙ c.supply.ensures.0 ∙ sym c.requires.1.1.sized.roomy.feeds_long
+statement-shape_of-feeds-in-Uses t c = c.enter-r.ensures.kept.feeds_long ∙ c.supply.ensures.0 ∙ sym c.requires.1.sized.roomy.feeds_long
 
 pub statement-shape_of-args-in-Uses : goal.statement-shape_of-args-in-Uses
-statement-shape_of-args-in-Uses t c = c.enter-r.ensures.kept.args_long ∙ c.head-h.ensures.1 ∙ sym c.requires.1.1.sized.args_long
+statement-shape_of-args-in-Uses t c = c.enter-r.ensures.kept.args_long ∙ c.head-h.ensures.1 ∙ sym c.requires.1.sized.args_long
 
 pub statement-shape_of-shown-in-Uses : goal.statement-shape_of-shown-in-Uses
 statement-shape_of-shown-in-Uses t c = c.enter-r.ensures.long.pins_long
@@ -433,22 +364,22 @@ statement-returns-in-Uses t c =
     let v = c.enter-r.ensures in
     let w = c.supply.ensures in
     rw c.on_to-in-Uses.ensures (record {
-      kept = kept_then (kept_supplied c.requires.1.1.sized h.1 w.0 w.1) v.kept;
+      kept = kept_then (kept_supplied c.requires.1.sized h.1 w.0 w.1) v.kept;
       long = v.long;
       steps = λ E b us s st runs. (
-          let d = called st c.requires.1.0 _ _ _ (h.2 E st.holding.describes) _ _ c.in-Uses.is in
+          let d = called st c.requires.0 _ _ _ (h.2 E st.holding.describes) _ _ c.in-Uses.is in
           called_step st.holding _ d refl refl (v.told E d.body d.after d.arguments s (called_using st d (shows_supplied st.shows w.1) (w.2 _ _ d.supplied)) runs));
     })
 
 pub statements-loop-known-init : goal.statements-loop-known-init
-statements-loop-known-init t c = record { kept = kept_none; long = long_none; onward = λ E b us s st runs. starts c.requires.1.0 st }
+statements-loop-known-init t c = record { kept = kept_none; long = long_none; onward = λ E b us s st runs. starts c.requires.0 st }
 
 pub statements-statement-r-requires : goal.statements-statement-r-requires
 statements-statement-r-requires t c =
-    let stood = c.requires.1.1 in
+    let stood = c.requires.1 in
     let inv = c.loop-known.invariant in
     let o = inv.onward stood.env stood.body stood.rest stood.state stood.standing stood.timed in (
-      omega (arith, c.requires.0),
+      omega arith,
       (
         o.on,
         record {
@@ -480,26 +411,19 @@ statements-shape_of-shown-then-r t c = c.statement-r.ensures.long.pins_long ∙ 
 pub statements-shape_of-marks-then-r : goal.statements-shape_of-marks-then-r
 statements-shape_of-marks-then-r t c = c.statement-r.ensures.long.marks_long ∙ c.loop-known.invariant.long.marks_long
 
-statements-returns :
-    (t : ℕ) →
-    statements-lts.Need-returns
-    (statement_below t, statement'.Post)
-    (statements_at t)
-    statements.Post
-    statements_Inv-loop
-    statements_μ_loop
-statements-returns t c =
-    let inv = c.before.before.before.before.before.before.before.before.before.before.before.before.before.before.before.before.before.before.loop.invariant in
-    let step = c.before.before.before.before.before.before.before.before.before.before.before.before.statement.ensures in
+pub statements-returns-then-r : goal.statements-returns-then-r
+statements-returns-then-r t c =
+    let inv = c.loop-known.invariant in
+    let step = c.statement-r.ensures in
     record {
       kept = kept_then inv.kept step.kept;
       long = long_then inv.long step.long;
-      plays = λ E b us s st runs. (let o = inv.onward E b us s st runs in gone o (step.steps E o.rest us o.state o.standing runs) c.if1.true);
+      plays = λ E b us s st runs. (let o = inv.onward E b us s st runs in gone o (step.steps E o.rest us o.state o.standing runs) c.if-r.true);
     }
 
 pub statements-loop-known-smaller : goal.statements-loop-known-smaller
 statements-loop-known-smaller t c =
-    let stood = c.requires.1.1 in
+    let stood = c.requires.1 in
     let o = c.loop-known.invariant.onward stood.env stood.body stood.rest stood.state stood.standing stood.timed in
     fewer o (c.statement-r.ensures.steps stood.env o.rest stood.rest o.state o.standing stood.timed) c.if-r.false
 
@@ -514,28 +438,28 @@ statements-loop-known-preserved t c =
     }
 
 pub turns-overflow_sub-inner : goal.turns-overflow_sub-inner
-turns-overflow_sub-inner t c = omega (arith, c.requires.1.2)
+turns-overflow_sub-inner t c = omega (arith, c.requires.2)
 
 pub turns-rows_of-first-requires : goal.turns-rows_of-first-requires
-turns-rows_of-first-requires t c = c.requires.1.3
+turns-rows_of-first-requires t c = c.requires.3
 
 pub turns-forget-requires : goal.turns-forget-requires
-turns-forget-requires t c = (c.requires.1.4.ample.marks_long, omega (arith, c.rows_of-first.ensures, c.requires.1.2))
+turns-forget-requires t c = (c.requires.4.ample.marks_long, omega (arith, c.rows_of-first.ensures, c.requires.2))
 
 pub turns-overflow_add-first : goal.turns-overflow_add-first
 turns-overflow_add-first t c = omega (arith, c.rows_of-first.ensures)
 
 pub turns-store-requires : goal.turns-store-requires
 turns-store-requires t c =
-    let stood = c.requires.1.4 in
-    (stood.sized.roomy.few, omega (arith, stood.sized.roomy.values_long), long_ample (long_stored (c.forget.ensures c.args.signals c.args.shown.now)) stood.ample, omega (arith, c.rows_of-first.ensures, c.requires.1.2))
+    let stood = c.requires.4 in
+    (stood.sized.roomy.few, omega (arith, stood.sized.roomy.values_long), long_ample (long_stored (c.forget.ensures c.args.signals c.args.shown.now)) stood.ample, omega (arith, c.rows_of-first.ensures, c.requires.2))
 
 pub turns-statements-a-requires : goal.turns-statements-a-requires
 turns-statements-a-requires t c =
-    let stood = c.requires.1.4 in (
-      omega (arith, c.requires.0, c.requires.1.2),
+    let stood = c.requires.4 in (
+      omega (arith, c.requires.2),
       (
-        c.requires.1.0,
+        c.requires.0,
         record {
           env = stood.env;
           body = stood.body;
@@ -545,7 +469,7 @@ turns-statements-a-requires t c =
           timed = stood.timed;
           sized = stood.sized;
           fitted = stood.fitted;
-          ample = long_ample (long_then (long_stored (c.forget.ensures c.args.signals c.args.shown.now)) (long_stored c.store.ensures)) c.requires.1.4.ample;
+          ample = long_ample (long_then (long_stored (c.forget.ensures c.args.signals c.args.shown.now)) (long_stored c.store.ensures)) c.requires.4.ample;
         },
       ),
     )
@@ -571,7 +495,7 @@ turns-returns-then-a-n t c =
     record {
       kept = a.kept;
       long = long_then (long_stored (c.forget.ensures c.args.signals c.args.shown.now)) (long_then (long_stored c.store.ensures) a.long);
-      plays = λ E b us s st plain runs. turned_once c.args.frame.turns c.args.n c.args.frame.depth b s c.requires.1.2 c.requires.1.3 (rw c.rows_of-first.ensures at (c.forget.ensures c.args.signals c.args.shown.now)) (rw c.rows_of-first.ensures at c.store.ensures) (a.plays E b us s st runs) c.requires.1.1 c.if-a-n.true;
+      plays = λ E b us s st plain runs. turned_once c.args.frame.turns c.args.n c.args.frame.depth b s c.requires.2 c.requires.3 (rw c.rows_of-first.ensures at (c.forget.ensures c.args.signals c.args.shown.now)) (rw c.rows_of-first.ensures at c.store.ensures) (a.plays E b us s st runs) c.requires.1 c.if-a-n.true;
     }
 
 pub turns-overflow_add-first-2 : goal.turns-overflow_add-first-2
@@ -579,14 +503,14 @@ turns-overflow_add-first-2 t c = omega (arith, c.rows_of-first.ensures)
 
 pub turns-same-requires : goal.turns-same-requires
 turns-same-requires t c =
-    let stood = c.requires.1.4 in
+    let stood = c.requires.4 in
     let sized = sized_kept stood.sized c.statements-a.ensures.kept in
-    (sized.roomy.few, omega (arith, sized.roomy.values_long), long_ample c.statements-a.ensures.long (long_ample (long_then (long_stored (c.forget.ensures c.args.signals c.args.shown.now)) (long_stored c.store.ensures)) c.requires.1.4.ample), omega (arith, c.rows_of-first.ensures, c.requires.1.2))
+    (sized.roomy.few, omega (arith, sized.roomy.values_long), long_ample c.statements-a.ensures.long (long_ample (long_then (long_stored (c.forget.ensures c.args.signals c.args.shown.now)) (long_stored c.store.ensures)) c.requires.4.ample), omega (arith, c.rows_of-first.ensures, c.requires.2))
 
 pub turns-finish-requires : goal.turns-finish-requires
 turns-finish-requires t c =
-    let stood = c.requires.1.4 in
-    (stood.fitted, stood.sized.roomy.few, long_ample c.statements-a.ensures.long (long_ample (long_then (long_stored (c.forget.ensures c.args.signals c.args.shown.now)) (long_stored c.store.ensures)) c.requires.1.4.ample), omega (arith, c.rows_of-first.ensures, c.requires.1.2))
+    let stood = c.requires.4 in
+    (stood.fitted, stood.sized.roomy.few, long_ample c.statements-a.ensures.long (long_ample (long_then (long_stored (c.forget.ensures c.args.signals c.args.shown.now)) (long_stored c.store.ensures)) c.requires.4.ample), omega (arith, c.rows_of-first.ensures, c.requires.2))
 
 pub turns-shape_of-values-then-same : goal.turns-shape_of-values-then-same
 turns-shape_of-values-then-same t c = c.statements-a.ensures.kept.values_long
@@ -606,30 +530,30 @@ turns-shape_of-marks-then-same t c = c.statements-a.ensures.long.marks_long ∙ 
 pub turns-returns-then-same : goal.turns-returns-then-same
 turns-returns-then-same t c =
     let a = c.statements-a.ensures in
-    let stood = c.requires.1.4 in
-    let ample = long_ample a.long (long_ample (long_then (long_stored (c.forget.ensures c.args.signals c.args.shown.now)) (long_stored c.store.ensures)) c.requires.1.4.ample) in
+    let stood = c.requires.4 in
+    let ample = long_ample a.long (long_ample (long_then (long_stored (c.forget.ensures c.args.signals c.args.shown.now)) (long_stored c.store.ensures)) c.requires.4.ample) in
     record {
       kept = a.kept;
       long = long_then (long_stored (c.forget.ensures c.args.signals c.args.shown.now)) (long_then (long_stored c.store.ensures) a.long);
       plays = λ E b us s st plain runs. (
           let p = a.plays E b us s st runs in
           let sound = (neither _ _ c.if-a-n.false).0 in
-          let row = still_found c.args.frame.turns c.args.n c.args.frame.depth b s c.requires.1.2 c.requires.1.3 (rw c.rows_of-first.ensures at (c.forget.ensures c.args.signals c.args.shown.now)) (rw c.rows_of-first.ensures at c.store.ensures) p c.if-a-n.false refl in
-          let same = turn_same c.args.frame.turns _ b s plain st.shows (p.tells.shows sound) row (sized_kept stood.sized a.kept).roomy ample (omega (arith, c.requires.1.2)) (rw c.rows_of-first.ensures at (c.same.ensures c.if-same.true)) in
-          turned_steady c.args.frame.turns c.args.n c.args.frame.depth b s c.requires.1.2 c.requires.1.3 (rw c.rows_of-first.ensures at (c.forget.ensures c.args.signals c.args.shown.now)) (rw c.rows_of-first.ensures at c.store.ensures) p c.if-a-n.false same c.finish.ensures.0 c.finish.ensures.1 (rw c.rows_of-first.ensures at (c.finish.ensures.2 E.tables runs)));
+          let row = still_found c.args.frame.turns c.args.n c.args.frame.depth b s c.requires.2 c.requires.3 (rw c.rows_of-first.ensures at (c.forget.ensures c.args.signals c.args.shown.now)) (rw c.rows_of-first.ensures at c.store.ensures) p c.if-a-n.false refl in
+          let same = turn_same c.args.frame.turns _ b s plain st.shows (p.tells.shows sound) row (sized_kept stood.sized a.kept).roomy ample (omega (arith, c.requires.2)) (rw c.rows_of-first.ensures at (c.same.ensures c.if-same.true)) in
+          turned_steady c.args.frame.turns c.args.n c.args.frame.depth b s c.requires.2 c.requires.3 (rw c.rows_of-first.ensures at (c.forget.ensures c.args.signals c.args.shown.now)) (rw c.rows_of-first.ensures at c.store.ensures) p c.if-a-n.false same c.finish.ensures.0 c.finish.ensures.1 (rw c.rows_of-first.ensures at (c.finish.ensures.2 E.tables runs)));
     }
 
 pub turns-forget-requires-2 : goal.turns-forget-requires-2
-turns-forget-requires-2 t c = ((long_ample c.statements-a.ensures.long (long_ample (long_then (long_stored (c.forget.ensures c.args.signals c.args.shown.now)) (long_stored c.store.ensures)) c.requires.1.4.ample)).marks_long, omega (arith, c.rows_of-first.ensures, c.requires.1.2))
+turns-forget-requires-2 t c = ((long_ample c.statements-a.ensures.long (long_ample (long_then (long_stored (c.forget.ensures c.args.signals c.args.shown.now)) (long_stored c.store.ensures)) c.requires.4.ample)).marks_long, omega (arith, c.rows_of-first.ensures, c.requires.2))
 
 pub turns-statements-b-requires : goal.turns-statements-b-requires
 turns-statements-b-requires t c =
-    let stood = c.requires.1.4 in
+    let stood = c.requires.4 in
     let a = c.statements-a.ensures in
     let p = a.plays stood.env stood.body stood.rest stood.state stood.standing stood.timed in (
-      omega (arith, c.requires.0, c.requires.1.2),
+      omega (arith, c.requires.2),
       (
-        c.requires.1.0,
+        c.requires.0,
         record {
           env = stood.env;
           body = stood.body;
@@ -639,7 +563,7 @@ turns-statements-b-requires t c =
           timed = stood.timed;
           sized = sized_kept stood.sized a.kept;
           fitted = stood.fitted;
-          ample = long_ample (long_stored (c.forget-2.ensures c.args.signals _)) (long_ample a.long (long_ample (long_then (long_stored (c.forget.ensures c.args.signals c.args.shown.now)) (long_stored c.store.ensures)) c.requires.1.4.ample));
+          ample = long_ample (long_stored (c.forget-2.ensures c.args.signals _)) (long_ample a.long (long_ample (long_then (long_stored (c.forget.ensures c.args.signals c.args.shown.now)) (long_stored c.store.ensures)) c.requires.4.ample));
         },
       ),
     )
@@ -669,13 +593,13 @@ turns-returns-then-b-n t c =
       plays = λ E b us s st plain runs. (
           let p = a.plays E b us s st runs in
           let q = z.plays E b us _ (turned_standing _ st p (neither _ _ c.if-a-n.false).0) runs in
-          turned_twice c.args.frame.turns c.args.n c.args.frame.depth b s c.requires.1.2 c.requires.1.3 (rw c.rows_of-first.ensures at (c.forget.ensures c.args.signals c.args.shown.now)) (rw c.rows_of-first.ensures at c.store.ensures) p c.if-a-n.false (stored_at c.rows_of-first.ensures (c.forget-2.ensures _ _)) q c.if-b-n.true);
+          turned_twice c.args.frame.turns c.args.n c.args.frame.depth b s c.requires.2 c.requires.3 (rw c.rows_of-first.ensures at (c.forget.ensures c.args.signals c.args.shown.now)) (rw c.rows_of-first.ensures at c.store.ensures) p c.if-a-n.false (stored_at c.rows_of-first.ensures (c.forget-2.ensures _ _)) q c.if-b-n.true);
     }
 
 pub turns-finish-requires-2 : goal.turns-finish-requires-2
 turns-finish-requires-2 t c =
-    let stood = c.requires.1.4 in
-    (stood.fitted, stood.sized.roomy.few, long_ample c.statements-b.ensures.long (long_ample (long_stored (c.forget-2.ensures c.args.signals _)) (long_ample c.statements-a.ensures.long (long_ample (long_then (long_stored (c.forget.ensures c.args.signals c.args.shown.now)) (long_stored c.store.ensures)) c.requires.1.4.ample))), omega (arith, c.rows_of-first.ensures, c.requires.1.2))
+    let stood = c.requires.4 in
+    (stood.fitted, stood.sized.roomy.few, long_ample c.statements-b.ensures.long (long_ample (long_stored (c.forget-2.ensures c.args.signals _)) (long_ample c.statements-a.ensures.long (long_ample (long_then (long_stored (c.forget.ensures c.args.signals c.args.shown.now)) (long_stored c.store.ensures)) c.requires.4.ample))), omega (arith, c.rows_of-first.ensures, c.requires.2))
 
 pub turns-shape_of-values : goal.turns-shape_of-values
 turns-shape_of-values t c = c.statements-b.ensures.kept.values_long ∙ c.statements-a.ensures.kept.values_long
@@ -702,5 +626,5 @@ turns-returns t c =
       plays = λ E b us s st plain runs. (
           let p = a.plays E b us s st runs in
           let q = z.plays E b us _ (turned_standing _ st p (neither _ _ c.if-a-n.false).0) runs in
-          turned_on c.args.frame.turns c.args.n c.args.frame.depth b s c.requires.1.2 c.requires.1.3 (rw c.rows_of-first.ensures at (c.forget.ensures c.args.signals c.args.shown.now)) (rw c.rows_of-first.ensures at c.store.ensures) p c.if-a-n.false (stored_at c.rows_of-first.ensures (c.forget-2.ensures _ _)) q c.if-b-n.false plain c.finish-2.ensures.0 c.finish-2.ensures.1 (rw c.rows_of-first.ensures at (c.finish-2.ensures.2 E.tables runs)));
+          turned_on c.args.frame.turns c.args.n c.args.frame.depth b s c.requires.2 c.requires.3 (rw c.rows_of-first.ensures at (c.forget.ensures c.args.signals c.args.shown.now)) (rw c.rows_of-first.ensures at c.store.ensures) p c.if-a-n.false (stored_at c.rows_of-first.ensures (c.forget-2.ensures _ _)) q c.if-b-n.false plain c.finish-2.ensures.0 c.finish-2.ensures.1 (rw c.rows_of-first.ensures at (c.finish-2.ensures.2 E.tables runs)));
     }

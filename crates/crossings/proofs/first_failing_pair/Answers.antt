@@ -20,7 +20,7 @@ loop-k-init c =
 pub pattern-r-requires : goal.pattern-r-requires
 pattern-r-requires c =
     let h = c.requires.spans.0 in
-    let l = listed_any _ _ _ _ _ _ _ _ _ _ _ _ h.runs c.type_inv.values.true in
+    let l = listed_any _ _ _ _ _ _ _ _ _ _ _ _ h.runs c.loop-k-test.true in
     record {
       env = h.runs.tabled.parts.env;
       decls = h.read.patterns;
@@ -33,7 +33,7 @@ pattern-r-requires c =
     }
 
 pub returns-then-r : goal.returns-then-r
-returns-then-r c = λ p d run h m. decides_failing (run_fails _ _ _ _ _ _ _ _ _ _ _ _ h (c.loop-k.invariant.left p d run h m) c.type_inv.values.true c.pattern-r.ensures m c.if-r.true)
+returns-then-r c = λ p d run h m. decides_failing (run_fails _ _ _ _ _ _ _ _ _ _ _ _ h (c.loop-k.invariant.left p d run h m) c.loop-k-test.true c.pattern-r.ensures m c.if-r.true)
 
 pub overflow_add-k : goal.overflow_add-k
 overflow_add-k c = omega (arith, c.ranges.listed)
@@ -43,7 +43,7 @@ loop-k-preserved c =
     record {
       sized = c.pattern-r.ensures.sized;
       ample = c.pattern-r.ensures.ample;
-      left = λ p d run h m. run_left _ _ _ _ _ _ _ _ _ _ _ _ h (c.loop-k.invariant.left p d run h m) c.type_inv.values.true c.pattern-r.ensures m c.if-r.false;
+      left = λ p d run h m. run_left _ _ _ _ _ _ _ _ _ _ _ _ h (c.loop-k.invariant.left p d run h m) c.loop-k-test.true c.pattern-r.ensures m c.if-r.false;
     }
 
 pub returns : goal.returns

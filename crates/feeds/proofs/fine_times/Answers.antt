@@ -26,10 +26,6 @@ returns-then-n-width c =
     let start = c.args in
     omega (arith, c.least.ensures, times_some start.marks.now start.text.now start.from start.end (omega arith) start.times c.if-times-eq0.false (omega (arith, c.marked.ensures)) c.if-n-width.true)
 
--- LOST nonzero-div-if3
-div-if3 : tie.Need-nonzero-div-if3
-div-if3 c = omega arith
-
 pub returns-then-most-width : goal.returns-then-most-width
 returns-then-most-width c =
     let start = c.args in

@@ -11,7 +11,7 @@ pub bounds-text-i : goal.bounds-text-i
 bounds-text-i c = omega arith
 
 pub overflow_cast-b : goal.overflow_cast-b
-overflow_cast-b c = omega (arith, c.type_inv.text.given c.loop-i.i)
+overflow_cast-b c = omega (arith, c.type_inv.text c.loop-i.i)
 
 pub returns-then-marks-b : goal.returns-then-marks-b
 returns-then-marks-b c =

@@ -14,82 +14,24 @@ use Rattle.grants.proofs.Going.{going_on, all_gone, going}
 use Prim.Native.Nat.{ℕ, ◌<◌}
 use Rattle.grants.proofs.+body_looped_statement_tally_used.Goals as goal
 
-abbrev μ-body : Measures 3 body-kinds.ps ℕ
-μ-body κs a = 4 * a.1.1.1.1.1.1.1.1.1.0 + 3
-
-abbrev μ-looped : Measures 3 looped-kinds.ps ℕ
-μ-looped κs a = 4 * a.1.1.1.1.1.1.1.1.1.1.0
-
-abbrev μ-statement : Measures 3 statement-kinds.ps ℕ
-μ-statement κs a = 4 * a.1.1.1.1.1.1.1.1.1.1.0 + 1
-
-abbrev μ-tally : Measures 3 tally-kinds.ps ℕ
-μ-tally κs a = 4 * a.1.1.1.1.1.1.1.1.1.1.0 + 2
-
-abbrev μ-used : Measures 5 used-kinds.ps ℕ
-μ-used κs a = 4 * a.1.1.1.1.1.1.1.1.1.0
-
-abbrev body_at : ℕ → In 3 body-kinds.ps
-body_at t = and 3 body-kinds.ps (is 3 body-kinds.ps μ-body t) body.Pre
-
-abbrev body_below : ℕ → In 3 body-kinds.ps
-body_below t = and 3 body-kinds.ps (falls 3 body-kinds.ps ◌<◌ μ-body t) body.Pre
-
-abbrev looped_at : ℕ → In 3 looped-kinds.ps
-looped_at t = and 3 looped-kinds.ps (is 3 looped-kinds.ps μ-looped t) looped.Pre
-
-abbrev looped_below : ℕ → In 3 looped-kinds.ps
-looped_below t = and 3 looped-kinds.ps (falls 3 looped-kinds.ps ◌<◌ μ-looped t) looped.Pre
-
-abbrev statement_at : ℕ → In 3 statement-kinds.ps
-statement_at t = and 3 statement-kinds.ps (is 3 statement-kinds.ps μ-statement t) statement'.Pre
-
-abbrev statement_below : ℕ → In 3 statement-kinds.ps
-statement_below t =
-    and 3 statement-kinds.ps (falls 3 statement-kinds.ps ◌<◌ μ-statement t) statement'.Pre
-
-abbrev tally_at : ℕ → In 3 tally-kinds.ps
-tally_at t = and 3 tally-kinds.ps (is 3 tally-kinds.ps μ-tally t) tally.Pre
-
-abbrev tally_below : ℕ → In 3 tally-kinds.ps
-tally_below t = and 3 tally-kinds.ps (falls 3 tally-kinds.ps ◌<◌ μ-tally t) tally.Pre
-
-abbrev used_at_lem : ℕ → In 5 used-kinds.ps
-used_at_lem t = and 5 used-kinds.ps (is 5 used-kinds.ps μ-used t) used.Pre
-
-abbrev used_below : ℕ → In 5 used-kinds.ps
-used_below t = and 5 used-kinds.ps (falls 5 used-kinds.ps ◌<◌ μ-used t) used.Pre
-
-abbrev body_calls : ℕ → body-lts.Claims
-body_calls t = (clear_reads.Asked, clear_reads.Learnt, start-at-reads.Asked, start-at-reads.Learnt, cursor-at-reads.Asked, cursor-at-reads.Learnt, tally_below t, tally.Post)
-
-abbrev looped_calls : ℕ → looped-lts.Claims
-looped_calls t = (clear_reads.Asked, clear_reads.Learnt, tally_below t, tally.Post, turns-reads.Asked, turns-reads.Learnt)
-
-abbrev statement_calls : ℕ → statement-lts.Claims
-statement_calls t = (head-reads.Asked, head-reads.Learnt, vector-reads.Asked, vector-reads.Learnt, behind-reads.Asked, behind-reads.Learnt, assign_reads.Asked, assign_reads.Learnt, choose-reads.Asked, choose-reads.Learnt, looped_below t, looped.Post, shift-reads.Asked, shift-reads.Learnt, used_below t, used.Post)
-
-abbrev used_calls : ℕ → used-lts.Claims
-used_calls t = (body_below t, body.Post, usable-reads.Asked, usable-reads.Learnt, spoil-reads.Asked, spoil-reads.Learnt, in_place_reads.Asked, in_place_reads.Learnt, called-reads.Asked, called-reads.Learnt)
-
 pub body-bounds-marks-i : goal.body-bounds-marks-i
-body-bounds-marks-i t c = let s = c.requires.1 in omega (arith, s.declared.number, s.marks_long)
+body-bounds-marks-i t c = let s = c.requires in omega (arith, s.declared.number, s.marks_long)
 
 pub body-returns-then-marks-i-ne0 : goal.body-returns-then-marks-i-ne0
 body-returns-then-marks-i-ne0 t c = record { kept = λ r. kept_none; summed = λ E b us d u. u }
 
 pub body-bounds-marks-i-2 : goal.body-bounds-marks-i-2
-body-bounds-marks-i-2 t c = let s = c.requires.1 in omega (arith, s.declared.number, s.marks_long)
+body-bounds-marks-i-2 t c = let s = c.requires in omega (arith, s.declared.number, s.marks_long)
 
 pub body-clear-requires : goal.body-clear-requires
-body-clear-requires t c = let s = c.requires.1 in (omega (arith, s.declared.number, s.sums_long))
+body-clear-requires t c = let s = c.requires in (omega (arith, s.declared.number, s.sums_long))
 
 pub body-tally-x-requires : goal.body-tally-x-requires
 body-tally-x-requires t c =
-    let s = c.requires.1 in
+    let s = c.requires in
     let n = s.declared.number in
     let there = c.cursor_at-c.ensures in (
-      omega (arith, c.requires.0),
+      omega arith,
       (
         stands_on there,
         record {
@@ -103,50 +45,50 @@ body-tally-x-requires t c =
     )
 
 pub body-shape_of-marks-then-x : goal.body-shape_of-marks-then-x
-body-shape_of-marks-then-x t c = body_long c.requires.1 c.tally-x.ensures
+body-shape_of-marks-then-x t c = body_long c.requires c.tally-x.ensures
 
 pub body-returns-then-x : goal.body-returns-then-x
 body-returns-then-x t c =
-    let s = c.requires.1 in
+    let s = c.requires in
     bodied_twice s c.if-marks-i-ne0.false c.clear.ensures.0 c.clear.ensures.1 c.cursor_at-c.ensures (c.start_at.ensures (omega (arith, s.declared.number))) c.tally-x.ensures
 
 pub body-bounds-marks-i-then-x-2 : goal.body-bounds-marks-i-then-x-2
-body-bounds-marks-i-then-x-2 t c = body_within c.requires.1 c.tally-x.ensures
+body-bounds-marks-i-then-x-2 t c = body_within c.requires c.tally-x.ensures
 
 pub body-shape_of-marks-then-x-2 : goal.body-shape_of-marks-then-x-2
-body-shape_of-marks-then-x-2 t c = body_set_long c.requires.1 c.tally-x.ensures _
+body-shape_of-marks-then-x-2 t c = body_set_long c.requires c.tally-x.ensures _
 
 pub body-returns-then-x-2 : goal.body-returns-then-x-2
 body-returns-then-x-2 t c =
-    let s = c.requires.1 in
+    let s = c.requires in
     bodied_shifted s c.if-marks-i-ne0.false c.clear.ensures.0 c.clear.ensures.1 c.cursor_at-c.ensures (c.start_at.ensures (omega (arith, s.declared.number))) c.tally-x.ensures c.if-x.false
 
 pub body-bounds-marks-i-3 : goal.body-bounds-marks-i-3
-body-bounds-marks-i-3 t c = body_within c.requires.1 c.tally-x.ensures
+body-bounds-marks-i-3 t c = body_within c.requires c.tally-x.ensures
 
 pub body-shape_of-marks : goal.body-shape_of-marks
-body-shape_of-marks t c = body_set_long c.requires.1 c.tally-x.ensures _
+body-shape_of-marks t c = body_set_long c.requires c.tally-x.ensures _
 
 pub body-returns : goal.body-returns
 body-returns t c =
-    let s = c.requires.1 in
+    let s = c.requires in
     bodied_summed s c.if-marks-i-ne0.false c.clear.ensures.0 c.clear.ensures.1 c.cursor_at-c.ensures (c.start_at.ensures (omega (arith, s.declared.number))) c.tally-x.ensures c.if-x.false c.if-x-2.false
 
 pub looped-overflow_sub-row : goal.looped-overflow_sub-row
-looped-overflow_sub-row t c = omega (arith, c.requires.1.1.levels)
+looped-overflow_sub-row t c = omega (arith, c.requires.1.levels)
 
 pub looped-clear-requires : goal.looped-clear-requires
-looped-clear-requires t c = let s = c.requires.1.1 in (omega (arith, s.some_more, s.levels, s.sized.sums_long))
+looped-clear-requires t c = let s = c.requires.1 in (omega (arith, s.some_more, s.levels, s.sized.sums_long))
 
 pub looped-overflow_sub-depth : goal.looped-overflow_sub-depth
-looped-overflow_sub-depth t c = omega (arith, c.requires.1.1.some_more)
+looped-overflow_sub-depth t c = omega (arith, c.requires.1.some_more)
 
 pub looped-tally-x-requires : goal.looped-tally-x-requires
 looped-tally-x-requires t c =
-    let s = c.requires.1.1 in (
-      omega (arith, c.requires.0, s.some_more),
+    let s = c.requires.1 in (
+      omega (arith, s.some_more),
       (
-        c.requires.1.0,
+        c.requires.0,
         record {
           env = s.env;
           body = s.body;
@@ -159,7 +101,7 @@ looped-tally-x-requires t c =
 
 pub looped-turns-requires : goal.looped-turns-requires
 looped-turns-requires t c =
-    let s = c.requires.1.1 in
+    let s = c.requires.1 in
     let l = c.tally-x.ensures.kept.sums_long in
     let m = c.clear.ensures.0.long in (
       omega (arith, room s.sized),
@@ -172,7 +114,7 @@ looped-turns-requires t c =
 
 pub looped-returns : goal.looped-returns
 looped-returns t c =
-    let s = c.requires.1.1 in
+    let s = c.requires.1 in
     let o = c.clear.ensures in
     let p = c.tally-x.ensures in
     let f = c.turns.ensures in
@@ -185,42 +127,27 @@ looped-returns t c =
 
 pub statement-head-h-requires : goal.statement-head-h-requires
 statement-head-h-requires t c =
-    let s = c.requires.1.1 in
+    let s = c.requires.1 in
     (record { env = s.env; describes = s.standing.holding.describes }, (omega arith), gave_zeros, length-replicate {A = ℕ} (signals_most * 2) 0)
 
-pub statement-enum_told-1 : goal.statement-enum_told-1
-statement-enum_told-1 t c = c.in-Ends.keys1
-
-pub statement-enum_known-what : goal.statement-enum_known-what
-statement-enum_known-what t c = c.in-Vector.keys2
-
 pub statement-vector-requires : goal.statement-vector-requires
-statement-vector-requires t c = let s = c.requires.1.1.sized in (room s, c.head-h.ensures.0, s.waves_long, s.few)
-
-pub statement-enum_told-in-Assigns : goal.statement-enum_told-in-Assigns
-statement-enum_told-in-Assigns t c = c.in-Assigns.keys3
+statement-vector-requires t c = let s = c.requires.1.sized in (room s, c.head-h.ensures.0, s.waves_long, s.few)
 
 pub statement-assign-requires : goal.statement-assign-requires
-statement-assign-requires t c = let s = c.requires.1.1.sized in (room s, c.head-h.ensures.0)
-
-pub statement-enum_known-what-in-Chooses-1 : goal.statement-enum_known-what-in-Chooses-1
-statement-enum_known-what-in-Chooses-1 t c = c.in-Chooses.keys4
+statement-assign-requires t c = let s = c.requires.1.sized in (room s, c.head-h.ensures.0)
 
 pub statement-choose-requires : goal.statement-choose-requires
 statement-choose-requires t c =
-    let s = c.requires.1.1 in
+    let s = c.requires.1 in
     let st = s.standing in
-    (room s.sized, table_within st c.requires.1.0 _ _ _ (c.head-h.ensures.2 s.env st.holding.describes) _ c.in-Chooses.is)
-
-pub statement-enum_known-what-in-Loops-1 : goal.statement-enum_known-what-in-Loops-1
-statement-enum_known-what-in-Loops-1 t c = c.in-Loops.keys5
+    (room s.sized, table_within st c.requires.0 _ _ _ (c.head-h.ensures.2 s.env st.holding.describes) _ c.in-Chooses.is)
 
 pub statement-looped-requires : goal.statement-looped-requires
 statement-looped-requires t c =
-    let s = c.requires.1.1 in
+    let s = c.requires.1 in
     let st = s.standing in
-    let i = in_loop st c.requires.1.0 _ _ _ (c.head-h.ensures.2 s.env st.holding.describes) _ c.in-Loops.is in (
-      omega (arith, c.requires.0),
+    let i = in_loop st c.requires.0 _ _ _ (c.head-h.ensures.2 s.env st.holding.describes) _ c.in-Loops.is in (
+      omega arith,
       (
         i.1.on,
         record {
@@ -236,14 +163,11 @@ statement-looped-requires t c =
       ),
     )
 
-pub statement-enum_told-in-Shifts : goal.statement-enum_told-in-Shifts
-statement-enum_told-in-Shifts t c = c.in-Shifts.keys6
-
 pub statement-shift-requires : goal.statement-shift-requires
 statement-shift-requires t c =
-    let s = c.requires.1.1 in
+    let s = c.requires.1 in
     let st = s.standing in
-    let i = in_shift_lem st c.requires.1.0 _ _ _ (c.head-h.ensures.2 s.env st.holding.describes) c.in-Shifts.is in (
+    let i = in_shift_lem st c.requires.0 _ _ _ (c.head-h.ensures.2 s.env st.holding.describes) c.in-Shifts.is in (
       i.on,
       record {
         env = s.env;
@@ -258,15 +182,12 @@ statement-shift-requires t c =
       },
     )
 
-pub statement-enum_known-what-in-Uses-1 : goal.statement-enum_known-what-in-Uses-1
-statement-enum_known-what-in-Uses-1 t c = c.in-Uses.keys7
-
 pub statement-used-requires : goal.statement-used-requires
 statement-used-requires t c =
-    let s = c.requires.1.1 in
+    let s = c.requires.1 in
     let st = s.standing in
-    let i = calling st c.requires.1.0 _ _ _ (c.head-h.ensures.2 s.env st.holding.describes) _ _ c.in-Uses.is in (
-      omega (arith, c.requires.0),
+    let i = calling st c.requires.0 _ _ _ (c.head-h.ensures.2 s.env st.holding.describes) _ _ c.in-Uses.is in (
+      omega arith,
       record {
         env = s.env;
         body = i.body;
@@ -282,14 +203,14 @@ statement-used-requires t c =
 
 pub statement-returns-in-Ends : goal.statement-returns-in-Ends
 statement-returns-in-Ends t c =
-    let p = c.requires.1 in
+    let p = c.requires in
     let h = c.head-h.ensures in
     let told = c.in-Ends.is in
     record { kept = kept_none; steps = λ E b us st. ends_step st p.0 _ _ _ (h.2 E st.holding.describes) told }
 
 pub statement-returns-in-Vector : goal.statement-returns-in-Vector
 statement-returns-in-Vector t c =
-    let p = c.requires.1 in
+    let p = c.requires in
     let h = c.head-h.ensures in
     let v = c.vector.ensures in
     let told = c.in-Vector.is in
@@ -298,7 +219,7 @@ statement-returns-in-Vector t c =
 
 pub statement-returns-in-Assigns : goal.statement-returns-in-Assigns
 statement-returns-in-Assigns t c =
-    let p = c.requires.1 in
+    let p = c.requires in
     let h = c.head-h.ensures in
     let v = c.assign.ensures in
     let told = c.in-Assigns.is in
@@ -307,7 +228,7 @@ statement-returns-in-Assigns t c =
 
 pub statement-returns-in-Chooses : goal.statement-returns-in-Chooses
 statement-returns-in-Chooses t c =
-    let p = c.requires.1 in
+    let p = c.requires in
     let h = c.head-h.ensures in
     let v = c.choose.ensures in
     let told = c.in-Chooses.is in
@@ -316,7 +237,7 @@ statement-returns-in-Chooses t c =
 
 pub statement-returns-in-Loops : goal.statement-returns-in-Loops
 statement-returns-in-Loops t c =
-    let p = c.requires.1 in
+    let p = c.requires in
     let h = c.head-h.ensures in
     let l = c.looped.ensures in
     let told = c.in-Loops.is in
@@ -329,7 +250,7 @@ statement-returns-in-Loops t c =
 
 pub statement-returns-in-Shifts : goal.statement-returns-in-Shifts
 statement-returns-in-Shifts t c =
-    let p = c.requires.1 in
+    let p = c.requires in
     let h = c.head-h.ensures in
     let l = c.shift.ensures _ _ p.1.sized in
     let told = c.in-Shifts.is in
@@ -343,104 +264,56 @@ statement-returns-in-Shifts t c =
 
 pub statement-returns-in-Uses : goal.statement-returns-in-Uses
 statement-returns-in-Uses t c =
-    let p = c.requires.1 in
+    let p = c.requires in
     let h = c.head-h.ensures in
     let u = c.used.ensures in
     let told = c.in-Uses.is in
     let x = c.behind-in-Uses.ensures in
     record { kept = u.kept; steps = λ E b us st. use_step st p.0 _ _ _ (h.2 E st.holding.describes) _ _ told x (u.added E) }
 
-tally-loop-holds :
-    (t : ℕ) →
-    tally-lts.Need-loop-init
-    (statement_below t, statement'.Post)
-    (tally_at t)
-    tally.Post
-    tally_Inv-loop
-    tally_μ_loop
-tally-loop-holds t c = record { kept = kept_none; onward = λ E b us st. going c.before.before.before.before.before.before.before.before.before.requires.1.0 st }
+pub tally-loop-known-init : goal.tally-loop-known-init
+tally-loop-known-init t c = record { kept = kept_none; onward = λ E b us st. going c.requires.0 st }
 
 pub tally-statement-x-requires : goal.tally-statement-x-requires
 tally-statement-x-requires t c =
-    let s = c.requires.1.1 in
+    let s = c.requires.1 in
     let inv = c.loop-known.invariant in
     let o = inv.onward s.env s.body s.rest s.standing in
-    (omega (arith, c.requires.0), (o.on, record { env = s.env; body = o.rest; rest = s.rest; standing = o.standing; sized = sized_kept inv.kept s.sized }))
+    (omega arith, (o.on, record { env = s.env; body = o.rest; rest = s.rest; standing = o.standing; sized = sized_kept inv.kept s.sized }))
 
-tally-same-length :
-    (t : ℕ) →
-    tally-lts.Need-same-length
-    (statement_below t, statement'.Post)
-    (tally_at t)
-    tally.Post
-    tally_Inv-loop
-    tally_μ_loop
-tally-same-length t c = search rules
-
-tally-same-length-2 :
-    (t : ℕ) →
-    tally-lts.Need-same-length-2
-    (statement_below t, statement'.Post)
-    (tally_at t)
-    tally.Post
-    tally_Inv-loop
-    tally_μ_loop
-tally-same-length-2 t c = search rules
-
-tally-returns :
-    (t : ℕ) →
-    tally-lts.Need-returns
-    (statement_below t, statement'.Post)
-    (tally_at t)
-    tally.Post
-    tally_Inv-loop
-    tally_μ_loop
-tally-returns t c =
-    let inv = c.before.before.before.before.before.before.before.before.before.before.before.before.loop.invariant in
-    let h = c.before.before.before.before.before.before.before.before.before.statement.ensures in
-    let e = c.if1.true in
+pub tally-returns-then-x : goal.tally-returns-then-x
+tally-returns-then-x t c =
+    let inv = c.loop-known.invariant in
+    let h = c.statement-x.ensures in
+    let e = c.if-x.true in
     record {
       kept = kept_then inv.kept h.kept;
       gone = λ E b us st. (let o = inv.onward E b us st in all_gone o (h.steps E o.rest us o.standing) e);
     }
 
-tally-loop-less :
-    (t : ℕ) →
-    tally-lts.Need-loop-smaller
-    (statement_below t, statement'.Post)
-    (tally_at t)
-    tally.Post
-    tally_Inv-loop
-    tally_μ_loop
-tally-loop-less t c =
-    let s = c.before.before.before.before.before.before.before.before.before.before.before.before.before.before.before.before.before.before.before.before.before.before.requires.1.1 in
-    let o = c.before.before.before.before.before.before.before.before.before.before.before.before.loop.invariant.onward s.env s.body s.rest s.standing in
-    (c.before.before.before.before.before.before.before.before.before.statement.ensures.steps s.env o.rest s.rest o.standing).less c.if1.false
+pub tally-loop-known-smaller : goal.tally-loop-known-smaller
+tally-loop-known-smaller t c =
+    let s = c.requires.1 in
+    let o = c.loop-known.invariant.onward s.env s.body s.rest s.standing in
+    (c.statement-x.ensures.steps s.env o.rest s.rest o.standing).less c.if-x.false
 
-tally-loop-again :
-    (t : ℕ) →
-    tally-lts.Need-loop-preserved
-    (statement_below t, statement'.Post)
-    (tally_at t)
-    tally.Post
-    tally_Inv-loop
-    tally_μ_loop
-tally-loop-again t c =
-    let inv = c.before.before.before.before.before.before.before.before.before.before.before.before.loop.invariant in
-    let h = c.before.before.before.before.before.before.before.before.before.statement.ensures in
-    let e = c.if1.false in
+pub tally-loop-known-preserved : goal.tally-loop-known-preserved
+tally-loop-known-preserved t c =
+    let inv = c.loop-known.invariant in
+    let h = c.statement-x.ensures in
+    let e = c.if-x.false in
     record {
       kept = kept_then inv.kept h.kept;
       onward = λ E b us st. (let o = inv.onward E b us st in going_on o (h.steps E o.rest us o.standing) e);
     }
 
 pub used-overflow_sub-depth : goal.used-overflow_sub-depth
-used-overflow_sub-depth t c = omega (arith, c.requires.1.some_more)
+used-overflow_sub-depth t c = omega (arith, c.requires.some_more)
 
 pub used-body-requires : goal.used-body-requires
 used-body-requires t c =
-    let s = c.requires.1 in (
-      omega (arith, c.requires.0, s.some_more),
+    let s = c.requires in (
+      omega (arith, s.some_more),
       record {
         env = s.env;
         body = s.body;
@@ -454,14 +327,14 @@ used-body-requires t c =
     )
 
 pub used-bounds-marks-i : goal.used-bounds-marks-i
-used-bounds-marks-i t c = let s = c.requires.1 in omega (arith, s.use'.declared.number, s.sized.marks_long, (c.body.ensures.kept 0).marks_long)
+used-bounds-marks-i t c = let s = c.requires in omega (arith, s.use'.declared.number, s.sized.marks_long, (c.body.ensures.kept 0).marks_long)
 
 pub used-spoil-requires : goal.used-spoil-requires
-used-spoil-requires t c = let s = c.requires.1 in (omega (arith, room s.sized, (c.body.ensures.kept 0).sums_long))
+used-spoil-requires t c = let s = c.requires in (omega (arith, room s.sized, (c.body.ensures.kept 0).sums_long))
 
 pub used-returns-then-not-usable : goal.used-returns-then-not-usable
 used-returns-then-not-usable t c =
-    let s = c.requires.1 in
+    let s = c.requires in
     let d = c.body.ensures in
     let v = c.spoil.ensures in
     record {
@@ -471,7 +344,7 @@ used-returns-then-not-usable t c =
 
 pub used-in_place-requires : goal.used-in_place-requires
 used-in_place-requires t c =
-    let s = c.requires.1 in
+    let s = c.requires in
     let d = c.body.ensures in
     let l = (d.kept 0).sums_long in
     let n = s.use'.declared.number in (
@@ -486,7 +359,7 @@ used-in_place-requires t c =
 
 pub used-returns-then-i-lt-PROCEDURES : goal.used-returns-then-i-lt-PROCEDURES
 used-returns-then-i-lt-PROCEDURES t c =
-    let s = c.requires.1 in
+    let s = c.requires in
     let d = c.body.ensures in
     let v = c.in_place.ensures in
     let e = sym c.usable.ensures ∙ c.if-not-usable.false in
@@ -499,7 +372,7 @@ used-returns-then-i-lt-PROCEDURES t c =
 
 pub used-called-requires : goal.used-called-requires
 used-called-requires t c =
-    let s = c.requires.1 in
+    let s = c.requires in
     let d = c.body.ensures in
     let l = (d.kept 0).sums_long in
     let n = s.use'.declared.number in (
@@ -514,7 +387,7 @@ used-called-requires t c =
 
 pub used-returns : goal.used-returns
 used-returns t c =
-    let s = c.requires.1 in
+    let s = c.requires in
     let d = c.body.ensures in
     let v = c.called.ensures in
     let e = sym c.usable.ensures ∙ c.if-not-usable.false in

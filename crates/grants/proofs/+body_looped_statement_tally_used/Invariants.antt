@@ -1,13 +1,29 @@
+use Prim.Native.Nat.{◌+◌, ◌*◌}
 use Rattle.tokens.specs.Tokens.{left}
 use Rattle.words.specs.Cursor.{stream}
-use Rattle.plays.specs.Plays.{ground}
+use Rattle.plays.specs.Plays.{ground_of}
 use Rattle.grants.proofs.Going.{Going}
 use Rattle.grants.proofs.+body_looped_statement_tally_used.Given as goal
 
 abbrev pub invariant-tally-loop-known : goal.invariant-tally-loop-known
 invariant-tally-loop-known l =
-    Going (ground l.text l.places l.lists l.tplaces l.book l.rows l.waves l.known l.signals) l.depth l.r l.initial.cursor l.cursor l.initial.marks l.marks l.initial.sums l.sums l.shifts l.twice
+    Going (ground_of l.text l.places l.lists l.tplaces l.book l.rows l.waves l.known l.signals) l.depth l.r l.initial.cursor l.cursor l.initial.marks l.marks l.initial.sums l.sums l.shifts l.twice
 
 abbrev pub decreases-tally-loop-known : goal.decreases-tally-loop-known
 decreases-tally-loop-known l =
     left (stream l.text l.cursor)
+
+abbrev pub decreases-body : goal.decreases-body
+decreases-body l = 4 * l.depth + 3
+
+abbrev pub decreases-looped : goal.decreases-looped
+decreases-looped l = 4 * l.depth
+
+abbrev pub decreases-statement : goal.decreases-statement
+decreases-statement l = 4 * l.depth + 1
+
+abbrev pub decreases-tally : goal.decreases-tally
+decreases-tally l = 4 * l.depth + 2
+
+abbrev pub decreases-used : goal.decreases-used
+decreases-used l = 4 * l.depth

@@ -4,22 +4,18 @@ use Rattle.heads.proofs.ByNumber.{of_part}
 use Rattle.heads.proofs.Heads.{body_read, no_body_read, named_read, unnamed_read}
 use Rattle.heads.proofs.further.Goals as goal
 
--- the start, from where the word's kind was told
-abbrev start : tie.After-part-of → tie.Start
-start k = k.before.before.before.before.before.before.before.before.before.before.before.before.before.before
-
 pub used-requires : goal.used-requires
 used-requires c =
-    let known = (start c.before.before).requires.0.1.describes in
+    let known = c.requires.0.1.describes in
     let these = of_part known c.equal-macros.result c.part_of-part.ensures in
-    (known.ready, record { kind = _; decls = _; of_kind = these }, known.book_long, known.rows_long, (start c.before.before).requires.1, (start c.before.before).requires.2, (start c.before.before).requires.3)
+    (known.ready, record { kind = _; decls = _; of_kind = these }, known.book_long, known.rows_long, c.requires.1, c.requires.2, c.requires.3)
 
 pub returns-then-macros-equal : goal.returns-then-macros-equal
 unfolding bytes
 returns-then-macros-equal c =
     λ tplaces e h.
-    body_read h (start c.before.before.before.before.before.before.before).args.d (start c.before.before.before.before.before.before.before).args.may _ c.equal-macros.ensures c.equal.ensures c.if-macros-equal.true c.part_of-part.ensures
-    (λ kind ds o. c.used.ensures kind ds (start c.before.before.before.before.before.before.before).args.known.tables o)
+    body_read h c.args.d c.args.may _ c.equal-macros.ensures c.equal.ensures c.if-macros-equal.true c.part_of-part.ensures
+    (λ kind ds o. c.used.ensures kind ds c.args.known.tables o)
 
 pub returns-then-equal : goal.returns-then-equal
 unfolding bytes

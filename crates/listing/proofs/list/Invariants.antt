@@ -3,7 +3,7 @@ use Prim.Native.Nat.{◌≤◌}
 use Rattle.listing.proofs.list.Given as goal
 
 abbrev pub invariant-loop-going : goal.invariant-loop-going
-invariant-loop-going l = l.p.left ≤ l.all
+invariant-loop-going g l = l.p.left ≤ l.all
 
 abbrev pub decreases-loop-going : goal.decreases-loop-going
-decreases-loop-going l = l.p.left
+decreases-loop-going g l = l.p.left

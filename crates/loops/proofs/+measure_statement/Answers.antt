@@ -1,6 +1,5 @@
 -- Statements and one statement, one proof for both: a Loop's body may stand one level less deep, so that twice the levels fall. What is kept at each
 -- statement: the body is those measured so far, and a rest that is held from the cursor on.
-use Prim.Native.Nat.{ℕ, ◌+◌, ◌*◌, ◌<◌}
 use native.Mathlib.Omega.{arith}
 use mathlib.Core.Path.{sym, ◌∙◌}
 use Rattle.assigns.proofs.Table.{gave_zeros}
@@ -8,49 +7,24 @@ use Rattle.loops.proofs.Stepping.{ends_step, vector_step, assigns_step, chooses_
 use Rattle.loops.proofs.Going.{going, going_on, fewer, gone}
 use Rattle.loops.proofs.+measure_statement.Goals as goal
 
-abbrev μ-measure : Measures 2 measure-kinds.ps ℕ
-μ-measure κs a = 2 * a.1.1.1.1.1.1.1.1.1.0 + 1
-
-abbrev μ-statement : Measures 2 statement-kinds.ps ℕ
-μ-statement κs a = 2 * a.1.1.1.1.1.1.1.1.1.0
-
-abbrev measure_at_lem : ℕ → In 2 measure-kinds.ps
-measure_at_lem t = and 2 measure-kinds.ps (is 2 measure-kinds.ps μ-measure t) measure.Pre
-
-abbrev measure_below : ℕ → In 2 measure-kinds.ps
-measure_below t = and 2 measure-kinds.ps (falls 2 measure-kinds.ps ◌<◌ μ-measure t) measure.Pre
-
-abbrev statement_at : ℕ → In 2 statement-kinds.ps
-statement_at t = and 2 statement-kinds.ps (is 2 statement-kinds.ps μ-statement t) statement'.Pre
-
-abbrev statement_below : ℕ → In 2 statement-kinds.ps
-statement_below t =
-    and 2 statement-kinds.ps (falls 2 statement-kinds.ps ◌<◌ μ-statement t) statement'.Pre
-
-abbrev measure_calls : ℕ → measure-lts.Claims
-measure_calls t = (nothing-reads.Asked, nothing-reads.Learnt, statement_below t, statement'.Post, plus-reads.Asked, plus-reads.Learnt)
-
-abbrev statement_calls : ℕ → statement-lts.Claims
-statement_calls t = (head-reads.Asked, head-reads.Learnt, nothing-reads.Asked, nothing-reads.Learnt, vector-reads.Asked, vector-reads.Learnt, counted-reads.Asked, counted-reads.Learnt, setting-reads.Asked, setting-reads.Learnt, measure_below t, measure.Post, looped-reads.Asked, looped-reads.Learnt, shift-reads.Asked, shift-reads.Learnt, measure-at-reads.Asked, measure-at-reads.Learnt, used-reads.Asked, used-reads.Learnt)
-
 pub measure-loop-known-init : goal.measure-loop-known-init
 measure-loop-known-init t c =
     let pre' = c.requires in
-    record { args_long = pre'.1.1; onward = λ E b us st. going pre'.1.0 c.nothing-sum.ensures st }
+    record { args_long = pre'.1; onward = λ E b us st. going pre'.0 c.nothing-sum.ensures st }
 
 pub measure-statement-r-requires : goal.measure-statement-r-requires
 measure-statement-r-requires t c =
     let pre' = c.requires in
     let loop' = c.loop-known in
-    let stood = pre'.1.2 in
+    let stood = pre'.2 in
     let o = loop'.invariant.onward stood.env stood.body stood.rest stood.standing in
-    (omega (arith, pre'.0), (o.on, loop'.invariant.args_long, record { env = stood.env; body = o.rest; rest = stood.rest; standing = o.standing }))
+    (omega (arith, c.decreases), (o.on, loop'.invariant.args_long, record { env = stood.env; body = o.rest; rest = stood.rest; standing = o.standing }))
 
 pub measure-shape_of-args-then-r : goal.measure-shape_of-args-then-r
 measure-shape_of-args-then-r t c =
     let pre' = c.requires in
     let statement' = c.statement-r in
-    statement'.ensures.0 ∙ sym pre'.1.1
+    statement'.ensures.0 ∙ sym pre'.1
 
 pub measure-returns-then-r : goal.measure-returns-then-r
 measure-returns-then-r t c =
@@ -69,7 +43,7 @@ measure-loop-known-smaller t c =
     let loop' = c.loop-known in
     let statement' = c.statement-r in
     let if1' = c.if-r in
-    let stood = pre'.1.2 in
+    let stood = pre'.2 in
     let o = loop'.invariant.onward stood.env stood.body stood.rest stood.standing in
     fewer o (statement'.ensures.1.steps stood.env o.rest stood.rest o.standing) if1'.false
 
@@ -88,100 +62,71 @@ measure-loop-known-preserved t c =
 pub statement-head-h-requires : goal.statement-head-h-requires
 statement-head-h-requires t c =
     let pre' = c.requires in
-    let stood = pre'.1.2 in
-    (record { env = stood.env; describes = stood.standing.describes }, (omega arith), gave_zeros, pre'.1.1)
-
-pub statement-enum_told-1 : goal.statement-enum_told-1
-statement-enum_told-1 t c = c.in-Ends.keys1
-
-pub statement-enum_known-what : goal.statement-enum_known-what
-statement-enum_known-what t c = c.in-Vector.keys2
-
-pub statement-enum_told-in-Assigns : goal.statement-enum_told-in-Assigns
-statement-enum_told-in-Assigns t c = c.in-Assigns.keys3
-
-pub statement-enum_known-what-in-Chooses-1 : goal.statement-enum_known-what-in-Chooses-1
-statement-enum_known-what-in-Chooses-1 t c = c.in-Chooses.keys4
-
-pub statement-enum_known-what-in-Loops-1 : goal.statement-enum_known-what-in-Loops-1
-statement-enum_known-what-in-Loops-1 t c = c.in-Loops.keys5
+    let stood = pre'.2 in
+    (record { env = stood.env; describes = stood.standing.describes }, (omega arith), gave_zeros, pre'.1)
 
 pub statement-overflow_sub-depth : goal.statement-overflow_sub-depth
 statement-overflow_sub-depth t c =
     let pre' = c.requires in
     let head' = c.head-h in
-    let what3' = c.what-in-Loops-1 in
-    let stood = pre'.1.2 in
+    let stood = pre'.2 in
     let st = stood.standing in
-    omega (arith, (in_loop st pre'.1.0 _ _ _ (head'.ensures.2 stood.env st.describes) _ what3'.given.1).deeper)
+    omega (arith, (in_loop st pre'.0 _ _ _ (head'.ensures.2 stood.env st.describes) _ c.in-Loops.is).deeper)
 
 pub statement-measure-r-requires : goal.statement-measure-r-requires
 statement-measure-r-requires t c =
     let pre' = c.requires in
     let head' = c.head-h in
-    let what3' = c.what-in-Loops-1 in
-    let stood = pre'.1.2 in
+    let stood = pre'.2 in
     let st = stood.standing in
-    let i = in_loop st pre'.1.0 _ _ _ (head'.ensures.2 stood.env st.describes) _ what3'.given.1 in (
-      omega (arith, pre'.0, i.deeper),
+    let i = in_loop st pre'.0 _ _ _ (head'.ensures.2 stood.env st.describes) _ c.in-Loops.is in (
+      omega (arith, c.decreases, i.deeper),
       (i.on, head'.ensures.1, record { env = stood.env; body = i.body; rest = i.between; standing = i.standing }),
     )
-
-pub statement-enum_told-in-Shifts : goal.statement-enum_told-in-Shifts
-statement-enum_told-in-Shifts t c = c.in-Shifts.keys6
-
-pub statement-enum_known-what-in-Uses-1 : goal.statement-enum_known-what-in-Uses-1
-statement-enum_known-what-in-Uses-1 t c = c.in-Uses.keys7
 
 pub statement-measure_at-requires : goal.statement-measure_at-requires
 statement-measure_at-requires t c =
     let pre' = c.requires in
     let head' = c.head-h in
-    let what4' = c.what-in-Uses-1 in
-    let stood = pre'.1.2 in
+    let stood = pre'.2 in
     let st = stood.standing in
-    (st.describes.book_long, omega (arith, declared st pre'.1.0 _ _ _ (head'.ensures.2 stood.env st.describes) _ _ what4'.given.1))
+    (st.describes.book_long, omega (arith, declared st pre'.0 _ _ _ (head'.ensures.2 stood.env st.describes) _ _ c.in-Uses.is))
 
 pub statement-returns-in-Ends : goal.statement-returns-in-Ends
 statement-returns-in-Ends t c =
     let pre' = c.requires in
     let h = c.head-h.ensures in
-    let enum-told' = c.enum_told-1 in
-    (h.1, record { steps = λ E b us st. ends_step st pre'.1.0 _ _ _ (h.2 E st.describes) _ enum-told'.given.1 })
+    (h.1, record { steps = λ E b us st. ends_step st pre'.0 _ _ _ (h.2 E st.describes) _ c.in-Ends.is })
 
 pub statement-returns-in-Vector : goal.statement-returns-in-Vector
 statement-returns-in-Vector t c =
     let pre' = c.requires in
     let h = c.head-h.ensures in
-    let what' = c.what-1 in
-    rw c.counted.ensures (h.1, record { steps = λ E b us st. vector_step st pre'.1.0 _ _ _ (h.2 E st.describes) _ what'.given.1 c.vector.ensures })
+    rw c.counted.ensures (h.1, record { steps = λ E b us st. vector_step st pre'.0 _ _ _ (h.2 E st.describes) _ c.in-Vector.is c.vector.ensures })
 
 pub statement-returns-in-Assigns : goal.statement-returns-in-Assigns
 statement-returns-in-Assigns t c =
     let pre' = c.requires in
     let h = c.head-h.ensures in
-    let enum-told2' = c.enum_told-in-Assigns-1 in
-    rw c.counted-in-Assigns.ensures (h.1, record { steps = λ E b us st. assigns_step st pre'.1.0 _ _ _ (h.2 E st.describes) c.setting.ensures enum-told2'.given.1 })
+    rw c.counted-in-Assigns.ensures (h.1, record { steps = λ E b us st. assigns_step st pre'.0 _ _ _ (h.2 E st.describes) c.setting.ensures c.in-Assigns.is })
 
 pub statement-returns-in-Chooses : goal.statement-returns-in-Chooses
 statement-returns-in-Chooses t c =
     let pre' = c.requires in
     let h = c.head-h.ensures in
-    let what2' = c.what-in-Chooses-1 in
-    rw c.counted-in-Chooses.ensures (h.1, record { steps = λ E b us st. chooses_step st pre'.1.0 _ _ _ (h.2 E st.describes) c.setting-in-Chooses.ensures _ what2'.given.1 })
+    rw c.counted-in-Chooses.ensures (h.1, record { steps = λ E b us st. chooses_step st pre'.0 _ _ _ (h.2 E st.describes) c.setting-in-Chooses.ensures _ c.in-Chooses.is })
 
 pub statement-returns-in-Loops : goal.statement-returns-in-Loops
 statement-returns-in-Loops t c =
     let pre' = c.requires in
     let h = c.head-h.ensures in
-    let what3' = c.what-in-Loops-1 in
     let measure' = c.measure-r in (
       measure'.ensures.0,
       record {
         steps = λ E b us st. (
-            let i = in_loop st pre'.1.0 _ _ _ (h.2 E st.describes) _ what3'.given.1 in
+            let i = in_loop st pre'.0 _ _ _ (h.2 E st.describes) _ c.in-Loops.is in
             let s = measure'.ensures.1.sums E i.body i.between i.standing in
-            loop_step st i (c.looped.ensures i.body s.decreases) s.on s.behind);
+            loop_step st i (c.looped.ensures i.body s.measured) s.on s.behind);
       },
     )
 
@@ -189,19 +134,17 @@ pub statement-returns-in-Shifts : goal.statement-returns-in-Shifts
 statement-returns-in-Shifts t c =
     let pre' = c.requires in
     let h = c.head-h.ensures in
-    let enum-told3' = c.enum_told-in-Shifts-1 in
-    rw c.counted-in-Shifts.ensures (h.1, record { steps = λ E b us st. absurd (no_shift st pre'.1.0 _ _ _ (h.2 E st.describes) enum-told3'.given.1) })
+    rw c.counted-in-Shifts.ensures (h.1, record { steps = λ E b us st. absurd (no_shift st pre'.0 _ _ _ (h.2 E st.describes) c.in-Shifts.is) })
 
 pub statement-returns-in-Uses : goal.statement-returns-in-Uses
 statement-returns-in-Uses t c =
     let pre' = c.requires in
     let h = c.head-h.ensures in
-    let what4' = c.what-in-Uses-1 in
     let measure-at' = c.measure_at in
     rw c.counted-in-Uses.ensures (
       h.1,
       record {
         steps = λ E b us st.
-            used_step st pre'.1.0 _ _ _ (h.2 E st.describes) _ _ what4'.given.1 (rw measure-at'.ensures at c.used.ensures);
+            used_step st pre'.0 _ _ _ (h.2 E st.describes) _ _ c.in-Uses.is (rw measure-at'.ensures at c.used.ensures);
       },
     )

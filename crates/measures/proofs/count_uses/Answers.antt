@@ -2,7 +2,6 @@
 use Prim.Native.Nat.{◌-◌, ◌<◌}
 use native.Mathlib.Omega.{arith}
 use mathlib.Core.Path.{refl}
-use mathlib.Core.Logic.{⊎_elim}
 use lib.ListN.{length, get_or}
 use borrow.Author.Tests.{eq-eqb, ne_eqb, lt-ltb, le-ltb}
 use Rattle.meaning.specs.Bounds.{signals_most}
@@ -10,6 +9,7 @@ use Rattle.measures.specs.Uses.{uses_cap}
 use Rattle.measures.proofs.Changed.{changed_none, changed_next, changed_same, changed_rest}
 use Rattle.measures.proofs.Counted.{counted_none, uses_counted}
 use Rattle.measures.proofs.count_uses.Goals as goal
+use Rattle.measures.proofs.count_uses.Goals.{then-given-s-eq-MARK+then-row-s-lt-USES_CAP, then-given-s-eq-MARK+else-row-s-lt-USES_CAP, else-given-s-eq-MARK}
 
 pub loop-s-init : goal.loop-s-init
 loop-s-init c = (omega arith, changed_none)
@@ -21,12 +21,13 @@ loop-s-preserved c =
     let n = get_or loop.row loop.s 0 in
     let inside : loop.s < length loop.row = omega (arith, x.long, c.zeros_from-n.ensures.within, c.requires.0, c.requires.1) in (
       omega arith,
-      ⊎_elim
-          (λ w. rw w.4 (changed_next x loop.s (omega arith) _ inside (rw (eq-eqb _ _ w.0.taken, lt-ltb n uses_cap (omega (arith, w.2.taken))))))
-          (⊎_elim
-          (λ w. rw w.3 (changed_same x loop.s (omega arith) inside (rw (eq-eqb _ _ w.0.taken, le-ltb n uses_cap (omega (arith, w.2.left))))))
-          (λ w. rw w.1 (changed_same x loop.s (omega arith) inside (rw (ne_eqb _ _ w.0.left)))))
-          c.if-given-s-eq-MARK.branch,
+      elim c.if-given-s-eq-MARK.branch [
+        | then-given-s-eq-MARK+then-row-s-lt-USES_CAP w ↦
+            rw w.row-is (changed_next x loop.s (omega arith) _ inside (rw (eq-eqb _ _ w.if-given-s-eq-MARK.true, lt-ltb n uses_cap w.if-row-s-lt-USES_CAP.true)))
+        | then-given-s-eq-MARK+else-row-s-lt-USES_CAP w ↦
+            rw w.row-is (changed_same x loop.s (omega arith) inside (rw (eq-eqb _ _ w.if-given-s-eq-MARK.true, le-ltb n uses_cap w.if-row-s-lt-USES_CAP.false)))
+        | else-given-s-eq-MARK w ↦ rw w.row-is (changed_same x loop.s (omega arith) inside (rw (ne_eqb _ _ w.if-given-s-eq-MARK.false)))
+      ],
     )
 
 pub shape_of-row : goal.shape_of-row

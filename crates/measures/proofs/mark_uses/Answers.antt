@@ -2,13 +2,13 @@
 use Prim.Native.Nat.{◌+◌, ◌-◌, ◌<◌}
 use native.Mathlib.Omega.{arith}
 use mathlib.Core.Path.{refl}
-use mathlib.Core.Logic.{⊎_elim}
 use lib.ListN.{length}
 use borrow.Author.Tests.{eq-eqb, ne_eqb}
 use Rattle.meaning.specs.Bounds.{signals_most}
 use Rattle.measures.proofs.Changed.{changed_none, changed_next, changed_same, changed_rest}
 use Rattle.measures.proofs.Counted.{shown_none, uses_shown}
 use Rattle.measures.proofs.mark_uses.Goals as goal
+use Rattle.measures.proofs.mark_uses.Goals.{then-given-s-eq-MARK, else-given-s-eq-MARK}
 
 pub loop-s-init : goal.loop-s-init
 loop-s-init c = (omega arith, changed_none)
@@ -19,10 +19,10 @@ loop-s-preserved c =
     let x = loop.invariant.1 in
     let inside : signals_most + loop.s < length loop.row = omega (arith, x.long, c.zeros_from-n.ensures.within, c.requires.0, c.requires.1) in (
       omega arith,
-      ⊎_elim
-          (λ w. rw w.1 (changed_next x _ (omega arith) _ (omega arith) (rw (eq-eqb _ _ w.0.taken))))
-          (λ w. rw w.1 (changed_same x (signals_most + loop.s) refl inside (rw (ne_eqb _ _ w.0.left))))
-          c.if-given-s-eq-MARK.branch,
+      elim c.if-given-s-eq-MARK.branch [
+        | then-given-s-eq-MARK w ↦ rw w.row-is (changed_next x _ (omega arith) _ (omega arith) (rw (eq-eqb _ _ w.if-given-s-eq-MARK.true)))
+        | else-given-s-eq-MARK w ↦ rw w.row-is (changed_same x (signals_most + loop.s) refl inside (rw (ne_eqb _ _ w.if-given-s-eq-MARK.false)))
+      ],
     )
 
 pub shape_of-row : goal.shape_of-row

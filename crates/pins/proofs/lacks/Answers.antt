@@ -9,7 +9,7 @@ use Rattle.meaning.specs.Bounds.{signals_most}
 use Rattle.pins.proofs.lacks.Goals as goal
 
 pub overflow_cast-b : goal.overflow_cast-b
-overflow_cast-b c = omega (arith, c.type_inv.values.given c.args.s)
+overflow_cast-b c = omega (arith, c.type_inv.values c.args.s)
 
 pub returns-then-b-eq0 : goal.returns-then-b-eq0
 returns-then-b-eq0 c = λ text tplaces tables tabs h. rw (eq-eqb _ _ c.if-b-eq0.true)

@@ -1,11 +1,11 @@
 -- Each turn takes the next signal, or passes eight that are given nothing.
 use Prim.Native.Nat.{◌-◌, ◌<◌}
 use native.Mathlib.Omega.{arith}
-use mathlib.Core.Logic.{⊎_elim}
 use lib.ListN.{length}
 use Rattle.meaning.specs.Bounds.{signals_most}
 use Rattle.pins.proofs.Putting.{put_none, put_idle, put_fed, put_given, put_kept, put_others, put_shows}
 use Rattle.pins.proofs.put.Goals as goal
+use Rattle.pins.proofs.put.Goals.{then-b-eq-MARK, else-b-eq-MARK+then-b-ne0, else-b-eq-MARK+else-b-ne0}
 
 pub loop-s-init : goal.loop-s-init
 loop-s-init c = (omega arith, put_none)
@@ -14,11 +14,10 @@ pub loop-s-smaller-then-idle : goal.loop-s-smaller-then-idle
 loop-s-smaller-then-idle c = omega (arith, c.least-s.ensures)
 
 pub loop-s-preserved-then-idle : goal.loop-s-preserved-then-idle
-loop-s-preserved-then-idle c =
-    (
-      omega (arith, c.least-s.ensures),
-      put_idle c.loop-s.invariant.1 (c.idle.ensures c.if-idle.true) (omega arith) (omega arith) c.least-s.ensures,
-    )
+loop-s-preserved-then-idle c = (
+  omega (arith, c.least-s.ensures),
+  put_idle c.loop-s.invariant.1 (c.idle.ensures c.if-idle.true) (omega arith) (omega arith) c.least-s.ensures,
+)
 
 pub feed_at-requires : goal.feed_at-requires
 feed_at-requires c = omega (arith, c.loop-s.invariant.1.leaves.long)
@@ -38,9 +37,14 @@ loop-s-preserved c =
     let below : c.loop-s.s < signals_most = omega arith in
     let inside : c.loop-s.s < length c.loop-s.values = omega (arith, x.shows.long) in (
       omega arith,
-      ⊎_elim (λ w. rw (w.8, w.9) (put_fed x below inside w.0.taken w.2.ensures w.3.ensures w.5.ensures))
-          (⊎_elim (λ w. rw (w.2, w.3) (put_given x below inside w.0.left w.1.taken)) (λ w. rw (w.2, w.3) (put_kept x below w.0.left w.1.left)))
-          c.if-b-eq-MARK.branch,
+      elim c.if-b-eq-MARK.branch [
+        | then-b-eq-MARK w ↦
+            rw (w.values-is, w.feeds-is) (put_fed x below inside w.if-b-eq-MARK.true w.feed_at.ensures w.next-x.ensures w.put_feed.ensures)
+        | else-b-eq-MARK+then-b-ne0 w ↦
+            rw (w.values-is, w.feeds-is) (put_given x below inside w.if-b-eq-MARK.false w.if-b-ne0.true)
+        | else-b-eq-MARK+else-b-ne0 w ↦
+            rw (w.values-is, w.feeds-is) (put_kept x below w.if-b-eq-MARK.false w.if-b-ne0.false)
+      ],
     )
 
 pub shape_of-values : goal.shape_of-values

@@ -1,9 +1,9 @@
 -- Each turn takes the next signal.
 use Prim.Native.Nat.{◌-◌}
 use native.Mathlib.Omega.{arith}
-use mathlib.Core.Logic.{⊎_elim}
 use Rattle.pins.proofs.Skipping.{skipped_none, skipped_mark, skipped_other, skipped_others, skipped_shows}
 use Rattle.pins.proofs.skip.Goals as goal
+use Rattle.pins.proofs.skip.Goals.{then-given-s-eq-MARK, else-given-s-eq-MARK}
 
 pub loop-s-init : goal.loop-s-init
 loop-s-init c = (omega arith, skipped_none)
@@ -18,10 +18,11 @@ pub loop-s-preserved : goal.loop-s-preserved
 loop-s-preserved c =
     let x = c.loop-s.invariant.1 in (
       omega arith,
-      ⊎_elim
-          (λ w. rw w.8 (skipped_mark x (omega arith) w.0.taken w.2.ensures w.3.ensures w.5.ensures))
-          (λ w. rw w.1 (skipped_other x (omega arith) w.0.left))
-          c.if-given-s-eq-MARK.branch,
+      elim c.if-given-s-eq-MARK.branch [
+        | then-given-s-eq-MARK w ↦
+            rw w.feeds-is (skipped_mark x (omega arith) w.if-given-s-eq-MARK.true w.feed_at.ensures w.skip-f.ensures w.put_feed.ensures)
+        | else-given-s-eq-MARK w ↦ rw w.feeds-is (skipped_other x (omega arith) w.if-given-s-eq-MARK.false)
+      ],
     )
 
 pub shape_of-feeds : goal.shape_of-feeds

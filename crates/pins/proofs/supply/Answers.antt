@@ -1,10 +1,10 @@
 -- Each turn takes the next signal, and writes the feed of its argument where it has one.
 use Prim.Native.Nat.{◌-◌}
 use native.Mathlib.Omega.{arith}
-use mathlib.Core.Logic.{⊎_elim}
 use Rattle.pins.proofs.Turns.{refilled_none, refilled_next, refilled_same, refilled_rest}
 use Rattle.pins.proofs.Supplying.{begun_all_lem}
 use Rattle.pins.proofs.supply.Goals as goal
+use Rattle.pins.proofs.supply.Goals.{then-given-s-ne0, else-given-s-ne0}
 
 pub loop-s-init : goal.loop-s-init
 loop-s-init c = (omega arith, refilled_none)
@@ -18,10 +18,10 @@ loop-s-preserved c =
     let x = c.loop-s.invariant.1 in
     let below = c.zeros_from-n.ensures.within in (
       omega arith,
-      ⊎_elim
-          (λ w. rw w.7 (refilled_next x (omega (arith, below)) w.4.ensures (λ z. w.3.ensures)))
-          (λ w. rw w.1 (refilled_same x (omega (arith, below)) (λ z. absurd (z w.0.left))))
-          c.if-given-s-ne0.branch,
+      elim c.if-given-s-ne0.branch [
+        | then-given-s-ne0 w ↦ rw w.feeds-is (refilled_next x (omega (arith, below)) w.put_feed.ensures (λ z. w.start.ensures))
+        | else-given-s-ne0 w ↦ rw w.feeds-is (refilled_same x (omega (arith, below)) (λ z. absurd (z w.if-given-s-ne0.false)))
+      ],
     )
 
 pub shape_of-feeds : goal.shape_of-feeds

@@ -28,119 +28,16 @@ use Rattle.plays.proofs.Entering.{kind_macro, kind_procedure, kept_below, kept_r
 use Prim.Native.Nat.{ℕ, ◌<◌}
 use Rattle.plays.proofs.+body_of_looped_needed_turns_play_body_statement_statements_used_uses.Goals as goal
 
-abbrev μ-body-of : Measures 5 body-of-kinds.ps ℕ
-μ-body-of κs a = 8 * a.1.1.1.1.1.1.1.1.1.1.1.1.0.depth + 6
-
-abbrev μ-looped : Measures 5 looped-kinds.ps ℕ
-μ-looped κs a = 8 * a.1.1.1.1.1.1.1.1.1.1.1.1.1.0.depth + 3
-
-abbrev μ-needed-turns : Measures 5 needed-turns-kinds.ps ℕ
-μ-needed-turns κs a = 8 * a.1.1.1.1.1.1.1.1.1.1.1.1.0.depth + 2
-
-abbrev μ-play-body : Measures 5 play-body-kinds.ps ℕ
-μ-play-body κs a = 8 * a.1.1.1.1.1.1.1.1.1.1.1.0.depth + 1
-
-abbrev μ-statement : Measures 5 statement-kinds.ps ℕ
-μ-statement κs a = 8 * a.1.1.1.1.1.1.1.1.1.1.1.1.0.depth + 4
-
-abbrev μ-statements : Measures 5 statements-kinds.ps ℕ
-μ-statements κs a = 8 * a.1.1.1.1.1.1.1.1.1.1.1.1.0.depth + 5
-
-abbrev μ-used : Measures 5 used-kinds.ps ℕ
-μ-used κs a = 8 * a.1.1.1.1.1.1.1.1.1.1.1.1.1.0.depth + 2
-
-abbrev μ-uses : Measures 5 uses-kinds.ps ℕ
-μ-uses κs a = 8 * a.1.1.1.1.1.1.1.1.1.1.1.1.1.0.depth + 3
-
-abbrev body_of_at : ℕ → In 5 body-of-kinds.ps
-body_of_at t = and 5 body-of-kinds.ps (is 5 body-of-kinds.ps μ-body-of t) body_of.Pre
-
-abbrev body_of_below : ℕ → In 5 body-of-kinds.ps
-body_of_below t = and 5 body-of-kinds.ps (falls 5 body-of-kinds.ps ◌<◌ μ-body-of t) body_of.Pre
-
-abbrev looped_at : ℕ → In 5 looped-kinds.ps
-looped_at t = and 5 looped-kinds.ps (is 5 looped-kinds.ps μ-looped t) looped.Pre
-
-abbrev looped_below : ℕ → In 5 looped-kinds.ps
-looped_below t = and 5 looped-kinds.ps (falls 5 looped-kinds.ps ◌<◌ μ-looped t) looped.Pre
-
-abbrev needed_turns_at : ℕ → In 5 needed-turns-kinds.ps
-needed_turns_at t =
-    and 5 needed-turns-kinds.ps (is 5 needed-turns-kinds.ps μ-needed-turns t) needed-turns.Pre
-
-abbrev needed_turns_below : ℕ → In 5 needed-turns-kinds.ps
-needed_turns_below t =
-    and
-    5
-    needed-turns-kinds.ps
-    (falls 5 needed-turns-kinds.ps ◌<◌ μ-needed-turns t)
-    needed-turns.Pre
-
-abbrev play_body_at : ℕ → In 5 play-body-kinds.ps
-play_body_at t = and 5 play-body-kinds.ps (is 5 play-body-kinds.ps μ-play-body t) play-body.Pre
-
-abbrev play_body_below : ℕ → In 5 play-body-kinds.ps
-play_body_below t =
-    and 5 play-body-kinds.ps (falls 5 play-body-kinds.ps ◌<◌ μ-play-body t) play-body.Pre
-
-abbrev statement_at : ℕ → In 5 statement-kinds.ps
-statement_at t = and 5 statement-kinds.ps (is 5 statement-kinds.ps μ-statement t) statement'.Pre
-
-abbrev statement_below : ℕ → In 5 statement-kinds.ps
-statement_below t =
-    and 5 statement-kinds.ps (falls 5 statement-kinds.ps ◌<◌ μ-statement t) statement'.Pre
-
-abbrev statements_at : ℕ → In 5 statements-kinds.ps
-statements_at t =
-    and 5 statements-kinds.ps (is 5 statements-kinds.ps μ-statements t) statements.Pre
-
-abbrev statements_below : ℕ → In 5 statements-kinds.ps
-statements_below t =
-    and 5 statements-kinds.ps (falls 5 statements-kinds.ps ◌<◌ μ-statements t) statements.Pre
-
-abbrev used_at_lem : ℕ → In 5 used-kinds.ps
-used_at_lem t = and 5 used-kinds.ps (is 5 used-kinds.ps μ-used t) used.Pre
-
-abbrev used_below : ℕ → In 5 used-kinds.ps
-used_below t = and 5 used-kinds.ps (falls 5 used-kinds.ps ◌<◌ μ-used t) used.Pre
-
-abbrev uses_at : ℕ → In 5 uses-kinds.ps
-uses_at t = and 5 uses-kinds.ps (is 5 uses-kinds.ps μ-uses t) uses.Pre
-
-abbrev uses_below : ℕ → In 5 uses-kinds.ps
-uses_below t = and 5 uses-kinds.ps (falls 5 uses-kinds.ps ◌<◌ μ-uses t) uses.Pre
-
-abbrev body_of_calls : ℕ → body-of-lts.Claims
-body_of_calls t = (cursor-at-reads.Asked, cursor-at-reads.Learnt, statements_below t, statements.Post)
-
-abbrev looped_calls : ℕ → looped-lts.Claims
-looped_calls t = (fresh-reads.Asked, fresh-reads.Learnt, needed_turns_below t, needed-turns.Post, use-at-reads.Asked, use-at-reads.Learnt, remember-reads.Asked, remember-reads.Learnt, rise-reads.Asked, rise-reads.Learnt, goes-on-reads.Asked, goes-on-reads.Learnt)
-
-abbrev needed_turns_calls : ℕ → needed-turns-lts.Claims
-needed_turns_calls t = (statements_below t, statements.Post, begins-again-reads.Asked, begins-again-reads.Learnt)
-
-abbrev play_body_calls : ℕ → play-body-lts.Claims
-play_body_calls t = (start-at-reads.Asked, start-at-reads.Learnt, body_of_below t, body_of.Post, leave-reads.Asked, leave-reads.Learnt, come-back-reads.Asked, come-back-reads.Learnt, fresh-reads.Asked, fresh-reads.Learnt)
-
-abbrev statement_calls : ℕ → statement-lts.Claims
-statement_calls t = (use-at-reads.Asked, use-at-reads.Learnt, recall-reads.Asked, recall-reads.Learnt, repeated-reads.Asked, repeated-reads.Learnt, head-reads.Asked, head-reads.Learnt, mark-reads.Asked, mark-reads.Learnt, vectors-reads.Asked, vectors-reads.Learnt, put_reads.Asked, put_reads.Learnt, goes-on-reads.Asked, goes-on-reads.Learnt, looped_below t, looped.Post, shift-on-reads.Asked, shift-on-reads.Learnt, uses_below t, uses.Post)
-
-abbrev used_calls : ℕ → used-lts.Claims
-used_calls t = (fresh-reads.Asked, fresh-reads.Learnt, supply-reads.Asked, supply-reads.Learnt, play_body_below t, play-body.Post, use-at-reads.Asked, use-at-reads.Learnt, remember-reads.Asked, remember-reads.Learnt, rise-reads.Asked, rise-reads.Learnt)
-
-abbrev uses_calls : ℕ → uses-lts.Claims
-uses_calls t = (pass-reads.Asked, pass-reads.Learnt, mark-passed-reads.Asked, mark-passed-reads.Learnt, goes-on-reads.Asked, goes-on-reads.Learnt, used_below t, used.Post)
-
 pub body_of-overflow_sub-text : goal.body_of-overflow_sub-text
 body_of-overflow_sub-text t c =
     let pre' = c.requires in
-    omega (arith, pre'.1.0)
+    omega (arith, pre'.0)
 
 pub body_of-statements-requires : goal.body_of-statements-requires
 body_of-statements-requires t c =
     let pre' = c.requires in
     let cursor-at' = c.cursor_at-c in
-    (omega (arith, pre'.0), rw cursor-at'.ensures.there (eq-eqb _ 0 cursor-at'.ensures.on, pre'.1.1, pre'.1.2))
+    (omega arith, rw cursor-at'.ensures.there (eq-eqb _ 0 cursor-at'.ensures.on, pre'.1, pre'.2))
 
 pub body_of-returns : goal.body_of-returns
 body_of-returns t c =
@@ -149,23 +46,23 @@ body_of-returns t c =
     rw cursor-at'.ensures.there at statements'.ensures
 
 pub looped-overflow_sub-inside : goal.looped-overflow_sub-inside
-looped-overflow_sub-inside t c = omega (arith, c.requires.1.2)
+looped-overflow_sub-inside t c = omega (arith, c.requires.2)
 
 pub looped-overflow_sub-inside-2 : goal.looped-overflow_sub-inside-2
-looped-overflow_sub-inside-2 t c = omega (arith, c.requires.1.3)
+looped-overflow_sub-inside-2 t c = omega (arith, c.requires.3)
 
 pub looped-fresh-requires : goal.looped-fresh-requires
-looped-fresh-requires t c = (nest_fits _, c.requires.1.4.sized.roomy.few)
+looped-fresh-requires t c = (nest_fits _, c.requires.4.sized.roomy.few)
 
 pub looped-needed_turns-turned-requires : goal.looped-needed_turns-turned-requires
 looped-needed_turns-turned-requires t c =
     let start = c.requires in
-    let p = start.1 in
-    (omega (arith, start.0), (p.0, p.1, p.2, p.4, heads_tracked (nest_of (c.args.frame.depth - 1)) p.5 p.4.sized.roomy.few (nest_fits _) c.fresh.ensures.0))
+    let p = start in
+    (omega arith, (p.0, p.1, p.2, p.4, heads_tracked (nest_of (c.args.frame.depth - 1)) p.5 p.4.sized.roomy.few (nest_fits _) c.fresh.ensures.0))
 
 pub looped-returns-then-turned : goal.looped-returns-then-turned
 looped-returns-then-turned t c =
-    let start = c.requires.1 in
+    let start = c.requires in
     let depth = c.args.frame.depth in
     let roomy = start.4.sized.roomy in
     let w = c.fresh.ensures in
@@ -189,14 +86,14 @@ looped-returns-then-turned t c =
 
 pub looped-remember-requires : goal.looped-remember-requires
 looped-remember-requires t c =
-    let roomy = c.requires.1.4.sized.roomy in
+    let roomy = c.requires.4.sized.roomy in
     (nest_fits _, roomy.few, roomy_values roomy.few roomy.values_long c.needed_turns-turned.ensures.kept.values_long)
 
 pub looped-overflow_sub-around : goal.looped-overflow_sub-around
-looped-overflow_sub-around t c = omega (arith, c.requires.1.3)
+looped-overflow_sub-around t c = omega (arith, c.requires.3)
 
 pub looped-rise-requires : goal.looped-rise-requires
-looped-rise-requires t c = (omega (arith, c.requires.1.2), omega (arith, c.requires.1.4.sized.roomy.few))
+looped-rise-requires t c = (omega (arith, c.requires.2), omega (arith, c.requires.4.sized.roomy.few))
 
 pub looped-shape_of-values : goal.looped-shape_of-values
 looped-shape_of-values t c = c.needed_turns-turned.ensures.kept.values_long
@@ -209,7 +106,7 @@ looped-shape_of-memo t c = c.rise.ensures.0.long ∙ c.remember.ensures.long ∙
 
 pub looped-returns : goal.looped-returns
 looped-returns t c =
-    let start = c.requires.1 in
+    let start = c.requires in
     let depth = c.args.frame.depth in
     let roomy = start.4.sized.roomy in
     let w = c.fresh.ensures in
@@ -247,17 +144,17 @@ looped-returns t c =
 pub needed_turns-overflow_sub-first : goal.needed_turns-overflow_sub-first
 needed_turns-overflow_sub-first t c =
     let pre' = c.requires in
-    omega (arith, pre'.1.2)
+    omega (arith, pre'.2)
 
 pub needed_turns-statements-a-requires : goal.needed_turns-statements-a-requires
 needed_turns-statements-a-requires t c =
     let pre' = c.requires in
-    (omega (arith, pre'.0, pre'.1.2), (pre'.1.0, pre'.1.3, pre'.1.4))
+    (omega (arith, pre'.2), (pre'.0, pre'.3, pre'.4))
 
 pub needed_turns-returns-then-a-n : goal.needed_turns-returns-then-a-n
 needed_turns-returns-then-a-n t c =
     let a = c.statements-a.ensures in
-    let start = c.requires.1 in
+    let start = c.requires in
     let taken = c.if-a-n.true in
     record {
       kept = a.kept;
@@ -271,18 +168,18 @@ needed_turns-returns-then-a-n t c =
     }
 
 pub needed_turns-overflow_sub-first-2 : goal.needed_turns-overflow_sub-first-2
-needed_turns-overflow_sub-first-2 t c = omega (arith, c.requires.1.3.standing.fits.levels)
+needed_turns-overflow_sub-first-2 t c = omega (arith, c.requires.3.standing.fits.levels)
 
 pub needed_turns-begins_again-requires : goal.needed_turns-begins_again-requires
 needed_turns-begins_again-requires t c =
-    let stood = c.requires.1.3 in
+    let stood = c.requires.3 in
     let roomy = stood.sized.roomy in
     (nest_fits _, stood.sized.waves_long, roomy.few, roomy_values roomy.few roomy.values_long c.statements-a.ensures.kept.values_long)
 
 pub needed_turns-returns-then-begins_again : goal.needed_turns-returns-then-begins_again
 needed_turns-returns-then-begins_again t c =
     let a = c.statements-a.ensures in
-    let roomy = c.requires.1.3.sized.roomy in
+    let roomy = c.requires.3.sized.roomy in
     let n = c.args.n in
     let k = c.args.frame.seconds in
     let left = c.if-a-n.false in
@@ -311,7 +208,7 @@ needed_turns-overflow_sub-second t c =
 pub needed_turns-overflow_sub-second-2 : goal.needed_turns-overflow_sub-second-2
 needed_turns-overflow_sub-second-2 t c =
     let pre' = c.requires in
-    omega (arith, pre'.1.2)
+    omega (arith, pre'.2)
 
 pub needed_turns-statements-requires : goal.needed_turns-statements-requires
 needed_turns-statements-requires t c =
@@ -320,20 +217,20 @@ needed_turns-statements-requires t c =
     let args' = c.args in
     let if1' = c.if-a-n in
     let a = statements'.ensures in
-    let stood = pre'.1.3 in
+    let stood = pre'.3 in
     let sound = first_sound args'.n args'.frame.seconds statements'.result.failed if1'.false in (
-      omega (arith, pre'.0, pre'.1.2),
+      omega (arith, pre'.2),
       (
-        pre'.1.0,
+        pre'.0,
         record {
           env = stood.env;
           body = stood.body;
           rest = stood.rest;
           state = _;
-          standing = again_standing _ stood.standing (a.ended stood.env stood.body stood.rest stood.state stood.standing pre'.1.4 sound);
+          standing = again_standing _ stood.standing (a.ended stood.env stood.body stood.rest stood.state stood.standing pre'.4 sound);
           sized = sized_kept stood.sized a.kept;
         },
-        a.heads stood.env stood.body stood.rest stood.state stood.standing pre'.1.4,
+        a.heads stood.env stood.body stood.rest stood.state stood.standing pre'.4,
       ),
     )
 
@@ -386,21 +283,21 @@ needed_turns-returns t c =
 pub play_body-overflow_sub-inner : goal.play_body-overflow_sub-inner
 play_body-overflow_sub-inner t c =
     let pre' = c.requires in
-    omega (arith, pre'.1.0.use'.some_more)
+    omega (arith, pre'.0.use'.some_more)
 
 pub play_body-overflow_add-inner : goal.play_body-overflow_add-inner
-play_body-overflow_add-inner t c = omega (arith, c.requires.1.0.use'.fits.levels)
+play_body-overflow_add-inner t c = omega (arith, c.requires.0.use'.fits.levels)
 
 pub play_body-slice_bounds-body-count : goal.play_body-slice_bounds-body-count
 play_body-slice_bounds-body-count t c =
     let pre' = c.requires in
-    let u = pre'.1.0.use' in
+    let u = pre'.0.use' in
     omega (arith, c.start_at-start.ensures (omega (arith, u.declared)), begins_within _ _ _ _ _ u.holds)
 
 pub play_body-slice_bounds-body-start : goal.play_body-slice_bounds-body-start
 play_body-slice_bounds-body-start t c =
     let pre' = c.requires in
-    let u = pre'.1.0.use' in
+    let u = pre'.0.use' in
     omega (arith, c.start_at-start.ensures (omega (arith, u.declared)), begins_within _ _ _ _ _ u.holds)
 
 pub play_body-body_of-requires : goal.play_body-body_of-requires
@@ -408,11 +305,11 @@ play_body-body_of-requires t c =
     let pre' = c.requires in
     let args' = c.args in
     let start-at' = c.start_at-start in
-    let used = pre'.1.0 in
+    let used = pre'.0 in
     let u = used.use' in
     let at = start-at'.ensures (omega (arith, u.declared)) in
     let within = begins_within _ _ _ _ _ u.holds in (
-      omega (arith, pre'.0, u.some_more),
+      omega (arith, u.some_more),
       rw (part_begins args'.text.now start-at'.result _ at within) (
         part_within args'.text.now start-at'.result _ at within,
         record {
@@ -423,14 +320,14 @@ play_body-body_of-requires t c =
           standing = macro_standing u;
           sized = sized_at used.sized _ (omega (arith, u.fits.levels));
         },
-        pre'.1.1,
+        pre'.1,
       ),
     )
 
 pub play_body-returns-then-i-lt-PROCEDURES : goal.play_body-returns-then-i-lt-PROCEDURES
 play_body-returns-then-i-lt-PROCEDURES t c =
-    let u = c.requires.1.0.use' in
-    let roomy = c.requires.1.0.sized.roomy in
+    let u = c.requires.0.use' in
+    let roomy = c.requires.0.sized.roomy in
     let at = c.start_at-start.ensures (omega (arith, u.declared)) in
     let p = rw (part_begins c.args.text.now c.start_at-start.result _ at (begins_within _ _ _ _ _ u.holds)) at c.body_of.ensures in
     record {
@@ -448,7 +345,7 @@ play_body-returns-then-i-lt-PROCEDURES t c =
 pub play_body-leave-requires : goal.play_body-leave-requires
 play_body-leave-requires t c =
     let pre' = c.requires in
-    let used = pre'.1.0 in
+    let used = pre'.0 in
     (used.sized.roomy.values_long, omega (arith, used.use'.fits.levels))
 
 pub play_body-body_of-r-requires : goal.play_body-body_of-r-requires
@@ -457,11 +354,11 @@ play_body-body_of-r-requires t c =
     let args' = c.args in
     let start-at' = c.start_at-start in
     let leave' = c.leave in
-    let used = pre'.1.0 in
+    let used = pre'.0 in
     let u = used.use' in
     let at = start-at'.ensures (omega (arith, u.declared)) in
     let within = begins_within _ _ _ _ _ u.holds in (
-      omega (arith, pre'.0, u.some_more),
+      omega (arith, u.some_more),
       rw (part_begins args'.text.now start-at'.result _ at within) (
         part_within args'.text.now start-at'.result _ at within,
         record {
@@ -472,7 +369,7 @@ play_body-body_of-r-requires t c =
           standing = procedure_standing u used.sized leave'.ensures;
           sized = sized_at (sized_left used.sized leave'.ensures) _ (omega (arith, u.fits.levels));
         },
-        pre'.1.1,
+        pre'.1,
       ),
     )
 
@@ -481,19 +378,19 @@ play_body-come_back-requires t c =
     let pre' = c.requires in
     let leave' = c.leave in
     let body-of2' = c.body_of-r in
-    let used = pre'.1.0 in
+    let used = pre'.0 in
     (body-of2'.ensures.kept.values_long ∙ leave'.ensures.long ∙ used.sized.roomy.values_long, omega (arith, used.use'.fits.levels))
 
 pub play_body-overflow_sub-inner-2 : goal.play_body-overflow_sub-inner-2
-play_body-overflow_sub-inner-2 t c = omega (arith, c.requires.1.0.use'.fits.levels)
+play_body-overflow_sub-inner-2 t c = omega (arith, c.requires.0.use'.fits.levels)
 
 pub play_body-fresh-requires : goal.play_body-fresh-requires
-play_body-fresh-requires t c = (nest_fits _, c.requires.1.0.sized.roomy.few)
+play_body-fresh-requires t c = (nest_fits _, c.requires.0.sized.roomy.few)
 
 pub play_body-returns : goal.play_body-returns
 play_body-returns t c =
-    let sized = c.requires.1.0.sized in
-    let u = c.requires.1.0.use' in
+    let sized = c.requires.0.sized in
+    let u = c.requires.0.use' in
     let at = c.start_at-start.ensures (omega (arith, u.declared)) in
     let l = c.leave.ensures in
     let p = rw (part_begins c.args.text.now c.start_at-start.result _ at (begins_within _ _ _ _ _ u.holds)) at c.body_of-r.ensures in
@@ -516,21 +413,21 @@ play_body-returns t c =
 
 pub statement-recall-f-requires : goal.statement-recall-f-requires
 statement-recall-f-requires t c =
-    let sized = c.requires.1.1.sized in
+    let sized = c.requires.1.sized in
     (sized.waves_long, sized.roomy.few, roomy_values sized.roomy.few sized.roomy.values_long refl)
 
 pub statement-overflow_sub-frame : goal.statement-overflow_sub-frame
-statement-overflow_sub-frame t c = omega (arith, c.requires.1.1.standing.fits.levels)
+statement-overflow_sub-frame t c = omega (arith, c.requires.1.standing.fits.levels)
 
 pub statement-repeated-requires : goal.statement-repeated-requires
 statement-repeated-requires t c =
-    let roomy = c.requires.1.1.sized.roomy in
+    let roomy = c.requires.1.sized.roomy in
     let f = c.recall-f.ensures.finds in
     (nest_fits _, roomy.few, roomy_values roomy.few roomy.values_long refl, omega (arith, (f.row c.if-f.true).1), f.room c.if-f.true)
 
 pub statement-returns-then-f : goal.statement-returns-then-f
 statement-returns-then-f t c =
-    let start = c.requires.1 in
+    let start = c.requires in
     let depth = c.args.frame.depth in
     let f = rw c.use_at-u.ensures at c.recall-f.ensures in
     let taken = c.if-f.true in
@@ -562,58 +459,43 @@ statement-returns-then-f t c =
 pub statement-head-h-requires : goal.statement-head-h-requires
 statement-head-h-requires t c =
     let pre' = c.requires in
-    let stood = pre'.1.1 in
+    let stood = pre'.1 in
     (record { env = stood.env; describes = stood.standing.holding.describes }, (omega arith), gave_zeros, stood.sized.args_long)
 
-pub statement-enum_told-1 : goal.statement-enum_told-1
-statement-enum_told-1 t c = c.in-Ends.keys1
-
-pub statement-enum_known-what : goal.statement-enum_known-what
-statement-enum_known-what t c = c.in-Vector.keys2
-
 pub statement-overflow_sub-frame-in-Vector : goal.statement-overflow_sub-frame-in-Vector
-statement-overflow_sub-frame-in-Vector t c = omega (arith, c.requires.1.1.standing.fits.levels)
+statement-overflow_sub-frame-in-Vector t c = omega (arith, c.requires.1.standing.fits.levels)
 
 pub statement-mark-requires : goal.statement-mark-requires
-statement-mark-requires t c = (nest_fits _, c.requires.1.1.sized.roomy.few, c.head-h.ensures.0)
+statement-mark-requires t c = (nest_fits _, c.requires.1.sized.roomy.few, c.head-h.ensures.0)
 
 pub statement-vectors-failed-requires : goal.statement-vectors-failed-requires
 statement-vectors-failed-requires t c =
     let pre' = c.requires in
     let head' = c.head-h in
-    let sized = pre'.1.1.sized in
+    let sized = pre'.1.sized in
     (sized.roomy, head'.ensures.0, sized.waves_long)
 
-pub statement-enum_told-in-Assigns : goal.statement-enum_told-in-Assigns
-statement-enum_told-in-Assigns t c = c.in-Assigns.keys3
-
 pub statement-overflow_sub-frame-in-Assigns : goal.statement-overflow_sub-frame-in-Assigns
-statement-overflow_sub-frame-in-Assigns t c = omega (arith, c.requires.1.1.standing.fits.levels)
+statement-overflow_sub-frame-in-Assigns t c = omega (arith, c.requires.1.standing.fits.levels)
 
 pub statement-mark-requires-in-Assigns : goal.statement-mark-requires-in-Assigns
-statement-mark-requires-in-Assigns t c = (nest_fits _, c.requires.1.1.sized.roomy.few, c.head-h.ensures.0)
+statement-mark-requires-in-Assigns t c = (nest_fits _, c.requires.1.sized.roomy.few, c.head-h.ensures.0)
 
 pub statement-put-requires : goal.statement-put-requires
 statement-put-requires t c =
     let pre' = c.requires in
     let head' = c.head-h in
-    (pre'.1.1.sized.roomy, head'.ensures.0)
-
-pub statement-enum_known-what-in-Chooses-1 : goal.statement-enum_known-what-in-Chooses-1
-statement-enum_known-what-in-Chooses-1 t c = c.in-Chooses.keys4
-
-pub statement-enum_known-what-in-Loops-1 : goal.statement-enum_known-what-in-Loops-1
-statement-enum_known-what-in-Loops-1 t c = c.in-Loops.keys5
+    (pre'.1.sized.roomy, head'.ensures.0)
 
 pub statement-looped-requires : goal.statement-looped-requires
 statement-looped-requires t c =
     let start = c.requires in
     let h = c.head-h.ensures in
-    let stood = start.1.1 in
+    let stood = start.1 in
     let st = stood.standing in
     let is = c.in-Loops.is in
-    let i = in_loop st start.1.0 _ _ _ (h.2 stood.env st.holding.describes) _ is in (
-      omega (arith, start.0),
+    let i = in_loop st start.0 _ _ _ (h.2 stood.env st.holding.describes) _ is in (
+      omega arith,
       (
         i.1.on,
         i.0,
@@ -627,17 +509,14 @@ statement-looped-requires t c =
           standing = loop_standing st i.1 st.shows;
           sized = sized_kept stood.sized (kept_args stood.sized h.1);
         },
-        start.1.2,
-        loop_head _ _ _ start.1.0 i.1.on h.2 _ is,
+        start.2,
+        loop_head _ _ _ start.0 i.1.on h.2 _ is,
       ),
     )
 
-pub statement-enum_told-in-Shifts : goal.statement-enum_told-in-Shifts
-statement-enum_told-in-Shifts t c = c.in-Shifts.keys6
-
 pub statement-shift_on-requires : goal.statement-shift_on-requires
 statement-shift_on-requires t c =
-    let start = c.requires.1 in
+    let start = c.requires in
     let stood = start.1 in
     let st = stood.standing in
     let i = in_shift_lem st start.0 _ _ _ (c.head-h.ensures.2 stood.env st.holding.describes) c.in-Shifts.is in (
@@ -652,18 +531,15 @@ statement-shift_on-requires t c =
       },
     )
 
-pub statement-enum_known-what-in-Uses-1 : goal.statement-enum_known-what-in-Uses-1
-statement-enum_known-what-in-Uses-1 t c = c.in-Uses.keys7
-
 pub statement-uses-requires : goal.statement-uses-requires
 statement-uses-requires t c =
     let start = c.requires in
     let h = c.head-h.ensures in
     let is = c.in-Uses.is in
-    let stood = start.1.1 in
+    let stood = start.1 in
     let st = stood.standing in
-    let d = called st start.1.0 _ _ _ (h.2 stood.env st.holding.describes) _ _ is in (
-      omega (arith, start.0),
+    let d = called st start.0 _ _ _ (h.2 stood.env st.holding.describes) _ _ is in (
+      omega arith,
       (
         record {
           env = stood.env;
@@ -675,14 +551,14 @@ statement-uses-requires t c =
           sized = sized_kept stood.sized (kept_args stood.sized h.1);
           given_long = h.0;
         },
-        start.1.2,
-        behind_head_lem _ _ _ start.1.0 d.on h.2 _ _ is,
+        start.2,
+        behind_head_lem _ _ _ start.0 d.on h.2 _ _ is,
       ),
     )
 
 pub statement-returns-in-Ends : goal.statement-returns-in-Ends
 statement-returns-in-Ends t c =
-    let start = c.requires.1 in
+    let start = c.requires in
     let h = c.head-h.ensures in
     record {
       kept = kept_args start.1.sized h.1;
@@ -696,7 +572,7 @@ statement-returns-in-Ends t c =
 
 pub statement-returns-in-Vector : goal.statement-returns-in-Vector
 statement-returns-in-Vector t c =
-    let start = c.requires.1 in
+    let start = c.requires in
     let roomy = start.1.sized.roomy in
     let h = c.head-h.ensures in
     let v = c.vectors-failed.ensures in
@@ -713,7 +589,7 @@ statement-returns-in-Vector t c =
 
 pub statement-returns-in-Assigns : goal.statement-returns-in-Assigns
 statement-returns-in-Assigns t c =
-    let start = c.requires.1 in
+    let start = c.requires in
     let roomy = start.1.sized.roomy in
     let h = c.head-h.ensures in
     let v = c.put.ensures in
@@ -730,7 +606,7 @@ statement-returns-in-Assigns t c =
 
 pub statement-returns-in-Chooses : goal.statement-returns-in-Chooses
 statement-returns-in-Chooses t c =
-    let start = c.requires.1 in
+    let start = c.requires in
     let h = c.head-h.ensures in
     rw c.goes_on-in-Chooses.ensures (record {
       kept = kept_args start.1.sized h.1;
@@ -744,7 +620,7 @@ statement-returns-in-Chooses t c =
 
 pub statement-returns-in-Loops : goal.statement-returns-in-Loops
 statement-returns-in-Loops t c =
-    let start = c.requires.1 in
+    let start = c.requires in
     let h = c.head-h.ensures in
     let v = c.looped.ensures in
     let is = c.in-Loops.is in
@@ -769,7 +645,7 @@ statement-returns-in-Loops t c =
 
 pub statement-returns-in-Shifts : goal.statement-returns-in-Shifts
 statement-returns-in-Shifts t c =
-    let start = c.requires.1 in
+    let start = c.requires in
     let roomy = start.1.sized.roomy in
     let h = c.head-h.ensures in
     let v = c.shift_on.ensures in
@@ -789,7 +665,7 @@ statement-returns-in-Shifts t c =
 
 pub statement-returns-in-Uses : goal.statement-returns-in-Uses
 statement-returns-in-Uses t c =
-    let start = c.requires.1 in
+    let start = c.requires in
     let h = c.head-h.ensures in
     let is = c.in-Uses.is in
     let v = c.uses.ensures in
@@ -814,7 +690,7 @@ statement-returns-in-Uses t c =
 
 pub statements-loop-known-init : goal.statements-loop-known-init
 statements-loop-known-init t c =
-    let start = c.requires.1 in
+    let start = c.requires in
     record {
       kept = kept_none;
       resumes = λ E b us s st hs. resumed start.0 st;
@@ -829,10 +705,10 @@ pub statements-statement-r-requires : goal.statements-statement-r-requires
 statements-statement-r-requires t c =
     let pre' = c.requires in
     let loop' = c.loop-known in
-    let stood = pre'.1.1 in
+    let stood = pre'.1 in
     let inv = loop'.invariant in
-    let o = inv.resumes stood.env stood.body stood.rest stood.state stood.standing pre'.1.2 in (
-      omega (arith, pre'.0),
+    let o = inv.resumes stood.env stood.body stood.rest stood.state stood.standing pre'.2 in (
+      omega arith,
       (
         o.on,
         record {
@@ -843,33 +719,26 @@ statements-statement-r-requires t c =
           standing = resumed_standing o _ stood.standing.holding;
           sized = sized_kept stood.sized inv.kept;
         },
-        inv.heads stood.env stood.body stood.rest stood.state stood.standing pre'.1.2,
+        inv.heads stood.env stood.body stood.rest stood.state stood.standing pre'.2,
       ),
     )
 
-statements-returns :
-    (t : ℕ) →
-    statements-lts.Need-returns
-    (statement_below t, statement'.Post)
-    (statements_at t)
-    statements.Post
-    statements_Inv-loop
-    statements_μ_loop
-statements-returns t c =
-    let inv = c.before.before.before.before.before.before.before.before.before.before.before.before.before.before.before.loop.invariant in
-    let step = c.before.before.before.before.before.before.before.before.before.before.statement.ensures in
+pub statements-returns-then-r : goal.statements-returns-then-r
+statements-returns-then-r t c =
+    let inv = c.loop-known.invariant in
+    let step = c.statement-r.ensures in
     record {
       kept = kept_then inv.kept step.kept;
       ended = λ E b us s st hs e. (
-          let o = inv.resumes E b us s st hs in resumed_end o (step.moves E o.rest us _ (resumed_standing o _ st.holding) (inv.heads E b us s st hs)) c.if1.true e);
+          let o = inv.resumes E b us s st hs in resumed_end o (step.moves E o.rest us _ (resumed_standing o _ st.holding) (inv.heads E b us s st hs)) c.if-r.true e);
       plays = λ E b us s st m f. (
-          let o = inv.onward E b us s st m in gone inv.memo_long o (step.steps E o.rest us o.state o.standing (inv.learnt E b us s st m)) c.if1.true);
+          let o = inv.onward E b us s st m in gone inv.memo_long o (step.steps E o.rest us o.state o.standing (inv.learnt E b us s st m)) c.if-r.true);
       memo_long = step.memo_long ∙ inv.memo_long;
       below = below_then inv.below step.below;
       heads = λ E b us s st hs. (let o = inv.resumes E b us s st hs in step.heads E o.rest us _ (resumed_standing o _ st.holding) (inv.heads E b us s st hs));
       learnt = λ E b us s st m f. (let o = inv.onward E b us s st m in step.learnt E o.rest us o.state o.standing (inv.learnt E b us s st m));
       tracks = λ E b us s st m f e. (
-          let o = inv.onward E b us s st m in gone_tracked inv.memo_long o (step.steps E o.rest us o.state o.standing (inv.learnt E b us s st m)) c.if1.true e);
+          let o = inv.onward E b us s st m in gone_tracked inv.memo_long o (step.steps E o.rest us o.state o.standing (inv.learnt E b us s st m)) c.if-r.true e);
     }
 
 pub statements-loop-known-smaller : goal.statements-loop-known-smaller
@@ -878,9 +747,9 @@ statements-loop-known-smaller t c =
     let loop' = c.loop-known in
     let statement' = c.statement-r in
     let if1' = c.if-r in
-    let stood = pre'.1.1 in
-    let o = loop'.invariant.resumes stood.env stood.body stood.rest stood.state stood.standing pre'.1.2 in
-    let heads = loop'.invariant.heads stood.env stood.body stood.rest stood.state stood.standing pre'.1.2 in
+    let stood = pre'.1 in
+    let o = loop'.invariant.resumes stood.env stood.body stood.rest stood.state stood.standing pre'.2 in
+    let heads = loop'.invariant.heads stood.env stood.body stood.rest stood.state stood.standing pre'.2 in
     resumed_less o (statement'.ensures.moves stood.env o.rest stood.rest _ (resumed_standing o _ stood.standing.holding) heads) if1'.false
 
 pub statements-loop-known-preserved : goal.statements-loop-known-preserved
@@ -901,20 +770,20 @@ statements-loop-known-preserved t c =
     }
 
 pub used-overflow_sub-within : goal.used-overflow_sub-within
-used-overflow_sub-within t c = omega (arith, c.requires.1.0.invoking.fits.levels, c.requires.1.0.invoking.some_more)
+used-overflow_sub-within t c = omega (arith, c.requires.0.invoking.fits.levels, c.requires.0.invoking.some_more)
 
 pub used-overflow_sub-within-2 : goal.used-overflow_sub-within-2
-used-overflow_sub-within-2 t c = omega (arith, c.requires.1.0.invoking.fits.levels, c.requires.1.0.invoking.some_more)
+used-overflow_sub-within-2 t c = omega (arith, c.requires.0.invoking.fits.levels, c.requires.0.invoking.some_more)
 
 pub used-fresh-requires : goal.used-fresh-requires
-used-fresh-requires t c = (nest_fits _, c.requires.1.0.sized.roomy.few)
+used-fresh-requires t c = (nest_fits _, c.requires.0.sized.roomy.few)
 
 pub used-overflow_add-frame : goal.used-overflow_add-frame
-used-overflow_add-frame t c = omega (arith, c.requires.1.0.sized.roomy.inside_levels)
+used-overflow_add-frame t c = omega (arith, c.requires.0.sized.roomy.inside_levels)
 
 pub used-supply-requires : goal.used-supply-requires
 used-supply-requires t c =
-    let s = c.requires.1.0 in
+    let s = c.requires.0 in
     (s.given_long, s.sized.args_long, s.sized.roomy.feeds_long, omega (arith, s.invoking.fits.levels))
 
 pub used-play_body-left-requires : goal.used-play_body-left-requires
@@ -922,11 +791,11 @@ used-play_body-left-requires t c =
     let start = c.requires in
     let w = c.fresh.ensures in
     let f = c.supply.ensures in
-    let s = start.1.0 in
+    let s = start.0 in
     let sized = s.sized in
     let kept = kept_used sized sized.args_long refl (λ i h. refl) f.0 f.1 in
     let v = s.invoking in (
-      omega (arith, start.0),
+      omega arith,
       (
         record {
           env = s.env;
@@ -937,13 +806,13 @@ used-play_body-left-requires t c =
           use' = invoked_using v (shows_supplied v.shows f.1) (f.2 _ _ v.supplied);
           sized = sized_kept sized kept;
         },
-        heads_tracked (nest_of (c.args.frame.depth - 1)) start.1.1 sized.roomy.few (nest_fits _) w.0,
+        heads_tracked (nest_of (c.args.frame.depth - 1)) start.1 sized.roomy.few (nest_fits _) w.0,
       ),
     )
 
 pub used-returns-then-left : goal.used-returns-then-left
 used-returns-then-left t c =
-    let start = c.requires.1 in
+    let start = c.requires in
     let w = c.fresh.ensures in
     let f = c.supply.ensures in
     let sized = start.0.sized in
@@ -963,24 +832,24 @@ used-returns-then-left t c =
 
 pub used-remember-requires : goal.used-remember-requires
 used-remember-requires t c =
-    let roomy = c.requires.1.0.sized.roomy in
+    let roomy = c.requires.0.sized.roomy in
     (nest_fits _, roomy.few, roomy_values roomy.few roomy.values_long c.play_body-left.ensures.kept.values_long)
 
 pub used-overflow_sub-frame : goal.used-overflow_sub-frame
-used-overflow_sub-frame t c = omega (arith, c.requires.1.0.invoking.fits.levels, c.requires.1.0.invoking.some_more)
+used-overflow_sub-frame t c = omega (arith, c.requires.0.invoking.fits.levels, c.requires.0.invoking.some_more)
 
 pub used-rise-requires : goal.used-rise-requires
-used-rise-requires t c = (nest_less c.requires.1.0.invoking.some_more, c.requires.1.0.sized.roomy.few)
+used-rise-requires t c = (nest_less c.requires.0.invoking.some_more, c.requires.0.sized.roomy.few)
 
 pub used-shape_of-feeds : goal.used-shape_of-feeds
-used-shape_of-feeds t c = c.play_body-left.ensures.kept.feeds_long ∙ c.supply.ensures.0 ∙ sym c.requires.1.0.sized.roomy.feeds_long
+used-shape_of-feeds t c = c.play_body-left.ensures.kept.feeds_long ∙ c.supply.ensures.0 ∙ sym c.requires.0.sized.roomy.feeds_long
 
 pub used-shape_of-memo : goal.used-shape_of-memo
 used-shape_of-memo t c = c.rise.ensures.0.long ∙ c.remember.ensures.long ∙ c.play_body-left.ensures.memo_long ∙ c.fresh.ensures.0.long
 
 pub used-returns : goal.used-returns
 used-returns t c =
-    let start = c.requires.1 in
+    let start = c.requires in
     let depth = c.args.frame.depth in
     let w = c.fresh.ensures in
     let f = c.supply.ensures in
@@ -1019,20 +888,20 @@ used-returns t c =
 
 pub uses-pass-p-requires : goal.uses-pass-p-requires
 uses-pass-p-requires t c =
-    let s = c.requires.1.0 in
+    let s = c.requires.0 in
     (s.sized.waves_long, s.sized.roomy.few, s.invoking.declared, s.given_long, s.sized.args_long, s.sized.roomy.values_long)
 
 pub uses-overflow_sub-frame : goal.uses-overflow_sub-frame
-uses-overflow_sub-frame t c = omega (arith, c.requires.1.0.invoking.fits.levels, c.requires.1.0.invoking.some_more)
+uses-overflow_sub-frame t c = omega (arith, c.requires.0.invoking.fits.levels, c.requires.0.invoking.some_more)
 
 pub uses-mark_passed-requires : goal.uses-mark_passed-requires
 uses-mark_passed-requires t c =
     let q = c.pass-p.ensures c.args.places.now c.args.lists.now c.args.tplaces.now c.args.book.now c.args.rows.now c.args.known in
-    (nest_fits _, c.requires.1.0.sized.roomy.few, q.room c.if-p.true)
+    (nest_fits _, c.requires.0.sized.roomy.few, q.room c.if-p.true)
 
 pub uses-returns-then-p : goal.uses-returns-then-p
 uses-returns-then-p t c =
-    let start = c.requires.1 in
+    let start = c.requires in
     let depth = c.args.frame.depth in
     let sized = start.0.sized in
     let few = sized.roomy.few in
@@ -1060,9 +929,9 @@ uses-returns-then-p t c =
 pub uses-used-r-requires : goal.uses-used-r-requires
 uses-used-r-requires t c =
     let start = c.requires in
-    let s = start.1.0 in
+    let s = start.0 in
     let q = c.pass-p.ensures c.args.places.now c.args.lists.now c.args.tplaces.now c.args.book.now c.args.rows.now c.args.known in (
-      omega (arith, start.0),
+      omega arith,
       (
         record {
           env = s.env;
@@ -1074,14 +943,14 @@ uses-used-r-requires t c =
           sized = sized_kept s.sized (kept_passed s.sized s.sized.args_long q.long q.rows);
           given_long = s.given_long;
         },
-        start.1.1,
-        start.1.2,
+        start.1,
+        start.2,
       ),
     )
 
 pub uses-returns : goal.uses-returns
 uses-returns t c =
-    let sized = c.requires.1.0.sized in
+    let sized = c.requires.0.sized in
     let q = c.pass-p.ensures c.args.places.now c.args.lists.now c.args.tplaces.now c.args.book.now c.args.rows.now c.args.known in
     let same = q.untouched c.if-p.false in
     let v = c.used-r.ensures in (

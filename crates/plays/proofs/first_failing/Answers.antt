@@ -20,7 +20,7 @@ pub pattern-r-requires : goal.pattern-r-requires
 pattern-r-requires c =
     let pre' = c.requires in
     let loop' = c.loop-k in
-    let loop-test' = c.type_inv.values in
+    let loop-test' = c.loop-k-test in
     let l = listed_any _ _ _ _ _ _ _ _ _ _ _ _ pre'.runs loop-test'.true in (
       record {
         env = pre'.runs.tabled.parts.env;
@@ -35,7 +35,7 @@ pattern-r-requires c =
 pub returns-then-r : goal.returns-then-r
 returns-then-r c =
     let loop' = c.loop-k in
-    let loop-test' = c.type_inv.values in
+    let loop-test' = c.loop-k-test in
     let pattern' = c.pattern-r in
     λ p d run h m. (let l = loop'.invariant.1.left p d run h m in decides_failing (run_fails _ _ _ _ _ _ _ _ _ _ _ _ h l.0 loop-test'.true pattern'.ensures l.1 c.if-r.true))
 
@@ -47,7 +47,7 @@ overflow_add-k c =
 pub loop-k-preserved : goal.loop-k-preserved
 loop-k-preserved c =
     let loop' = c.loop-k in
-    let loop-test' = c.type_inv.values in
+    let loop-test' = c.loop-k-test in
     let pattern' = c.pattern-r in (
       loop'.invariant.0 ∙ sym pattern'.ensures.memo_long,
       record {

@@ -9,4 +9,4 @@ returns-then-not-is_marked c =
 
 pub returns : goal.returns
 returns c =
-    λ e h tabs w. sym (c.fits2.ensures tabs w) ∙ e
+    λ e h tabs w. sym (c.fits.ensures tabs w) ∙ e

@@ -3,7 +3,6 @@ use Prim.Native.Nat.{ℕ}
 use native.Mathlib.Omega.{arith}
 use mathlib.Core.Path.{sym, ◌∙◌}
 use lib.ListN.{length-replicate}
-use borrow.Author.Tests.{not-false}
 use Rattle.meaning.specs.Bounds.{signals_most}
 use Rattle.plays.proofs.Passing.{room, stays, passes_macro, passes_procedure}
 use Rattle.plays.proofs.pass.Goals as goal
@@ -44,9 +43,9 @@ returns-then-i-lt-PROCEDURES c =
     let asks' = c.asks in
     let if4' = c.if-not-asks in
     let settle' = c.settle in
-    let Known-is = sym usable'.ensures ∙ not-false _ if2'.false-raw in
+    let Known-is = sym usable'.ensures ∙ if2'.false in
     λ places lists tplaces book rows known.
-    passes_macro Known-is pre'.1 pre'.5 (room c.args.marks.now c.args.sums.now c.args.i c.if-marks-i.false).1 if3'.true (asks'.ensures.1 (not-false _ if4'.false-raw)) settle'.ensures c.table_behind.ensures
+    passes_macro Known-is pre'.1 pre'.5 (room c.args.marks.now c.args.sums.now c.args.i c.if-marks-i.false).1 if3'.true (asks'.ensures.1 if4'.false) settle'.ensures c.table_behind.ensures
 
 pub asks-done-requires : goal.asks-done-requires
 asks-done-requires c =
@@ -62,5 +61,5 @@ returns c =
     let if2' = c.if-not-usable in
     let if3' = c.if-i-lt-PROCEDURES in
     let asks2' = c.asks-done in
-    let Known-is = sym usable'.ensures ∙ not-false _ if2'.false-raw in
+    let Known-is = sym usable'.ensures ∙ if2'.false in
     λ places lists tplaces book rows known. passes_procedure Known-is pre'.1 pre'.5 (room c.args.marks.now c.args.sums.now c.args.i c.if-marks-i.false).1 if3'.false pre'.2 asks2'.ensures.1

@@ -14,7 +14,7 @@ shows-requires c =
 
 pub loop-t-init : goal.loop-t-init
 loop-t-init c =
-    (omega arith, summing_first c.shows.ensures c.first__marks.ensures)
+    (omega arith, summing_first c.shows.ensures c.first_marks-m.ensures)
 
 pub shows-requires-in-loop-t : goal.shows-requires-in-loop-t
 shows-requires-in-loop-t c =

@@ -8,7 +8,6 @@ use Rattle.rows.specs.declared.Walk.{Walk}
 use Rattle.rows.proofs.Going.{went_past}
 use Rattle.rows.proofs.Showing.{cycled_wide}
 use Rattle.rows.proofs.Placing.{place_fits, place_below, part_room, rows_few, went_unshown, went_shown}
-use Rattle.rows.proofs.cycle.Tie as tie
 use Rattle.rows.proofs.cycle.Goals as goal
 
 pub past-requires : goal.past-requires
@@ -26,31 +25,27 @@ returns-then-w-eq0 c =
     λ k z.
     went_unshown k c.args.buffer.now (omega arith) c.requires.3 c.spend-x.ensures c.if-w-eq0.true
 
--- rows are still to be shown
-some : (c : tie.Else-w-eq0) → 0 < c.args.w.show
-some c = omega arith
-
 pub overflow_mul-part : goal.overflow_mul-part
 overflow_mul-part c =
-    place_fits c.requires.2 (some c.before) _ (omega arith) (omega arith)
+    place_fits c.requires.2 (omega arith) _ (omega arith) (omega arith)
 
 pub slice_bounds-part-count : goal.slice_bounds-part-count
 slice_bounds-part-count c =
-    place_below c.requires.2 (some c.before) _ (omega arith)
+    place_below c.requires.2 (omega arith) _ (omega arith)
 
 pub slice_bounds-part-start : goal.slice_bounds-part-start
-slice_bounds-part-start c = sub_part c
+slice_bounds-part-start c = place_below c.requires.2 (omega arith) _ (omega arith)
 
 pub put_row-requires : goal.put_row-requires
 put_row-requires c =
-    (c.requires.0, c.requires.1, part_room c.requires.2 (some c.before.before) _ (omega arith))
+    (c.requires.0, c.requires.1, part_room c.requires.2 (omega arith) _ (omega arith))
 
 pub overflow_add-result : goal.overflow_add-result
 overflow_add-result c =
-    omega (arith, rows_few c.requires.2 (some c.before.before.before.before.before.before))
+    omega (arith, rows_few c.requires.2 (omega arith))
 
 pub returns : goal.returns
 returns c =
     let put = c.put_row in λ k z.
-    went_shown k c.args.buffer.now (omega arith) c.requires.3 c.spend-x.ensures (some c.before.before.before.before.before.before.before) _ refl
-    (cycled_wide z (omega arith)) put.new.0 (put.ensures.0 k z) put.ensures.1
+    went_shown k c.args.buffer.now (omega arith) c.requires.3 c.spend-x.ensures (omega arith) _ refl
+    (cycled_wide z (omega arith)) put.new.part (put.ensures.0 k z) put.ensures.1

@@ -1,13 +1,12 @@
 -- `put_row` meets its contract. The invariant: the first s signals' characters stand over the front.
 use Prim.Native.Nat.{◌-◌, ◌<◌}
 use native.Mathlib.Omega.{arith}
-use mathlib.Core.Logic.{⊎_elim}
 use mathlib.Core.Path.{◌≡◌, sym, ◌∙◌}
 use lib.ListN.{length, length-set}
 use Rattle.meaning.specs.Services.{digit_of, row_width}
 use Rattle.pins.specs.Shown.{table_of}
 use Rattle.rows.proofs.Showing.{showed_none, showed_more, showed_all, showed_length, showed_row, shown_none, shown_char, digit_some, digit_none}
-use Rattle.rows.proofs.put_row.Tie as tie
+use Rattle.rows.proofs.put_row.Goals.{then-b-eq0, else-b-eq0, then-table-lt-TABLES, else-table-lt-TABLES}
 use Rattle.rows.proofs.put_row.Goals as goal
 
 pub loop-s-init : goal.loop-s-init
@@ -35,8 +34,10 @@ loop-s-preserved c =
     let x = c.loop-s.invariant.1 in
     let inside : c.loop-s.s < length c.args.values.now = omega arith in (
       omega arith,
-      ⊎_elim (λ w. rw w.1 (showed_more x inside _ (sym (shown_none _ _ w.0.taken)))) (λ w. rw w.1 (showed_more x inside _ (sym (shown_char _ _ w.0.left))))
-          c.if-b-eq0.branch,
+      elim c.if-b-eq0.branch [
+        | then-b-eq0 w ↦ rw w.part-is (showed_more x inside _ (sym (shown_none _ _ w.if-b-eq0.true)))
+        | else-b-eq0 w ↦ rw w.part-is (showed_more x inside _ (sym (shown_char _ _ w.if-b-eq0.false)))
+      ],
     )
 
 pub overflow_cast-digit : goal.overflow_cast-digit
@@ -44,9 +45,6 @@ overflow_cast-digit c = omega arith
 
 pub overflow_add-digit : goal.overflow_add-digit
 overflow_add-digit c = omega arith
-
-digit : (c : tie.Joined-table-lt-TABLES goal.the-invariant-loop-s goal.the-decreases-loop-s) → c.if-table-lt-TABLES.digit ≡ digit_of (table_of c.args.table)
-digit c = ⊎_elim (λ w. w.1 ∙ sym (digit_some _ w.0.taken)) (λ w. w.1 ∙ sym (digit_none _ w.0.left)) c.if-table-lt-TABLES.branch
 
 pub bounds-part-signals : goal.bounds-part-signals
 unfolding row_width
@@ -66,4 +64,9 @@ pub returns : goal.returns
 returns c =
     let n = c.args.signals in
     let x = showed_all c.loop-s.invariant.1 n (omega arith) in
-    (λ k z. showed_row x (omega arith) c.if-table-lt-TABLES.digit z (digit c) c.requires.2, simp length-set (showed_length x))
+    let digit : c.if-table-lt-TABLES.digit ≡ digit_of (table_of c.args.table) =
+    elim c.if-table-lt-TABLES.branch [
+      | then-table-lt-TABLES w ↦ w.digit-is ∙ sym (digit_some _ w.if-table-lt-TABLES.true)
+      | else-table-lt-TABLES w ↦ w.digit-is ∙ sym (digit_none _ w.if-table-lt-TABLES.false)
+    ] in
+    (λ k z. showed_row x (omega arith) c.if-table-lt-TABLES.digit z digit c.requires.2, simp length-set (showed_length x))

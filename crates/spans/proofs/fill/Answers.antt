@@ -17,7 +17,7 @@ unfolding bytes
 table-d-requires c =
     let ns = names_of c.args.text.now c.args.places.now c.args.lists.now c.args.names in
     let t = timing_first ns c.requires.answers.2 c.due-a.ensures c.due-b.ensures in
-    (c.requires.sized, ([], t.0, t.1, record { count = refl; spans = spans_none c.requires.by_index }, t.2))
+    record { sized = c.requires.sized; held = ([], t.0, t.1, record { count = refl; spans = spans_none c.requires.by_index }, t.2) }
 
 pub others-requires : goal.others-requires
 unfolding bytes
@@ -25,10 +25,7 @@ others-requires c =
     let ns = names_of c.args.text.now c.args.places.now c.args.lists.now c.args.names in
     let t = timing_first ns c.requires.answers.2 c.due-a.ensures c.due-b.ensures in
     let w = c.table-d.ensures [] t.0 t.1 (record { count = refl; spans = spans_none c.requires.by_index }) t.2 in
-    let k = c.table-d.auto in (
-      (still_sized c.requires.sized.0 (k.1.1.1.1.1.1.0, k.1.1.1.1.1.1.1.0, k.1.1.1.1.1.1.1.1.0), c.requires.sized.1),
-      (t.0, c.requires.answers.0, c.requires.answers.1, w.1, behind (table ns []) (until "}" (table ns)) (moves_leaves (moves_table ns [])) t.2 t.3 w.0),
-    )
+    let k = c.table-d.auto in record { sized = (still_sized c.requires.sized.0 (k.firsts, k.lasts, k.periods), c.requires.sized.1); held = (t.0, c.requires.answers.0, c.requires.answers.1, w.1, behind (table ns []) (until "}" (table ns)) (moves_leaves (moves_table ns [])) t.2 t.3 w.0) }
 
 pub returns : goal.returns
 unfolding bytes

@@ -18,7 +18,7 @@ table-cursor-requires c =
     let loop = c.loop-cursor in
     let t = loop.invariant.1 p.held.0 p.held.1 p.held.2 p.held.3 p.held.4 in
     let u = turn (moves_table _) t c.until.ensures c.loop-cursor-test.true in
-    ((still_sized p.sized.0 loop.invariant.0, p.sized.1), (t.state, u.0, u.1, t.kept, u.2))
+    record { sized = (still_sized p.sized.0 loop.invariant.0, p.sized.1); held = (t.state, u.0, u.1, t.kept, u.2) }
 
 pub overflow_add-j : goal.overflow_add-j
 unfolding bytes
@@ -40,7 +40,7 @@ unfolding bytes
 loop-cursor-preserved c =
     let loop = c.loop-cursor in
     let k = c.table-cursor.auto in (
-      (k.1.1.1.1.1.1.0 ∙ loop.invariant.0.0, k.1.1.1.1.1.1.1.0 ∙ loop.invariant.0.1, k.1.1.1.1.1.1.1.1.0 ∙ loop.invariant.0.2),
+      (k.firsts ∙ loop.invariant.0.0, k.lasts ∙ loop.invariant.0.1, k.periods ∙ loop.invariant.0.2),
       λ tabs it us h x. again (moves_table _) (loop.invariant.1 tabs it us h x) c.until.ensures c.loop-cursor-test.true c.table-cursor.ensures,
     )
 

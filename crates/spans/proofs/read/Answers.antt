@@ -24,7 +24,7 @@ loop-i-preserved c =
     let r = c.read-n.ensures c.requires.0 c.requires.1 in
     let i = c.loop-i.i in (
       omega arith,
-      through_more _ _ _ i c.loop-i-test.true (omega (arith, r.count, r.few, c.read-n.auto.1.1.1.0)) (omega (arith, r.count, r.few, c.read-n.auto.1.1.1.1.0))
+      through_more _ _ _ i c.loop-i-test.true (omega (arith, r.count, r.few, c.read-n.auto.times)) (omega (arith, r.count, r.few, c.read-n.auto.letters))
           c.loop-i.invariant.1 c.event-x.ensures,
     )
 

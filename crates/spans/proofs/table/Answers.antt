@@ -12,7 +12,7 @@ unfolding bytes
 waveforms-e-requires c =
     let ns = names_of c.args.text.now c.args.places.now c.args.lists.now c.args.names in
     let x = table_parts ns c.requires.held.0 c.requires.held.4 c.due-a.ensures c.name-d.ensures c.head-h.ensures in
-    ((c.requires.sized.0.first, c.requires.sized.0.last, omega (arith, x.few, c.requires.held.3.count), c.requires.sized.1), (x.waves, x.rest, x.read))
+    record { firsts_len = (c.requires.sized.0.first, c.requires.sized.0.last, omega (arith, x.few, c.requires.held.3.count), c.requires.sized.1); answers = (x.waves, x.rest, x.read) }
 
 pub offset_bounds-periods-j : goal.offset_bounds-periods-j
 unfolding bytes

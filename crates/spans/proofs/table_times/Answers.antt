@@ -13,13 +13,13 @@ loop-i-init c = ((omega arith, refl, refl, refl), λ ws x g y z. (upto_none firs
 pub put_slot-requires : goal.put_slot-requires
 put_slot-requires c =
     let loop = c.loop-i in
-    ((c.requires.spots_len.0, loop.invariant.0.1 ∙ c.requires.spots_len.1, loop.invariant.0.2 ∙ c.requires.spots_len.2, loop.invariant.0.3, c.requires.spots_len.3, omega arith), c.requires.spots)
+    record { spots_len = (c.requires.spots_len.0, loop.invariant.0.1 ∙ c.requires.spots_len.1, loop.invariant.0.2 ∙ c.requires.spots_len.2, loop.invariant.0.3, c.requires.spots_len.3, omega arith); spots = c.requires.spots }
 
 pub loop-i-preserved : goal.loop-i-preserved
 loop-i-preserved c =
     let loop = c.loop-i in
     let k = c.put_slot.auto in (
-      (omega arith, k.1.1.1.1.0 ∙ loop.invariant.0.1, k.1.1.1.1.1.0 ∙ loop.invariant.0.2, k.1.1.1.1.1.1.0 ∙ loop.invariant.0.3),
+      (omega arith, k.firsts ∙ loop.invariant.0.1, k.lasts ∙ loop.invariant.0.2, k.owners ∙ loop.invariant.0.3),
       λ ws x g y z. (let u = loop.invariant.1 ws x g y z in c.put_slot.ensures ws _ _ x g y z u.0 u.1),
     )
 

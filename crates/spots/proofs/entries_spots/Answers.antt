@@ -15,7 +15,7 @@ entry_spots-cursor-requires c =
     let p = c.requires.spots in
     let t = c.loop-set.invariant.1 p.0 p.1 p.2 p.3 p.4 in
     let u = turn (moves_entry _) t c.until.ensures c.loop-set-test.true in
-    ((c.loop-set.invariant.0 ∙ c.requires.spots_len.0, c.requires.spots_len.1), (t.state, u.0, u.1, t.kept, u.2))
+    record { spots_len = (c.loop-set.invariant.0 ∙ c.requires.spots_len.0, c.requires.spots_len.1); spots = (t.state, u.0, u.1, t.kept, u.2) }
 
 pub loop-set-smaller : goal.loop-set-smaller
 unfolding bytes
@@ -25,7 +25,7 @@ loop-set-smaller c =
 
 pub loop-set-preserved : goal.loop-set-preserved
 unfolding bytes
-loop-set-preserved c = (c.entry_spots-cursor.auto.1.1.1.0 ∙ c.loop-set.invariant.0, λ ws a us b x. again (moves_entry _) (c.loop-set.invariant.1 ws a us b x) c.until.ensures c.loop-set-test.true c.entry_spots-cursor.ensures)
+loop-set-preserved c = (c.entry_spots-cursor.auto.spots ∙ c.loop-set.invariant.0, λ ws a us b x. again (moves_entry _) (c.loop-set.invariant.1 ws a us b x) c.until.ensures c.loop-set-test.true c.entry_spots-cursor.ensures)
 
 pub shape_of-spots : goal.shape_of-spots
 shape_of-spots c = c.loop-set.invariant.0

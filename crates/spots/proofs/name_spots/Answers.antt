@@ -7,7 +7,7 @@ pub entries_spots-requires : goal.entries_spots-requires
 unfolding bytes
 entries_spots-requires c =
     let p = c.requires.spots in
-    ((c.requires.spots_len.0, name_below c.args.places.now p.0 c.requires.spots_len.1 p.4 c.old_name-old.ensures c.set_at-set.ensures), (p.0, p.1, p.2, p.3, name_entries c.args.places.now p.0 c.args.lists.now c.args.names p.4 c.old_name-old.ensures c.due-d.ensures c.set_at-set.ensures))
+    record { spots_len = (c.requires.spots_len.0, name_below c.args.places.now p.0 c.requires.spots_len.1 p.4 c.old_name-old.ensures c.set_at-set.ensures); spots = (p.0, p.1, p.2, p.3, name_entries c.args.places.now p.0 c.args.lists.now c.args.names p.4 c.old_name-old.ensures c.due-d.ensures c.set_at-set.ensures) }
 
 pub returns : goal.returns
 unfolding bytes

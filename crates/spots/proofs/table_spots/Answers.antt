@@ -15,7 +15,7 @@ name_spots-cursor-requires c =
     let p = c.requires.spots in
     let t = c.loop-spots.invariant.1 p.0 p.1 p.2 p.3 p.4 in
     let u = turn (moves_waveforms _) t c.until.ensures c.loop-spots-test.true in
-    ((c.loop-spots.invariant.0 ∙ c.requires.spots_len.0, c.requires.spots_len.1), (t.state, u.0, u.1, t.kept, u.2))
+    record { spots_len = (c.loop-spots.invariant.0 ∙ c.requires.spots_len.0, c.requires.spots_len.1); spots = (t.state, u.0, u.1, t.kept, u.2) }
 
 pub loop-spots-smaller : goal.loop-spots-smaller
 unfolding bytes
@@ -25,7 +25,7 @@ loop-spots-smaller c =
 
 pub loop-spots-preserved : goal.loop-spots-preserved
 unfolding bytes
-loop-spots-preserved c = (c.name_spots-cursor.auto.1.1.1.1.1.0 ∙ c.loop-spots.invariant.0, λ ws a us b x. again (moves_waveforms _) (c.loop-spots.invariant.1 ws a us b x) c.until.ensures c.loop-spots-test.true c.name_spots-cursor.ensures)
+loop-spots-preserved c = (c.name_spots-cursor.auto.spots ∙ c.loop-spots.invariant.0, λ ws a us b x. again (moves_waveforms _) (c.loop-spots.invariant.1 ws a us b x) c.until.ensures c.loop-spots-test.true c.name_spots-cursor.ensures)
 
 pub shape_of-spots : goal.shape_of-spots
 shape_of-spots c = c.loop-spots.invariant.0

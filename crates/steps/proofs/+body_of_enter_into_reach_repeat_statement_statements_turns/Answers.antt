@@ -4,14 +4,13 @@ use Prim.Native.Nat.{ℕ, ◌+◌, ◌*◌, ◌-◌, ◌<◌}
 use native.Mathlib.Nat.{div-mul-le_self}
 use native.Mathlib.Omega.{arith}
 use mathlib.Core.Path.{refl, sym, ◌∙◌}
-use mathlib.Core.Logic.{⊎_elim}
 use borrow.Author.Tests.{eq-eqb}
 use Rattle.tokens.specs.Tokens.{left}
 use Rattle.meaning.specs.Run.{bare}
 use Rattle.walks.proofs.Loops.{some_cycles, turn_below}
 use Rattle.words.specs.Cursor.{stream}
 use Rattle.assigns.proofs.Table.{gave_zeros}
-use Rattle.plays.specs.Plays.{ground, arrays}
+use Rattle.plays.specs.Plays.{ground_of, arrays}
 use Rattle.plays.proofs.Fitting.{fits_some}
 use Rattle.plays.proofs.Heading.{begins_within}
 use Rattle.plays.proofs.Summing.{summed_empty}
@@ -27,116 +26,18 @@ use Rattle.steps.proofs.Inside.{inside_ready, inside_step, loop_plain, shift_rea
 use Rattle.steps.proofs.Going.{starts, onward_next, fewer, going_next, long_next, gone}
 use Rattle.steps.proofs.Entering.{used_small, used_few, used_size, used_cycles, used_pays, used_into, into_tells, passed_tells, macro_ready, procedure_ready, macro_tells, procedure_tells}
 use Rattle.steps.proofs.+body_of_enter_into_reach_repeat_statement_statements_turns.Goals as goal
-
-abbrev μ-body-of : Measures 5 body-of-kinds.ps ℕ
-μ-body-of κs a = 6 * a.1.1.1.1.1.1.1.1.1.1.0.depth + 5
-
-abbrev μ-enter : Measures 5 enter-kinds.ps ℕ
-μ-enter κs a = 6 * a.1.1.1.1.1.1.1.1.1.0.depth + 1
-
-abbrev μ-into : Measures 5 into-kinds.ps ℕ
-μ-into κs a = 6 * a.1.1.1.1.1.1.1.1.1.0.depth
-
-abbrev μ-reach : Measures 5 reach-kinds.ps ℕ
-μ-reach κs a = 6 * a.1.1.1.1.1.1.1.1.1.1.0.depth + 1
-
-abbrev μ-repeat : Measures 5 repeat-kinds.ps ℕ
-μ-repeat κs a = 6 * a.1.1.1.1.1.1.1.1.1.1.0.depth + 2
-
-abbrev μ-statement : Measures 5 statement-kinds.ps ℕ
-μ-statement κs a = 6 * a.1.1.1.1.1.1.1.1.1.1.0.depth + 3
-
-abbrev μ-statements : Measures 5 statements-kinds.ps ℕ
-μ-statements κs a = 6 * a.1.1.1.1.1.1.1.1.1.1.0.depth + 4
-
-abbrev μ-turns : Measures 5 turns-kinds.ps ℕ
-μ-turns κs a = 6 * a.1.1.1.1.1.1.1.1.1.1.0.depth
-
-abbrev body_of_at : ℕ → In 5 body-of-kinds.ps
-body_of_at t = and 5 body-of-kinds.ps (is 5 body-of-kinds.ps μ-body-of t) body_of.Pre
-
-abbrev body_of_below : ℕ → In 5 body-of-kinds.ps
-body_of_below t = and 5 body-of-kinds.ps (falls 5 body-of-kinds.ps ◌<◌ μ-body-of t) body_of.Pre
-
-abbrev enter_at : ℕ → In 5 enter-kinds.ps
-enter_at t = and 5 enter-kinds.ps (is 5 enter-kinds.ps μ-enter t) enter.Pre
-
-abbrev enter_below : ℕ → In 5 enter-kinds.ps
-enter_below t = and 5 enter-kinds.ps (falls 5 enter-kinds.ps ◌<◌ μ-enter t) enter.Pre
-
-abbrev into_at : ℕ → In 5 into-kinds.ps
-into_at t = and 5 into-kinds.ps (is 5 into-kinds.ps μ-into t) into.Pre
-
-abbrev into_below : ℕ → In 5 into-kinds.ps
-into_below t = and 5 into-kinds.ps (falls 5 into-kinds.ps ◌<◌ μ-into t) into.Pre
-
-abbrev reach_at : ℕ → In 5 reach-kinds.ps
-reach_at t = and 5 reach-kinds.ps (is 5 reach-kinds.ps μ-reach t) reach.Pre
-
-abbrev reach_below : ℕ → In 5 reach-kinds.ps
-reach_below t = and 5 reach-kinds.ps (falls 5 reach-kinds.ps ◌<◌ μ-reach t) reach.Pre
-
-abbrev repeat_at : ℕ → In 5 repeat-kinds.ps
-repeat_at t = and 5 repeat-kinds.ps (is 5 repeat-kinds.ps μ-repeat t) repeat.Pre
-
-abbrev repeat_below : ℕ → In 5 repeat-kinds.ps
-repeat_below t = and 5 repeat-kinds.ps (falls 5 repeat-kinds.ps ◌<◌ μ-repeat t) repeat.Pre
-
-abbrev statement_at : ℕ → In 5 statement-kinds.ps
-statement_at t = and 5 statement-kinds.ps (is 5 statement-kinds.ps μ-statement t) statement'.Pre
-
-abbrev statement_below : ℕ → In 5 statement-kinds.ps
-statement_below t =
-    and 5 statement-kinds.ps (falls 5 statement-kinds.ps ◌<◌ μ-statement t) statement'.Pre
-
-abbrev statements_at : ℕ → In 5 statements-kinds.ps
-statements_at t =
-    and 5 statements-kinds.ps (is 5 statements-kinds.ps μ-statements t) statements.Pre
-
-abbrev statements_below : ℕ → In 5 statements-kinds.ps
-statements_below t =
-    and 5 statements-kinds.ps (falls 5 statements-kinds.ps ◌<◌ μ-statements t) statements.Pre
-
-abbrev turns_at : ℕ → In 5 turns-kinds.ps
-turns_at t = and 5 turns-kinds.ps (is 5 turns-kinds.ps μ-turns t) turns.Pre
-
-abbrev turns_below : ℕ → In 5 turns-kinds.ps
-turns_below t = and 5 turns-kinds.ps (falls 5 turns-kinds.ps ◌<◌ μ-turns t) turns.Pre
-
-abbrev body_of_calls : ℕ → body-of-lts.Claims
-body_of_calls t = (cursor-at-reads.Asked, cursor-at-reads.Learnt, statements_below t, statements.Post)
-
-abbrev enter_calls : ℕ → enter-lts.Claims
-enter_calls t = (measure-at-reads.Asked, measure-at-reads.Learnt, spend-reads.Asked, spend-reads.Learnt, into_below t, into.Post, once-reads.Asked, once-reads.Learnt, enter-reads.Asked, enter-reads.Learnt, past-reads.Asked, past-reads.Learnt)
-
-abbrev into_calls : ℕ → into-lts.Claims
-into_calls t = (start-at-reads.Asked, start-at-reads.Learnt, body_of_below t, body_of.Post, leave-reads.Asked, leave-reads.Learnt, come-back-reads.Asked, come-back-reads.Learnt)
-
-abbrev reach_calls : ℕ → reach-lts.Claims
-reach_calls t = (measure-reads.Asked, measure-reads.Learnt, spend-reads.Asked, spend-reads.Learnt, once-reads.Asked, once-reads.Learnt, turns-reads.Asked, turns-reads.Learnt, past-reads.Asked, past-reads.Learnt, turns_below t, turns.Post)
-
-abbrev repeat_calls : ℕ → repeat-lts.Claims
-repeat_calls t = (reach_below t, reach.Post, turns_below t, turns.Post)
-
-abbrev statement_calls : ℕ → statement-lts.Claims
-statement_calls t = (head-reads.Asked, head-reads.Learnt, put_reads.Asked, put_reads.Learnt, cycle-reads.Asked, cycle-reads.Learnt, gone-reads.Asked, gone-reads.Learnt, spend-reads.Asked, spend-reads.Learnt, repeat_below t, repeat.Post, shift-reads.Asked, shift-reads.Learnt, supply-reads.Asked, supply-reads.Learnt, enter_below t, enter.Post)
-
-abbrev statements_calls : ℕ → statements-lts.Claims
-statements_calls t = (statement_below t, statement'.Post, over_reads.Asked, over_reads.Learnt)
-
-abbrev turns_calls : ℕ → turns-lts.Claims
-turns_calls t = (keep-reads.Asked, keep-reads.Learnt, statements_below t, statements.Post, over_reads.Asked, over_reads.Learnt, same-pins-reads.Asked, same-pins-reads.Learnt, repeated-reads.Asked, repeated-reads.Learnt)
+use Rattle.steps.proofs.+body_of_enter_into_reach_repeat_statement_statements_turns.Goals.{reach-Joined-j-gt0, reach-then-j-gt0, reach-else-j-gt0}
 
 pub body_of-overflow_sub-text : goal.body_of-overflow_sub-text
 body_of-overflow_sub-text t c =
     let pre' = c.requires in
-    omega (arith, pre'.1.0)
+    omega (arith, pre'.0)
 
 pub body_of-statements-requires : goal.body_of-statements-requires
 body_of-statements-requires t c =
     let pre' = c.requires in
     let cursor-at' = c.cursor_at-c in
-    (omega (arith, pre'.0), (eq-eqb _ 0 cursor-at'.ensures.on, rw cursor-at'.ensures.there pre'.1.1))
+    (omega (arith, c.decreases), (eq-eqb _ 0 cursor-at'.ensures.on, rw cursor-at'.ensures.there pre'.1))
 
 pub body_of-returns : goal.body_of-returns
 body_of-returns t c =
@@ -147,34 +48,34 @@ body_of-returns t c =
 pub enter-measure_at-m-requires : goal.enter-measure_at-m-requires
 enter-measure_at-m-requires t c =
     let pre' = c.requires in
-    let use' = pre'.1.used.use' in
+    let use' = pre'.used.use' in
     (use'.holding.describes.book_long, omega (arith, use'.declared))
 
 pub enter-overflow_add-m : goal.enter-overflow_add-m
 enter-overflow_add-m t c =
     let pre' = c.requires in
     let measure-at' = c.measure_at-m in
-    let u = pre'.1.used in
+    let u = pre'.used in
     omega (arith, used_size u measure-at'.ensures, used_small u measure-at'.ensures)
 
 pub enter-spend-w-requires : goal.enter-spend-w-requires
 enter-spend-w-requires t c =
     let pre' = c.requires in
     let measure-at' = c.measure_at-m in
-    λ e. omega (arith, used_pays pre'.1.used measure-at'.ensures e)
+    λ e. omega (arith, used_pays pre'.used measure-at'.ensures e)
 
 pub enter-overflow_mul-cycles : goal.enter-overflow_mul-cycles
 enter-overflow_mul-cycles t c =
     let pre' = c.requires in
     let measure-at' = c.measure_at-m in
-    let u = pre'.1.used in
+    let u = pre'.used in
     omega (arith, used_cycles u measure-at'.ensures, used_few u measure-at'.ensures)
 
 pub enter-overflow_add-cycles : goal.enter-overflow_add-cycles
 enter-overflow_add-cycles t c =
     let pre' = c.requires in
     let measure-at' = c.measure_at-m in
-    let u = pre'.1.used in
+    let u = pre'.used in
     omega (arith, used_cycles u measure-at'.ensures, used_few u measure-at'.ensures)
 
 pub enter-into-requires : goal.enter-into-requires
@@ -183,8 +84,8 @@ enter-into-requires t c =
     let measure-at' = c.measure_at-m in
     let spend' = c.spend-w in
     let if1' = c.if-w-cycles in
-    let stood = pre'.1 in (
-      omega (arith, pre'.0),
+    let stood = pre' in (
+      omega (arith, c.decreases),
       rw spend'.ensures (record {
         env = stood.env;
         body = stood.body;
@@ -210,11 +111,11 @@ enter-returns-then-w-cycles t c =
       tells = λ E b us a s u. into_tells u measure-at'.ensures within (v.tells E b us a s (used_into u measure-at'.ensures within));
     }
 
-pub enter-r-requires : goal.enter-r-requires
-enter-r-requires t c =
+pub enter-enter-r-requires : goal.enter-enter-r-requires
+enter-enter-r-requires t c =
     let pre' = c.requires in
     let once' = c.once in
-    let stood = pre'.1 in
+    let stood = pre' in
     rw once'.ensures (record {
       env = stood.env;
       body = stood.body;
@@ -242,32 +143,32 @@ enter-returns t c =
     let v = rw once'.ensures at enter'.ensures in
     record {
       kept = v.kept;
-      tells = λ E b us a s u. passed_tells u measure-at'.ensures enter'.result _ (rw spend'.ensures at if1'.false) pre'.1.going
+      tells = λ E b us a s u. passed_tells u measure-at'.ensures enter'.result _ (rw spend'.ensures at if1'.false) pre'.going
           (rw spend'.ensures at past'.ensures) (v.told E b us a s u.use' (summed_empty _ E));
     }
 
 pub into-overflow_sub-inner : goal.into-overflow_sub-inner
 into-overflow_sub-inner t c =
     let pre' = c.requires in
-    omega (arith, pre'.1.into.use'.some_more)
+    omega (arith, pre'.into.use'.some_more)
 
 pub into-overflow_add-inner : goal.into-overflow_add-inner
 into-overflow_add-inner t c =
     let pre' = c.requires in
-    omega (arith, pre'.1.into.use'.fits.levels)
+    omega (arith, pre'.into.use'.fits.levels)
 
 pub into-slice_bounds-body-count : goal.into-slice_bounds-body-count
 into-slice_bounds-body-count t c =
     let pre' = c.requires in
     let start-at' = c.start_at-start in
-    let u = pre'.1.into.use' in
+    let u = pre'.into.use' in
     omega (arith, start-at'.ensures (omega (arith, u.declared)), begins_within _ _ _ _ _ u.holds)
 
 pub into-slice_bounds-body-start : goal.into-slice_bounds-body-start
 into-slice_bounds-body-start t c =
     let pre' = c.requires in
     let start-at' = c.start_at-start in
-    let u = pre'.1.into.use' in
+    let u = pre'.into.use' in
     omega (arith, start-at'.ensures (omega (arith, u.declared)), begins_within _ _ _ _ _ u.holds)
 
 pub into-body_of-requires : goal.into-body_of-requires
@@ -276,11 +177,11 @@ into-body_of-requires t c =
     let args' = c.args in
     let start-at' = c.start_at-start in
     let if1' = c.if-i-lt-PROCEDURES in
-    let stood = pre'.1 in
+    let stood = pre' in
     let u = stood.into.use' in
     let at = start-at'.ensures (omega (arith, u.declared)) in
     let within = begins_within _ _ _ _ _ u.holds in (
-      omega (arith, pre'.0, u.some_more),
+      omega (arith, c.decreases, u.some_more),
       (
         part_within args'.text.now start-at'.result _ at within,
         rw (part_begins args'.text.now start-at'.result _ at within) (record {
@@ -303,7 +204,7 @@ into-returns-then-i-lt-PROCEDURES t c =
     let start-at' = c.start_at-start in
     let if1' = c.if-i-lt-PROCEDURES in
     let body-of' = c.body_of in
-    let u = pre'.1.into.use' in
+    let u = pre'.into.use' in
     let at = start-at'.ensures (omega (arith, u.declared)) in
     let p = rw (part_begins args'.text.now start-at'.result _ at (begins_within _ _ _ _ _ u.holds)) at body-of'.ensures in
     let kind = kind_macro _ if1'.true in
@@ -315,7 +216,7 @@ into-returns-then-i-lt-PROCEDURES t c =
 pub into-leave-requires : goal.into-leave-requires
 into-leave-requires t c =
     let pre' = c.requires in
-    let stood = pre'.1 in
+    let stood = pre' in
     (stood.sized.roomy.values_long, omega (arith, stood.into.use'.fits.levels))
 
 pub into-body_of-r-requires : goal.into-body_of-r-requires
@@ -325,11 +226,11 @@ into-body_of-r-requires t c =
     let start-at' = c.start_at-start in
     let if1' = c.if-i-lt-PROCEDURES in
     let leave' = c.leave in
-    let stood = pre'.1 in
+    let stood = pre' in
     let u = stood.into.use' in
     let at = start-at'.ensures (omega (arith, u.declared)) in
     let within = begins_within _ _ _ _ _ u.holds in (
-      omega (arith, pre'.0, u.some_more),
+      omega (arith, c.decreases, u.some_more),
       (
         part_within args'.text.now start-at'.result _ at within,
         rw (part_begins args'.text.now start-at'.result _ at within) (record {
@@ -350,7 +251,7 @@ into-come_back-requires t c =
     let pre' = c.requires in
     let leave' = c.leave in
     let body-of2' = c.body_of-r in
-    let stood = pre'.1 in
+    let stood = pre' in
     (body-of2'.ensures.kept.values_long ∙ leave'.ensures.long ∙ stood.sized.roomy.values_long, omega (arith, stood.into.use'.fits.levels))
 
 pub into-returns : goal.into-returns
@@ -362,8 +263,8 @@ into-returns t c =
     let leave' = c.leave in
     let body-of2' = c.body_of-r in
     let come-back' = c.come_back in
-    let sized = pre'.1.sized in
-    let u = pre'.1.into.use' in
+    let sized = pre'.sized in
+    let u = pre'.into.use' in
     let at = start-at'.ensures (omega (arith, u.declared)) in
     let l = leave'.ensures in
     let p = rw (part_begins args'.text.now start-at'.result _ at (begins_within _ _ _ _ _ u.holds)) at body-of2'.ensures in
@@ -375,60 +276,60 @@ into-returns t c =
     }
 
 -- where the turns begin: with the first, or behind it
-reach-begun : (t : ℕ) (c : reach-lts.Joined2 (reach_calls t) (reach_at t) reach.Post)
-    → let a = c.before.before.before.before.before.before.before.before.before.before.before.before.before.before.before.before.before.before.before.before.before.before.before.before.before.before.before.args in
-    let m = c.before.before.before.before.before.before.before.before.before.before.before.before.before.measure in
-    Begun (ground a.text.now a.places.now a.lists.now a.tplaces.now a.book.now a.rows.now a.waves.now a.known a.signals) (stream a.text.now a.c)
-    (a.frame.depth - 1) a.frame.level a.table a.frame.turns a.n m.result.measure.cycles (arrays a.values.now a.feeds.now m.new.1.1.1.1.1.1.1.1.1.1.0) (spent a.walk (m.result.measure.size + 1))
-    c.if2.chosen (arrays c.if2.values c.if2.feeds c.if2.args)
+reach-begun : (t : ℕ) (c : reach-Joined-j-gt0 t)
+    → Begun (ground_of c.args.text.now c.args.places.now c.args.lists.now c.args.tplaces.now c.args.book.now c.args.rows.now c.args.waves.now c.args.known c.args.signals) (stream c.args.text.now c.args.c)
+    (c.args.frame.depth - 1) c.args.frame.level c.args.table c.args.frame.turns c.args.n c.measure-m.result.measure.cycles (arrays c.args.values.now c.args.feeds.now c.measure-m.new.args) (spent c.args.walk (c.measure-m.result.measure.size + 1))
+    c.if-j-gt0.chosen (arrays c.if-j-gt0.values c.if-j-gt0.feeds c.if-j-gt0.args)
 reach-begun t c =
-    let spend' = c.before.before.before.before.before.before.before.before.spend in
-    ⊎_elim
-    (λ w. rw (w.14, w.15, w.16, w.17) (begun_later (omega (arith, rw spend'.ensures at w.0.taken)) (rw w.3.ensures at w.7.ensures)))
-    (λ w. rw (w.1, w.2, w.3, w.4) (begun_first (omega (arith, rw spend'.ensures at w.0.left))))
-    c.if2.branch
+    elim c.if-j-gt0.branch [
+      | reach-then-j-gt0 w ↦
+          rw (w.chosen-is, w.values-is, w.feeds-is, w.args-is)
+          (begun_later (omega (arith, rw c.spend-w.ensures at w.if-j-gt0.true)) (rw w.once-then-j-gt0.ensures at w.turns-first.ensures))
+      | reach-else-j-gt0 w ↦
+          rw (w.chosen-is, w.values-is, w.feeds-is, w.args-is) (begun_first (omega (arith, rw c.spend-w.ensures at w.if-j-gt0.false)))
+    ]
 
 pub reach-overflow_sub-frame : goal.reach-overflow_sub-frame
 reach-overflow_sub-frame t c =
     let pre' = c.requires in
-    omega (arith, pre'.1.2)
+    omega (arith, pre'.2)
 
 pub reach-measure-m-requires : goal.reach-measure-m-requires
 reach-measure-m-requires t c =
     let pre' = c.requires in
-    (pre'.1.0, pre'.1.3.sized.args_long, loop_stood pre'.1.3)
+    (pre'.0, pre'.3.sized.args_long, loop_stood pre'.3)
 
 pub reach-overflow_add-measure : goal.reach-overflow_add-measure
 reach-overflow_add-measure t c =
     let pre' = c.requires in
     let measure' = c.measure-m in
-    omega (arith, reach_small pre'.1.3 pre'.1.1 measure'.ensures.1)
+    omega (arith, reach_small pre'.3 pre'.1 measure'.ensures.1)
 
 pub reach-spend-w-requires : goal.reach-spend-w-requires
 reach-spend-w-requires t c =
     let pre' = c.requires in
     let measure' = c.measure-m in
-    reach_pays pre'.1.3 pre'.1.1 measure'.ensures.1
+    reach_pays pre'.3 pre'.1 measure'.ensures.1
 
 pub reach-overflow_mul-all : goal.reach-overflow_mul-all
 reach-overflow_mul-all t c =
     let pre' = c.requires in
     let measure' = c.measure-m in
-    omega (arith, reach_few pre'.1.3 pre'.1.1 measure'.ensures.1)
+    omega (arith, reach_few pre'.3 pre'.1 measure'.ensures.1)
 
 pub reach-turns-r-requires : goal.reach-turns-r-requires
 reach-turns-r-requires t c =
     let once' = c.once in
     let pre' = c.requires in
     let measure' = c.measure-m in
-    rw once'.ensures (pre'.1.0, pre'.1.1, pre'.1.2, reach_played pre'.1.3 pre'.1.1 measure'.ensures.1 measure'.ensures.0)
+    rw once'.ensures (pre'.0, pre'.1, pre'.2, reach_played pre'.3 pre'.1 measure'.ensures.1 measure'.ensures.0)
 
 pub reach-shape_of-args-then-all-w : goal.reach-shape_of-args-then-all-w
 reach-shape_of-args-then-all-w t c =
     let turns' = c.turns-r in
     let measure' = c.measure-m in
     let pre' = c.requires in
-    turns'.ensures.kept.args_long ∙ measure'.ensures.0 ∙ sym pre'.1.3.sized.args_long
+    turns'.ensures.kept.args_long ∙ measure'.ensures.0 ∙ sym pre'.3.sized.args_long
 
 pub reach-returns-then-all-w : goal.reach-returns-then-all-w
 reach-returns-then-all-w t c =
@@ -440,7 +341,7 @@ reach-returns-then-all-w t c =
     let once' = c.once in
     let turns' = c.turns-r in
     rw (past'.ensures, spend'.ensures)
-    (reach_passed pre'.1.3 pre'.1.1 measure'.ensures.1 measure'.ensures.0 (rw spend'.ensures at if1'.true) (rw once'.ensures at turns'.ensures))
+    (reach_passed pre'.3 pre'.1 measure'.ensures.1 measure'.ensures.0 (rw spend'.ensures at if1'.true) (rw once'.ensures at turns'.ensures))
 
 pub reach-nonzero_div-j : goal.reach-nonzero_div-j
 reach-nonzero_div-j t c =
@@ -457,7 +358,7 @@ reach-overflow_mul-j t c =
     let measure' = c.measure-m in
     let if1' = c.if-all-w in
     let pre' = c.requires in
-    rw spend'.ensures (omega (arith, div-mul-le_self args'.walk.pass measure'.result.measure.cycles, (rw spend'.ensures at if1'.false), reach_few pre'.1.3 pre'.1.1 measure'.ensures.1))
+    rw spend'.ensures (omega (arith, div-mul-le_self args'.walk.pass measure'.result.measure.cycles, (rw spend'.ensures at if1'.false), reach_few pre'.3 pre'.1 measure'.ensures.1))
 
 pub reach-past-x-requires : goal.reach-past-x-requires
 reach-past-x-requires t c =
@@ -471,7 +372,7 @@ reach-turns-first-requires t c =
     let once2' = c.once-then-j-gt0 in
     let pre' = c.requires in
     let measure' = c.measure-m in
-    rw once2'.ensures (pre'.1.0, pre'.1.1, pre'.1.2, reach_played pre'.1.3 pre'.1.1 measure'.ensures.1 measure'.ensures.0)
+    rw once2'.ensures (pre'.0, pre'.1, pre'.2, reach_played pre'.3 pre'.1 measure'.ensures.1 measure'.ensures.0)
 
 pub reach-overflow_sub-n : goal.reach-overflow_sub-n
 reach-overflow_sub-n t c =
@@ -488,24 +389,24 @@ reach-turns-requires t c =
     let spend' = c.spend-w in
     let measure' = c.measure-m in
     let if1' = c.if-all-w in
-    (omega (arith, pre'.0), rw (past2'.ensures, spend'.ensures) (pre'.1.0, pre'.1.2, reach_stood pre'.1.3 pre'.1.1 measure'.ensures.1 measure'.ensures.0 (rw spend'.ensures at if1'.false) (reach-begun t c.before.before.before.before)))
+    (omega (arith, c.decreases), rw (past2'.ensures, spend'.ensures) (pre'.0, pre'.2, reach_stood pre'.3 pre'.1 measure'.ensures.1 measure'.ensures.0 (rw spend'.ensures at if1'.false) (reach-begun t (goal.at.reach-turns-requires t c).Joined-j-gt0)))
 
 pub reach-shape_of-values : goal.reach-shape_of-values
 reach-shape_of-values t c =
     let turns3' = c.turns in
-    turns3'.ensures.kept.values_long ∙ (reach-begun t c.before.before.before.before.before.before.before.before.before.before.before.before.before).kept.values_long
+    turns3'.ensures.kept.values_long ∙ (reach-begun t (goal.at.reach-shape_of-values t c).Joined-j-gt0).kept.values_long
 
 pub reach-shape_of-feeds : goal.reach-shape_of-feeds
 reach-shape_of-feeds t c =
     let turns3' = c.turns in
-    turns3'.ensures.kept.feeds_long ∙ (reach-begun t c.before.before.before.before.before.before.before.before.before.before.before.before.before).kept.feeds_long
+    turns3'.ensures.kept.feeds_long ∙ (reach-begun t (goal.at.reach-shape_of-feeds t c).Joined-j-gt0).kept.feeds_long
 
 pub reach-shape_of-args : goal.reach-shape_of-args
 reach-shape_of-args t c =
     let turns3' = c.turns in
     let measure' = c.measure-m in
     let pre' = c.requires in
-    turns3'.ensures.kept.args_long ∙ (reach-begun t c.before.before.before.before.before.before.before.before.before.before.before.before.before).kept.args_long ∙ measure'.ensures.0 ∙ sym pre'.1.3.sized.args_long
+    turns3'.ensures.kept.args_long ∙ (reach-begun t (goal.at.reach-shape_of-args t c).Joined-j-gt0).kept.args_long ∙ measure'.ensures.0 ∙ sym pre'.3.sized.args_long
 
 pub reach-returns : goal.reach-returns
 reach-returns t c =
@@ -515,12 +416,12 @@ reach-returns t c =
     let if1' = c.if-all-w in
     let past2' = c.past-x in
     let turns3' = c.turns in
-    reach_entered pre'.1.3 pre'.1.1 measure'.ensures.1 measure'.ensures.0 (rw spend'.ensures at if1'.false) (reach-begun t c.before.before.before.before.before.before.before.before.before.before.before.before.before) (rw (past2'.ensures, spend'.ensures) at turns3'.ensures)
+    reach_entered pre'.3 pre'.1 measure'.ensures.1 measure'.ensures.0 (rw spend'.ensures at if1'.false) (reach-begun t (goal.at.reach-returns t c).Joined-j-gt0) (rw (past2'.ensures, spend'.ensures) at turns3'.ensures)
 
 pub repeat-reach-requires : goal.repeat-reach-requires
 repeat-reach-requires t c =
     let pre' = c.requires in
-    (omega (arith, pre'.0), pre'.1)
+    (omega (arith, c.decreases), pre')
 
 pub repeat-returns-then-walk : goal.repeat-returns-then-walk
 repeat-returns-then-walk t c =
@@ -531,87 +432,68 @@ pub repeat-turns-requires : goal.repeat-turns-requires
 repeat-turns-requires t c =
     let pre' = c.requires in
     let if1' = c.if-walk in
-    (omega (arith, pre'.0), (pre'.1.0, pre'.1.2, shown_stood pre'.1.3 pre'.1.1 if1'.false))
+    (omega (arith, c.decreases), (pre'.0, pre'.2, shown_stood pre'.3 pre'.1 if1'.false))
 
 pub repeat-returns : goal.repeat-returns
 repeat-returns t c =
     let pre' = c.requires in
     let if1' = c.if-walk in
     let turns' = c.turns in
-    shown_looped pre'.1.3 pre'.1.1 if1'.false turns'.ensures
+    shown_looped pre'.3 pre'.1 if1'.false turns'.ensures
 
 pub statement-head-h-requires : goal.statement-head-h-requires
 statement-head-h-requires t c =
     let pre' = c.requires in
-    let stood = pre'.1.1 in
+    let stood = pre'.1 in
     (record { env = stood.env; describes = stood.standing.holding.describes }, (omega arith), gave_zeros, stood.sized.args_long)
-
-pub statement-enum_told-1 : goal.statement-enum_told-1
-statement-enum_told-1 t c = c.in-Ends.keys1
-
-pub statement-enum_known-what : goal.statement-enum_known-what
-statement-enum_known-what t c = c.in-Vector.keys2
 
 pub statement-put-requires : goal.statement-put-requires
 statement-put-requires t c =
     let pre' = c.requires in
     let head' = c.head-h in
-    (pre'.1.1.sized.roomy, head'.ensures.0)
+    (pre'.1.sized.roomy, head'.ensures.0)
 
 pub statement-cycle-requires : goal.statement-cycle-requires
 statement-cycle-requires t c =
     let pre' = c.requires in
     let head' = c.head-h in
-    let what' = c.what-1 in
     let put' = c.put in
-    let stood = pre'.1.1 in
+    let stood = pre'.1 in
     let st = stood.standing in
     let roomy = stood.sized.roomy in
-    let pays = vector_pays st pre'.1.0 _ _ _ (head'.ensures.2 stood.env st.holding.describes) stood.ready _ what'.given.1 in
+    let pays = vector_pays st pre'.0 _ _ _ (head'.ensures.2 stood.env st.holding.describes) stood.ready _ c.in-Vector.is in
     (roomy.few, put'.ensures.0.values_long ∙ roomy.values_long, stood.going, pays)
-
-pub statement-enum_told-in-Assigns : goal.statement-enum_told-in-Assigns
-statement-enum_told-in-Assigns t c = c.in-Assigns.keys3
 
 pub statement-put-requires-in-Assigns : goal.statement-put-requires-in-Assigns
 statement-put-requires-in-Assigns t c =
     let pre' = c.requires in
     let head' = c.head-h in
-    (pre'.1.1.sized.roomy, head'.ensures.0)
+    (pre'.1.sized.roomy, head'.ensures.0)
 
 pub statement-spend-requires : goal.statement-spend-requires
 statement-spend-requires t c =
     let pre' = c.requires in
     let head' = c.head-h in
-    let enum-told2' = c.enum_told-in-Assigns-1 in
-    let stood = pre'.1.1 in
+    let stood = pre'.1 in
     let st = stood.standing in
-    assigns_pays st pre'.1.0 _ _ _ (head'.ensures.2 stood.env st.holding.describes) stood.ready enum-told2'.given.1
-
-pub statement-enum_known-what-in-Chooses-1 : goal.statement-enum_known-what-in-Chooses-1
-statement-enum_known-what-in-Chooses-1 t c = c.in-Chooses.keys4
+    assigns_pays st pre'.0 _ _ _ (head'.ensures.2 stood.env st.holding.describes) stood.ready c.in-Assigns.is
 
 pub statement-spend-requires-in-Chooses : goal.statement-spend-requires-in-Chooses
 statement-spend-requires-in-Chooses t c =
     let pre' = c.requires in
     let head' = c.head-h in
-    let what2' = c.what-in-Chooses-1 in
-    let stood = pre'.1.1 in
+    let stood = pre'.1 in
     let st = stood.standing in
-    chooses_pays st pre'.1.0 _ _ _ (head'.ensures.2 stood.env st.holding.describes) stood.ready _ what2'.given.1
-
-pub statement-enum_known-what-in-Loops-1 : goal.statement-enum_known-what-in-Loops-1
-statement-enum_known-what-in-Loops-1 t c = c.in-Loops.keys5
+    chooses_pays st pre'.0 _ _ _ (head'.ensures.2 stood.env st.holding.describes) stood.ready _ c.in-Chooses.is
 
 pub statement-repeat-requires : goal.statement-repeat-requires
 statement-repeat-requires t c =
     let pre' = c.requires in
     let head' = c.head-h in
-    let what3' = c.what-in-Loops-1 in
-    let stood = pre'.1.1 in
+    let stood = pre'.1 in
     let st = stood.standing in
-    let i = in_loop st pre'.1.0 _ _ _ (head'.ensures.2 stood.env st.holding.describes) _ what3'.given.1 in (
-      omega (arith, pre'.0),
+    let i = in_loop st pre'.0 _ _ _ (head'.ensures.2 stood.env st.holding.describes) _ c.in-Loops.is in (
+      omega (arith, c.decreases),
       (
         i.1.on,
         i.0,
@@ -630,17 +512,13 @@ statement-repeat-requires t c =
       ),
     )
 
-pub statement-enum_told-in-Shifts : goal.statement-enum_told-in-Shifts
-statement-enum_told-in-Shifts t c = c.in-Shifts.keys6
-
 pub statement-shift-requires : goal.statement-shift-requires
 statement-shift-requires t c =
     let pre' = c.requires in
     let head' = c.head-h in
-    let enum-told3' = c.enum_told-in-Shifts-1 in
-    let stood = pre'.1.1 in
+    let stood = pre'.1 in
     let st = stood.standing in
-    let i = in_shift_lem st pre'.1.0 _ _ _ (head'.ensures.2 stood.env st.holding.describes) enum-told3'.given.1 in (
+    let i = in_shift_lem st pre'.0 _ _ _ (head'.ensures.2 stood.env st.holding.describes) c.in-Shifts.is in (
       i.on,
       record {
         env = stood.env;
@@ -655,43 +533,38 @@ statement-shift-requires t c =
       },
     )
 
-pub statement-enum_known-what-in-Uses-1 : goal.statement-enum_known-what-in-Uses-1
-statement-enum_known-what-in-Uses-1 t c = c.in-Uses.keys7
-
 pub statement-overflow_add-frame : goal.statement-overflow_add-frame
 statement-overflow_add-frame t c =
     let pre' = c.requires in
-    omega (arith, pre'.1.1.sized.roomy.inside_levels)
+    omega (arith, pre'.1.sized.roomy.inside_levels)
 
 pub statement-supply-requires : goal.statement-supply-requires
 statement-supply-requires t c =
     let pre' = c.requires in
     let head' = c.head-h in
-    let what4' = c.what-in-Uses-1 in
-    let stood = pre'.1.1 in
+    let stood = pre'.1 in
     let st = stood.standing in
-    let d = called st pre'.1.0 _ _ _ (head'.ensures.2 stood.env st.holding.describes) _ _ what4'.given.1 in
+    let d = called st pre'.0 _ _ _ (head'.ensures.2 stood.env st.holding.describes) _ _ c.in-Uses.is in
     (head'.ensures.0, head'.ensures.1, stood.sized.roomy.feeds_long, omega (arith, d.body_fits.levels))
 
 pub statement-enter-r-requires : goal.statement-enter-r-requires
 statement-enter-r-requires t c =
     let pre' = c.requires in
     let head' = c.head-h in
-    let what4' = c.what-in-Uses-1 in
     let supply' = c.supply in
-    let stood = pre'.1.1 in
+    let stood = pre'.1 in
     let st = stood.standing in
     let m = head'.ensures.2 stood.env st.holding.describes in
-    let d = called st pre'.1.0 _ _ _ m _ _ what4'.given.1 in
+    let d = called st pre'.0 _ _ _ m _ _ c.in-Uses.is in
     let f = supply'.ensures in (
-      omega (arith, pre'.0),
+      omega (arith, c.decreases),
       record {
         env = stood.env;
         body = d.body;
         rest = d.after;
         arguments = d.arguments;
         state = stood.state;
-        used = called_use d (called_using st d (shows_supplied st.shows f.1) (f.2 _ _ d.supplied)) (called_measured d st pre'.1.0 m what4'.given.1) stood.ready;
+        used = called_use d (called_using st d (shows_supplied st.shows f.1) (f.2 _ _ d.supplied)) (called_measured d st pre'.0 m c.in-Uses.is) stood.ready;
         sized = sized_kept stood.sized (kept_supplied stood.sized head'.ensures.1 f.0 f.1);
         going = stood.going;
       },
@@ -703,75 +576,71 @@ statement-returns-in-Ends t c =
     let head' = c.head-h in
     let h = head'.ensures in
     record {
-      kept = kept_args pre'.1.1.sized h.1;
-      steps = λ E b us s st ready. ends_step st pre'.1.0 _ _ _ (h.2 E st.holding.describes) pre'.1.1.going c.in-Ends.is st.shows;
+      kept = kept_args pre'.1.sized h.1;
+      steps = λ E b us s st ready. ends_step st pre'.0 _ _ _ (h.2 E st.holding.describes) pre'.1.going c.in-Ends.is st.shows;
     }
 
 pub statement-shape_of-args-in-Vector : goal.statement-shape_of-args-in-Vector
 statement-shape_of-args-in-Vector t c =
     let pre' = c.requires in
     let head' = c.head-h in
-    head'.ensures.1 ∙ sym pre'.1.1.sized.args_long
+    head'.ensures.1 ∙ sym pre'.1.sized.args_long
 
 pub statement-returns-in-Vector : goal.statement-returns-in-Vector
 statement-returns-in-Vector t c =
     let pre' = c.requires in
     let head' = c.head-h in
-    let what' = c.what-1 in
     let put' = c.put in
     let cycle' = c.cycle in
     let h = head'.ensures in
     let v = put'.ensures in
     rw c.gone.ensures (record {
-      kept = kept_others pre'.1.1.sized v.0 h.1;
+      kept = kept_others pre'.1.sized v.0 h.1;
       steps = λ E b us s st ready.
-          vector_step st pre'.1.0 _ _ _ (h.2 E st.holding.describes) pre'.1.1.going _ what'.given.1 v.1 cycle'.ensures;
+          vector_step st pre'.0 _ _ _ (h.2 E st.holding.describes) pre'.1.going _ c.in-Vector.is v.1 cycle'.ensures;
     })
 
 pub statement-returns-in-Assigns : goal.statement-returns-in-Assigns
 statement-returns-in-Assigns t c =
     let pre' = c.requires in
     let head' = c.head-h in
-    let enum-told2' = c.enum_told-in-Assigns-1 in
     let put2' = c.put-in-Assigns in
     let spend' = c.spend in
     let h = head'.ensures in
     let v = put2'.ensures in
-    let is = enum-told2'.given.1 in
+    let is = c.in-Assigns.is in
     rw c.gone-in-Assigns.ensures (record {
-      kept = kept_others pre'.1.1.sized v.0 h.1;
+      kept = kept_others pre'.1.sized v.0 h.1;
       steps = λ E b us s st ready. (
           let m = h.2 E st.holding.describes in
-          assigns_step st pre'.1.0 _ _ _ m pre'.1.1.going is (assigns_pays st pre'.1.0 _ _ _ m ready is) spend'.ensures v.1);
+          assigns_step st pre'.0 _ _ _ m pre'.1.going is (assigns_pays st pre'.0 _ _ _ m ready is) spend'.ensures v.1);
     })
 
 pub statement-returns-in-Chooses : goal.statement-returns-in-Chooses
 statement-returns-in-Chooses t c =
     let pre' = c.requires in
     let head' = c.head-h in
-    let what2' = c.what-in-Chooses-1 in
     let spend2' = c.spend-in-Chooses in
     let h = head'.ensures in
-    let is = what2'.given.1 in
+    let is = c.in-Chooses.is in
     rw c.gone-in-Chooses.ensures (record {
-      kept = kept_args pre'.1.1.sized h.1;
+      kept = kept_args pre'.1.sized h.1;
       steps = λ E b us s st ready. (
           let m = h.2 E st.holding.describes in
-          chooses_step st pre'.1.0 _ _ _ m pre'.1.1.going _ is (chooses_pays st pre'.1.0 _ _ _ m ready _ is) spend2'.ensures st.shows);
+          chooses_step st pre'.0 _ _ _ m pre'.1.going _ is (chooses_pays st pre'.0 _ _ _ m ready _ is) spend2'.ensures st.shows);
     })
 
 pub statement-returns-in-Loops : goal.statement-returns-in-Loops
 statement-returns-in-Loops t c =
     let pre' = c.requires in
     let head' = c.head-h in
-    let what3' = c.what-in-Loops-1 in
     let repeat' = c.repeat in
     let h = head'.ensures in
     let v = repeat'.ensures in
     record {
-      kept = kept_then (kept_args pre'.1.1.sized h.1) v.kept;
+      kept = kept_then (kept_args pre'.1.sized h.1) v.kept;
       steps = λ E b us s st ready. (
-          let i = (in_loop st pre'.1.0 _ _ _ (h.2 E st.holding.describes) _ what3'.given.1).1 in
+          let i = (in_loop st pre'.0 _ _ _ (h.2 E st.holding.describes) _ c.in-Loops.is).1 in
           inside_step i st.holding v.goes_on (v.walks E i.body i.between s (loop_standing st i st.shows) (loop_plain i) (inside_ready i ready)));
     }
 
@@ -779,14 +648,13 @@ pub statement-returns-in-Shifts : goal.statement-returns-in-Shifts
 statement-returns-in-Shifts t c =
     let pre' = c.requires in
     let head' = c.head-h in
-    let enum-told3' = c.enum_told-in-Shifts-1 in
     let shift' = c.shift in
     let h = head'.ensures in
     let v = shift'.ensures in
     record {
-      kept = kept_then (kept_args pre'.1.1.sized h.1) v.kept;
+      kept = kept_then (kept_args pre'.1.sized h.1) v.kept;
       steps = λ E b us s st ready. (
-          let i = in_shift_lem st pre'.1.0 _ _ _ (h.2 E st.holding.describes) enum-told3'.given.1 in
+          let i = in_shift_lem st pre'.0 _ _ _ (h.2 E st.holding.describes) c.in-Shifts.is in
           shift_step i st.holding v.goes_on (v.walks E _ _ i.between s (shift_standing st i st.shows) (shift_ready i ready)));
     }
 
@@ -795,42 +663,41 @@ statement-shape_of-args-in-Uses t c =
     let pre' = c.requires in
     let head' = c.head-h in
     let enter' = c.enter-r in
-    enter'.ensures.kept.args_long ∙ head'.ensures.1 ∙ sym pre'.1.1.sized.args_long
+    enter'.ensures.kept.args_long ∙ head'.ensures.1 ∙ sym pre'.1.sized.args_long
 
 pub statement-returns-in-Uses : goal.statement-returns-in-Uses
 statement-returns-in-Uses t c =
     let pre' = c.requires in
     let head' = c.head-h in
-    let what4' = c.what-in-Uses-1 in
     let supply' = c.supply in
     let enter' = c.enter-r in
     let h = head'.ensures in
     let f = supply'.ensures in
     let v = enter'.ensures in
-    let is = what4'.given.1 in
+    let is = c.in-Uses.is in
     rw c.gone-in-Uses.ensures (record {
-      kept = kept_then (kept_supplied pre'.1.1.sized h.1 f.0 f.1) v.kept;
+      kept = kept_then (kept_supplied pre'.1.sized h.1 f.0 f.1) v.kept;
       steps = λ E b us s st ready. (
           let m = h.2 E st.holding.describes in
-          let d = called st pre'.1.0 _ _ _ m _ _ is in
+          let d = called st pre'.0 _ _ _ m _ _ is in
           let used = called_using st d (shows_supplied st.shows f.1) (f.2 _ _ d.supplied) in
           called_step d enter'.result st.holding
-          (v.tells E d.body d.after d.arguments s (called_use d used (called_measured d st pre'.1.0 m is) ready)));
+          (v.tells E d.body d.after d.arguments s (called_use d used (called_measured d st pre'.0 m is) ready)));
     })
 
 pub statements-loop-known-init : goal.statements-loop-known-init
 statements-loop-known-init t c =
     let pre' = c.requires in
-    record { kept = kept_none; long = refl; going = pre'.1.1.going; onward = λ E b us s st ready. starts pre'.1.0 st ready }
+    record { kept = kept_none; long = refl; going = pre'.1.going; onward = λ E b us s st ready. starts pre'.0 st ready }
 
 pub statements-statement-r-requires : goal.statements-statement-r-requires
 statements-statement-r-requires t c =
     let pre' = c.requires in
     let loop' = c.loop-known in
-    let stood = pre'.1.1 in
+    let stood = pre'.1 in
     let inv = loop'.invariant in
     let o = inv.onward stood.env stood.body stood.rest stood.state stood.standing stood.ready in (
-      omega (arith, pre'.0),
+      omega (arith, c.decreases),
       (
         o.on,
         record {
@@ -867,7 +734,7 @@ statements-loop-known-smaller t c =
     let statement' = c.statement-r in
     let over' = c.over in
     let if1' = c.if-r-over in
-    let stood = pre'.1.1 in
+    let stood = pre'.1 in
     let o = loop'.invariant.onward stood.env stood.body stood.rest stood.state stood.standing stood.ready in
     fewer o (statement'.ensures.steps stood.env o.rest stood.rest o.state o.standing o.ready) (rw over'.ensures at if1'.false)
 
@@ -878,7 +745,7 @@ statements-loop-known-preserved t c =
     let statement' = c.statement-r in
     let over' = c.over in
     let if1' = c.if-r-over in
-    let stood = pre'.1.1 in
+    let stood = pre'.1 in
     let inv = loop'.invariant in
     let step = statement'.ensures in
     let more = rw over'.ensures at if1'.false in
@@ -896,18 +763,18 @@ statements-loop-known-preserved t c =
 pub turns-overflow_sub-inner : goal.turns-overflow_sub-inner
 turns-overflow_sub-inner t c =
     let pre' = c.requires in
-    omega (arith, pre'.1.1)
+    omega (arith, pre'.1)
 
 pub turns-loop-i-init : goal.turns-loop-i-init
 turns-loop-i-init t c =
     let pre' = c.requires in
-    (omega arith, repeats_begin pre'.1.2.going)
+    (omega arith, repeats_begin pre'.2.going)
 
 pub turns-keep-requires : goal.turns-keep-requires
 turns-keep-requires t c =
     let pre' = c.requires in
     let loop' = c.loop-i in
-    let roomy = (sized_kept pre'.1.2.sized loop'.invariant.1.kept).roomy in
+    let roomy = (sized_kept pre'.2.sized loop'.invariant.1.kept).roomy in
     (omega (arith, roomy.few, roomy.values_long), omega (arith, roomy.few))
 
 pub turns-statements-r-requires : goal.turns-statements-r-requires
@@ -915,7 +782,7 @@ turns-statements-r-requires t c =
     let pre' = c.requires in
     let loop' = c.loop-i in
     let loop-test' = c.loop-i-test in
-    (omega (arith, pre'.0, pre'.1.1), (pre'.1.0, turn_stood pre'.1.2 loop'.invariant.1 loop-test'.true))
+    (omega (arith, c.decreases, pre'.1), (pre'.0, turn_stood pre'.2 loop'.invariant.1 loop-test'.true))
 
 pub turns-overflow_add-i : goal.turns-overflow_add-i
 turns-overflow_add-i t c =
@@ -930,7 +797,7 @@ turns-same_pins-same-requires t c =
     let loop' = c.loop-i in
     let statements' = c.statements-r in
     let keep' = c.keep in
-    let roomy = (sized_kept pre'.1.2.sized loop'.invariant.1.kept).roomy in
+    let roomy = (sized_kept pre'.2.sized loop'.invariant.1.kept).roomy in
     (omega (arith, roomy.few, roomy.values_long, statements'.ensures.kept.values_long), omega (arith, roomy.few, keep'.ensures.0))
 
 pub turns-overflow_sub-n : goal.turns-overflow_sub-n
@@ -948,7 +815,7 @@ turns-repeated-w-requires t c =
     let over' = c.over in
     let if1' = c.if-over in
     let told = all_told loop'.w.pass statements'.result.table loop'.chosen _ if2'.true in
-    (turn_rows pre'.1.2 loop'.invariant.1 loop-test'.true statements'.ensures, turn_copiable pre'.1.2 loop'.invariant.1 loop-test'.true statements'.ensures (sym over'.ensures ∙ if1'.false) told.0)
+    (turn_rows pre'.2 loop'.invariant.1 loop-test'.true statements'.ensures, turn_copiable pre'.2 loop'.invariant.1 loop-test'.true statements'.ensures (sym over'.ensures ∙ if1'.false) told.0)
 
 pub turns-loop-i-smaller : goal.turns-loop-i-smaller
 turns-loop-i-smaller t c =
@@ -963,7 +830,7 @@ turns-loop-i-preserved t c =
     let statements' = c.statements-r in
     let over' = c.over in
     let if1' = c.if-over in
-    (omega (arith, loop-test'.true), turned_once pre'.1.2 loop'.invariant.1 loop-test'.true statements'.ensures (sym over'.ensures ∙ if1'.false))
+    (omega (arith, loop-test'.true), turned_once pre'.2 loop'.invariant.1 loop-test'.true statements'.ensures (sym over'.ensures ∙ if1'.false))
 
 pub turns-shape_of-values-after-loop-i : goal.turns-shape_of-values-after-loop-i
 turns-shape_of-values-after-loop-i t c =
@@ -990,7 +857,7 @@ turns-returns-after-loop-i t c =
     let pre' = c.requires in
     let loop' = c.loop-i in
     let loop-test' = c.loop-i-test in
-    turned_all pre'.1.2 loop'.invariant.1 loop-test'.false loop'.invariant.0
+    turned_all pre'.2 loop'.invariant.1 loop-test'.false loop'.invariant.0
 
 pub turns-shape_of-values-then-over : goal.turns-shape_of-values-then-over
 turns-shape_of-values-then-over t c =
@@ -998,7 +865,7 @@ turns-shape_of-values-then-over t c =
     let loop' = c.loop-i in
     let loop-test' = c.loop-i-test in
     let statements' = c.statements-r in
-    (turn_kept pre'.1.2 loop'.invariant.1 loop-test'.true statements'.ensures).values_long
+    (turn_kept pre'.2 loop'.invariant.1 loop-test'.true statements'.ensures).values_long
 
 pub turns-shape_of-feeds-then-over : goal.turns-shape_of-feeds-then-over
 turns-shape_of-feeds-then-over t c =
@@ -1006,7 +873,7 @@ turns-shape_of-feeds-then-over t c =
     let loop' = c.loop-i in
     let loop-test' = c.loop-i-test in
     let statements' = c.statements-r in
-    (turn_kept pre'.1.2 loop'.invariant.1 loop-test'.true statements'.ensures).feeds_long
+    (turn_kept pre'.2 loop'.invariant.1 loop-test'.true statements'.ensures).feeds_long
 
 pub turns-shape_of-args-then-over : goal.turns-shape_of-args-then-over
 turns-shape_of-args-then-over t c =
@@ -1014,7 +881,7 @@ turns-shape_of-args-then-over t c =
     let loop' = c.loop-i in
     let loop-test' = c.loop-i-test in
     let statements' = c.statements-r in
-    (turn_kept pre'.1.2 loop'.invariant.1 loop-test'.true statements'.ensures).args_long
+    (turn_kept pre'.2 loop'.invariant.1 loop-test'.true statements'.ensures).args_long
 
 pub turns-shape_of-buffer-then-over : goal.turns-shape_of-buffer-then-over
 turns-shape_of-buffer-then-over t c =
@@ -1022,7 +889,7 @@ turns-shape_of-buffer-then-over t c =
     let loop' = c.loop-i in
     let loop-test' = c.loop-i-test in
     let statements' = c.statements-r in
-    turn_long pre'.1.2 loop'.invariant.1 loop-test'.true statements'.ensures
+    turn_long pre'.2 loop'.invariant.1 loop-test'.true statements'.ensures
 
 pub turns-returns-then-over : goal.turns-returns-then-over
 turns-returns-then-over t c =
@@ -1032,7 +899,7 @@ turns-returns-then-over t c =
     let statements' = c.statements-r in
     let over' = c.over in
     let if1' = c.if-over in
-    turned_over pre'.1.2 loop'.invariant.1 loop-test'.true statements'.ensures (sym over'.ensures ∙ if1'.true)
+    turned_over pre'.2 loop'.invariant.1 loop-test'.true statements'.ensures (sym over'.ensures ∙ if1'.true)
 
 pub turns-shape_of-values-then-start-chosen : goal.turns-shape_of-values-then-start-chosen
 turns-shape_of-values-then-start-chosen t c =
@@ -1040,7 +907,7 @@ turns-shape_of-values-then-start-chosen t c =
     let loop' = c.loop-i in
     let loop-test' = c.loop-i-test in
     let statements' = c.statements-r in
-    (turn_kept pre'.1.2 loop'.invariant.1 loop-test'.true statements'.ensures).values_long
+    (turn_kept pre'.2 loop'.invariant.1 loop-test'.true statements'.ensures).values_long
 
 pub turns-shape_of-feeds-then-start-chosen : goal.turns-shape_of-feeds-then-start-chosen
 turns-shape_of-feeds-then-start-chosen t c =
@@ -1048,7 +915,7 @@ turns-shape_of-feeds-then-start-chosen t c =
     let loop' = c.loop-i in
     let loop-test' = c.loop-i-test in
     let statements' = c.statements-r in
-    (turn_kept pre'.1.2 loop'.invariant.1 loop-test'.true statements'.ensures).feeds_long
+    (turn_kept pre'.2 loop'.invariant.1 loop-test'.true statements'.ensures).feeds_long
 
 pub turns-shape_of-args-then-start-chosen : goal.turns-shape_of-args-then-start-chosen
 turns-shape_of-args-then-start-chosen t c =
@@ -1056,7 +923,7 @@ turns-shape_of-args-then-start-chosen t c =
     let loop' = c.loop-i in
     let loop-test' = c.loop-i-test in
     let statements' = c.statements-r in
-    (turn_kept pre'.1.2 loop'.invariant.1 loop-test'.true statements'.ensures).args_long
+    (turn_kept pre'.2 loop'.invariant.1 loop-test'.true statements'.ensures).args_long
 
 pub turns-shape_of-buffer-then-start-chosen : goal.turns-shape_of-buffer-then-start-chosen
 turns-shape_of-buffer-then-start-chosen t c =
@@ -1065,7 +932,7 @@ turns-shape_of-buffer-then-start-chosen t c =
     let loop' = c.loop-i in
     let loop-test' = c.loop-i-test in
     let statements' = c.statements-r in
-    repeated'.ensures.long ∙ turn_long pre'.1.2 loop'.invariant.1 loop-test'.true statements'.ensures
+    repeated'.ensures.long ∙ turn_long pre'.2 loop'.invariant.1 loop-test'.true statements'.ensures
 
 pub turns-returns-then-start-chosen : goal.turns-returns-then-start-chosen
 turns-returns-then-start-chosen t c =
@@ -1079,6 +946,6 @@ turns-returns-then-start-chosen t c =
     let keep' = c.keep in
     let same-pins' = c.same_pins-same in
     let repeated' = c.repeated-w in
-    let roomy = (sized_kept pre'.1.2.sized loop'.invariant.1.kept).roomy in
+    let roomy = (sized_kept pre'.2.sized loop'.invariant.1.kept).roomy in
     let told = all_told loop'.w.pass statements'.result.table loop'.chosen _ if2'.true in
-    turned_copied pre'.1.2 loop'.invariant.1 loop-test'.true statements'.ensures (sym over'.ensures ∙ if1'.false) told.0 (omega (arith, roomy.few, keep'.ensures.0)) (same-pins'.ensures told.2) keep'.ensures.1 told.1 repeated'.ensures
+    turned_copied pre'.2 loop'.invariant.1 loop-test'.true statements'.ensures (sym over'.ensures ∙ if1'.false) told.0 (omega (arith, roomy.few, keep'.ensures.0)) (same-pins'.ensures told.2) keep'.ensures.1 told.1 repeated'.ensures

@@ -3,4 +3,4 @@ use native.Mathlib.Omega.{arith}
 use Rattle.stretches.proofs.table_of.Goals as goal
 
 pub overflow_cast-result : goal.overflow_cast-result
-overflow_cast-result c = omega (arith, c.type_inv.row.given c.args.signals)
+overflow_cast-result c = omega (arith, c.type_inv.row c.args.signals)

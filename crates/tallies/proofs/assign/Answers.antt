@@ -1,8 +1,8 @@
 -- Each turn takes the next signal.
 use Prim.Native.Nat.{◌-◌}
 use native.Mathlib.Omega.{arith}
-use mathlib.Core.Logic.{⊎_elim}
 use Rattle.tallies.proofs.Rows.{assigning_none, assigning_kept, assigning_next, assigning_all}
+use Rattle.tallies.proofs.assign.Goals.{then-given-s-ne0, else-given-s-ne0}
 use Rattle.tallies.proofs.assign.Goals as goal
 
 pub loop-s-init : goal.loop-s-init
@@ -15,7 +15,10 @@ pub loop-s-preserved : goal.loop-s-preserved
 loop-s-preserved c =
     let x = c.loop-s.invariant.1 in (
       omega arith,
-      ⊎_elim (λ w. rw w.6 (assigning_next x (omega arith) w.0.taken w.3.ensures)) (λ w. rw w.1 (assigning_kept x (omega arith) w.0.left)) c.if-given-s-ne0.branch,
+      elim c.if-given-s-ne0.branch [
+        | then-given-s-ne0 w ↦ rw w.sums-is (assigning_next x (omega arith) w.if-given-s-ne0.true w.store.ensures)
+        | else-given-s-ne0 w ↦ rw w.sums-is (assigning_kept x (omega arith) w.if-given-s-ne0.false)
+      ],
     )
 
 pub shape_of-sums : goal.shape_of-sums

@@ -28,4 +28,4 @@ pub loop-seen-preserved : goal.loop-seen-preserved
 loop-seen-preserved c =
     let y = c.loop-seen.invariant in
     let fit = c.fits_word-o.ensures (not-false _ c.if-not-o.false) in
-    reading_seen y.0 y.1 c.next_word-word.ensures c.type_inv.seen.ensures fit.0 fit.1
+    reading_seen y.0 y.1 c.next_word-word.ensures c.bytes_of-w.ensures fit.0 fit.1

@@ -29,4 +29,4 @@ pub loop-seen-preserved : goal.loop-seen-preserved
 loop-seen-preserved c =
     let p = c.requires in
     let fed = c.feed_word-last.ensures in
-    giving_word c.loop-seen.invariant c.next_word-word.ensures c.type_inv.seen.ensures p.2 p.4 fed.0 fed.1 fed.2
+    giving_word c.loop-seen.invariant c.next_word-word.ensures c.bytes_of-w.ensures p.2 p.4 fed.0 fed.1 fed.2

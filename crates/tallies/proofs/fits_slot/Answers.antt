@@ -7,4 +7,4 @@ pub returns-then-byte-eq0 : goal.returns-then-byte-eq0
 returns-then-byte-eq0 c = λ e tabs m f. absurd (flag_is f (sym c.byte.ensures ∙ c.if-byte-eq0.true))
 
 pub returns : goal.returns
-returns c = λ e tabs m f. sym (c.fits2.ensures tabs m) ∙ e
+returns c = λ e tabs m f. sym (c.fits.ensures tabs m) ∙ e

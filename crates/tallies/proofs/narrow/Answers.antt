@@ -1,9 +1,9 @@
 -- Each turn takes the next table; the row `from` is not written.
 use Prim.Native.Nat.{◌-◌}
 use native.Mathlib.Omega.{arith}
-use mathlib.Core.Logic.{⊎_elim}
 use Rattle.tallies.proofs.Grown.{fine_read}
 use Rattle.tallies.proofs.Narrowed.{narrowed_none, narrowed_passed, narrowed_failed, narrowed_all}
+use Rattle.tallies.proofs.narrow.Goals.{then-byte-eq0, else-byte-eq0}
 use Rattle.tallies.proofs.narrow.Goals as goal
 
 pub loop-k-init : goal.loop-k-init
@@ -19,7 +19,10 @@ pub loop-k-preserved : goal.loop-k-preserved
 loop-k-preserved c =
     let x = c.loop-k.invariant.1 in (
       omega arith,
-      ⊎_elim (λ w. rw w.5 (narrowed_failed x (omega arith) w.2.ensures)) (λ w. rw w.1 (narrowed_passed x (fine_read x.more.only _ c.loop-k.k c.requires.2 (omega arith) c.byte.ensures w.0.left))) c.if-byte-eq0.branch,
+      elim c.if-byte-eq0.branch [
+        | then-byte-eq0 w ↦ rw w.sums-is (narrowed_failed x (omega arith) w.store.ensures)
+        | else-byte-eq0 w ↦ rw w.sums-is (narrowed_passed x (fine_read x.more.only _ c.loop-k.k c.requires.2 (omega arith) c.byte.ensures w.if-byte-eq0.false))
+      ],
     )
 
 pub shape_of-sums : goal.shape_of-sums

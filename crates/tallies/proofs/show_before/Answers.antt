@@ -2,11 +2,10 @@
 use Prim.Native.Nat.{◌-◌}
 use native.Mathlib.Omega.{arith}
 use mathlib.Core.Path.{sym, ◌∙◌}
-use mathlib.Core.Logic.{⊎_elim}
-use borrow.Author.Tests.{not-false}
 use Rattle.tallies.proofs.Stored.{flag_set}
 use Rattle.tallies.proofs.Grown.{more_marked, more_then}
 use Rattle.tallies.proofs.Narrowed.{narrowed_none, narrowed_passed, narrowed_failed, narrowed_all}
+use Rattle.tallies.proofs.show_before.Goals.{then-not-has, else-not-has}
 use Rattle.tallies.proofs.show_before.Goals as goal
 
 pub loop-k-init : goal.loop-k-init
@@ -19,8 +18,10 @@ pub loop-k-preserved : goal.loop-k-preserved
 loop-k-preserved c =
     let x = c.loop-k.invariant.1 in (
       omega arith,
-      ⊎_elim (λ w. rw w.5 (narrowed_failed x (omega arith) w.2.ensures))
-          (λ w. rw w.1 (narrowed_passed x (λ tabs m. sym (c.has.ensures tabs m) ∙ not-false _ w.0.left))) c.if-not-has.branch,
+      elim c.if-not-has.branch [
+        | then-not-has w ↦ rw w.sums-is (narrowed_failed x (omega arith) w.store-then-not-has.ensures)
+        | else-not-has w ↦ rw w.sums-is (narrowed_passed x (λ tabs m. sym (c.has.ensures tabs m) ∙ w.if-not-has.false))
+      ],
     )
 
 pub shape_of-sums : goal.shape_of-sums

@@ -1,8 +1,8 @@
 -- Each turn takes the next table.
 use Prim.Native.Nat.{◌-◌}
 use native.Mathlib.Omega.{arith}
-use mathlib.Core.Logic.{⊎_elim}
 use Rattle.tallies.proofs.Showing.{showing_none, showing_kept, showing_next}
+use Rattle.tallies.proofs.show_tables.Goals.{then-byte-ne0, else-byte-ne0}
 use Rattle.tallies.proofs.show_tables.Goals as goal
 
 pub loop-t-init : goal.loop-t-init
@@ -18,8 +18,10 @@ pub loop-t-preserved : goal.loop-t-preserved
 loop-t-preserved c =
     let y = c.loop-t.invariant.1 in (
       omega arith,
-      ⊎_elim (λ w. rw w.5 (showing_next y (omega arith) w.2.ensures.0 w.2.ensures.1))
-          (λ w. rw w.1 (showing_kept y c.requires.2 (omega arith) c.byte.ensures w.0.left)) c.if-byte-ne0.branch,
+      elim c.if-byte-ne0.branch [
+        | then-byte-ne0 w ↦ rw w.sums-is (showing_next y (omega arith) w.show.ensures.0 w.show.ensures.1)
+        | else-byte-ne0 w ↦ rw w.sums-is (showing_kept y c.requires.2 (omega arith) c.byte.ensures w.if-byte-ne0.false)
+      ],
     )
 
 pub shape_of-sums : goal.shape_of-sums

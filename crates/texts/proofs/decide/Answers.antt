@@ -7,8 +7,8 @@ pub refusal-t-requires : goal.refusal-t-requires
 refusal-t-requires c =
     let document' = c.document-parts in
     let pre' = c.requires in (
-      document'.auto.1.1.1.1.1.0 ∙ pre'.1,
-      document'.auto.1.1.1.1.1.1.1.0 ∙ pre'.3,
+      document'.auto.book ∙ pre'.1,
+      document'.auto.list ∙ pre'.3,
       λ short z.
           let tabled = ((document'.ensures.0 short).reads z).2 in (tabled.few_listed, tabled.few_patterns),
     )

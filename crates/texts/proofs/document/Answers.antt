@@ -22,22 +22,22 @@ bodies-m-requires c =
 pub shape_of-places-then-b-ne0 : goal.shape_of-places-then-b-ne0
 shape_of-places-then-b-ne0 c =
     let declarations' = c.declarations-d in
-    declarations'.auto.1.1.0
+    declarations'.auto.places
 
 pub shape_of-lists-then-b-ne0 : goal.shape_of-lists-then-b-ne0
 shape_of-lists-then-b-ne0 c =
     let declarations' = c.declarations-d in
-    declarations'.auto.1.1.1.0
+    declarations'.auto.lists
 
 pub shape_of-tplaces-then-b-ne0 : goal.shape_of-tplaces-then-b-ne0
 shape_of-tplaces-then-b-ne0 c =
     let declarations' = c.declarations-d in
-    declarations'.auto.1.1.1.1.0
+    declarations'.auto.tplaces
 
 pub shape_of-waves-then-b-ne0 : goal.shape_of-waves-then-b-ne0
 shape_of-waves-then-b-ne0 c =
     let declarations' = c.declarations-d in
-    declarations'.auto.1.1.1.1.1.0
+    declarations'.auto.waves
 
 pub returns-then-b-ne0 : goal.returns-then-b-ne0
 returns-then-b-ne0 c =
@@ -68,28 +68,28 @@ ending-e-requires c =
 pub shape_of-places : goal.shape_of-places
 shape_of-places c =
     let declarations' = c.declarations-d in
-    declarations'.auto.1.1.0
+    declarations'.auto.places
 
 pub shape_of-lists : goal.shape_of-lists
 shape_of-lists c =
     let declarations' = c.declarations-d in
-    declarations'.auto.1.1.1.0
+    declarations'.auto.lists
 
 pub shape_of-tplaces : goal.shape_of-tplaces
 shape_of-tplaces c =
     let declarations' = c.declarations-d in
-    declarations'.auto.1.1.1.1.0
+    declarations'.auto.tplaces
 
 pub shape_of-waves : goal.shape_of-waves
 shape_of-waves c =
     let declarations' = c.declarations-d in
-    declarations'.auto.1.1.1.1.1.0
+    declarations'.auto.waves
 
 pub shape_of-book : goal.shape_of-book
 shape_of-book c =
     let ending' = c.ending-e in
     let bodies' = c.bodies-m in
-    ending'.auto.1.1.1.1.1.0 ∙ bodies'.auto.1.1.1.1.1.0
+    ending'.auto.book ∙ bodies'.auto.book
 
 pub returns : goal.returns
 returns c =
@@ -103,6 +103,6 @@ returns c =
     let on = eq-eqb _ _ if1'.false in
     let f = bodies'.ensures.2 _ (describes_first cursor-at'.ensures declarations'.ensures on pre'.1 pre'.2) in
     let known = (f.held (eq-eqb _ _ if2'.false)).describes in (
-      λ short. reads_all cursor-at'.ensures declarations'.ensures on f (declarations'.auto.1.1.1.1.1.0 ∙ pre'.0.marks) (ending'.ensures.0 short f.it known),
+      λ short. reads_all cursor-at'.ensures declarations'.ensures on f (declarations'.auto.waves ∙ pre'.0.marks) (ending'.ensures.0 short f.it known),
       λ short. notes_all cursor-at'.ensures declarations'.ensures on f (ending'.ensures.0 short f.it known),
     )

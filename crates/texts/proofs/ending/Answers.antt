@@ -20,7 +20,7 @@ patterns-p-requires c =
 pub shape_of-list : goal.shape_of-list
 shape_of-list c =
     let burst' = c.burst-n in
-    burst'.auto.1.1.0
+    burst'.auto.list
 
 pub returns : goal.returns
 unfolding ending_due

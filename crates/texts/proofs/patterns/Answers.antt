@@ -64,7 +64,7 @@ loop-cursor-preserved c =
       λ u e b ps h. again (takes_pattern e b) (loop'.invariant.0 u e b ps h) (test_over args'.text.now loop'.cursor) if1'.true (λ qs s. pattern2'.ensures.2 u e b qs s),
       pattern2'.ensures.0,
       pattern2'.ensures.1,
-      pattern2'.auto.1.1.1.1.1.0 ∙ loop'.invariant.3,
+      pattern2'.auto.book ∙ loop'.invariant.3,
       grows_then loop'.invariant.4 pattern2'.ensures.3,
     )
 
@@ -72,7 +72,7 @@ pub shape_of-book : goal.shape_of-book
 shape_of-book c =
     let loop' = c.loop-cursor in
     let pattern' = c.pattern-cursor in
-    loop'.invariant.3 ∙ pattern'.auto.1.1.1.1.1.0
+    loop'.invariant.3 ∙ pattern'.auto.book
 
 pub shape_of-used : goal.shape_of-used
 shape_of-used c =

@@ -43,4 +43,4 @@ pub returns : goal.returns
 returns c =
     λ ps l n.
     let run = c.loop-k.invariant.1 ps l n in
-    record { refuses = λ z. absurd (z refl); finds = λ z. (run.front, run_whole _ _ _ _ run c.loop-k-test.false, run.decreases) }
+    record { refuses = λ z. absurd (z refl); finds = λ z. (run.front, run_whole _ _ _ _ run c.loop-k-test.false, run.measured) }

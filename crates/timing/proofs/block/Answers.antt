@@ -18,11 +18,13 @@ waveforms-x-requires c = let l = c.loop-watch.invariant.1 false c.requires.3.wav
     (c.loop-watch.invariant.0 ∙ c.requires.0, c.requires.1, c.requires.2, record { waves = l.state; marks = (l.kept (on _ _ c.until.ensures c.loop-watch-test.true)).marks })
 
 pub loop-watch-smaller : goal.loop-watch-smaller
+unfolding bytes
 loop-watch-smaller c = let l = c.loop-watch.invariant.1 false c.requires.3.waves (unwatched c.requires.3.marks) in
     fewer (takes_waveforms (names_of c.args.text.now c.args.places.now c.args.lists.now c.args.names)) l c.until.ensures c.loop-watch-test.true (c.waveforms-x.ensures false)
 
 pub loop-watch-preserved : goal.loop-watch-preserved
-loop-watch-preserved c = (c.waveforms-x.auto.1.1.1.1.1.0 ∙ c.loop-watch.invariant.0, λ here ws m. again (takes_waveforms (names_of c.args.text.now c.args.places.now c.args.lists.now c.args.names)) (c.loop-watch.invariant.1 here ws m) c.until.ensures c.loop-watch-test.true (c.waveforms-x.ensures here))
+unfolding bytes
+loop-watch-preserved c = (c.waveforms-x.auto.table ∙ c.loop-watch.invariant.0, λ here ws m. again (takes_waveforms (names_of c.args.text.now c.args.places.now c.args.lists.now c.args.names)) (c.loop-watch.invariant.1 here ws m) c.until.ensures c.loop-watch-test.true (c.waveforms-x.ensures here))
 
 pub shape_of-table : goal.shape_of-table
 shape_of-table c = c.loop-watch.invariant.0

@@ -15,11 +15,13 @@ pub entry-x-requires : goal.entry-x-requires
 entry-x-requires c = (c.loop-watch.invariant.0 ∙ c.requires.0, c.requires.1, c.loop-watch.invariant.1)
 
 pub loop-watch-smaller : goal.loop-watch-smaller
+unfolding bytes
 loop-watch-smaller c = let l = c.loop-watch.invariant.2 false c.requires.2.waves (unwatched c.requires.2.marks) in
     fewer (takes_entry c.args.sigs.now) l c.until.ensures c.loop-watch-test.true (c.entry-x.ensures.makes false)
 
 pub loop-watch-preserved : goal.loop-watch-preserved
-loop-watch-preserved c = (c.entry-x.auto.1.1.1.0 ∙ c.loop-watch.invariant.0, c.entry-x.ensures.placed, λ here ws m. again (takes_entry c.args.sigs.now) (c.loop-watch.invariant.2 here ws m) c.until.ensures c.loop-watch-test.true (c.entry-x.ensures.makes here))
+unfolding bytes
+loop-watch-preserved c = (c.entry-x.auto.table ∙ c.loop-watch.invariant.0, c.entry-x.ensures.placed, λ here ws m. again (takes_entry c.args.sigs.now) (c.loop-watch.invariant.2 here ws m) c.until.ensures c.loop-watch-test.true (c.entry-x.ensures.makes here))
 
 pub shape_of-table : goal.shape_of-table
 shape_of-table c = c.loop-watch.invariant.0

@@ -9,7 +9,7 @@ use Rattle.timing.proofs.EntryReading.{entry_stops, entry_reads}
 use Rattle.timing.proofs.entry.Goals as goal
 
 pub returns-then-d-ne0 : goal.returns-then-d-ne0
-returns-then-d-ne0 c = let stopped = ne_eqb c.chars-d.result.no 0 c.if-d-ne0.true in (λ here ws m. entry_stops c.chars-d.ensures m.marks stopped, refused_placed stopped)
+returns-then-d-ne0 c = let stopped = ne_eqb c.chars-d.result.no 0 c.if-d-ne0.true in record { makes = λ here ws m. entry_stops c.chars-d.ensures m.marks stopped; placed = refused_placed stopped }
 
 pub events-cursor-requires : goal.events-cursor-requires
 events-cursor-requires c = rw c.bytes_of-w.ensures (c.chars-d.ensures.few (eq-eqb c.chars-d.result.no 0 c.if-d-ne0.false))
@@ -19,10 +19,10 @@ mark_all-requires c = (c.requires.0, c.requires.1, rw c.bytes_of-w.ensures (c.ch
 
 pub returns : goal.returns
 unfolding bytes
-returns c = (
-  λ here ws m.
+returns c = record {
+  makes = λ here ws m.
       entry_reads c.chars-d.ensures m.marks c.requires.2 c.due-e.ensures (ap length (sym c.bytes_of-w.ensures))
       (c.events-cursor.ensures.by_index (ahead c.args.text.now c.args.x.cursor).word (ap length (sym c.bytes_of-w.ensures))) (rw c.bytes_of-w.ensures at c.mark_all.ensures)
-      (rw c.bytes_of-w.ensures at c.look-sight.ensures) m.watched,
-  c.events-cursor.ensures.placed,
-)
+      (rw c.bytes_of-w.ensures at c.look-sight.ensures) m.watched;
+  placed = c.events-cursor.ensures.placed;
+}

@@ -9,7 +9,7 @@ pub loop-i-init : goal.loop-i-init
 loop-i-init c = refl
 
 pub overflow_cast-sigs : goal.overflow_cast-sigs
-overflow_cast-sigs c = omega (arith, c.type_inv.sigs.given c.loop-i.i)
+overflow_cast-sigs c = omega (arith, c.type_inv.sigs c.loop-i.i)
 
 pub returns-then-sigs-i : goal.returns-then-sigs-i
 returns-then-sigs-i c = sym (c.loop-i.invariant ∙ has_here _ _ _ c.loop-i-test.true c.if-sigs-i.true)

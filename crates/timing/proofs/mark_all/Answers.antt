@@ -11,7 +11,7 @@ pub mark_chars-requires : goal.mark_chars-requires
 mark_chars-requires c = (c.loop-i.invariant.0 ∙ c.requires.0, c.requires.1 c.loop-i.i c.loop-i-test.true, c.requires.2)
 
 pub loop-i-preserved : goal.loop-i-preserved
-loop-i-preserved c = (c.mark_chars.auto.0 ∙ c.loop-i.invariant.0, marked_signal c.args.sigs.now c.loop-i.i c.loop-i-test.true c.loop-i.invariant.1 c.mark_chars.ensures)
+loop-i-preserved c = (c.mark_chars.auto.table ∙ c.loop-i.invariant.0, marked_signal c.args.sigs.now c.loop-i.i c.loop-i-test.true c.loop-i.invariant.1 c.mark_chars.ensures)
 
 pub returns : goal.returns
 returns c = marked_all c.args.sigs.now c.args.w.now c.loop-i-test.false c.loop-i.invariant.1

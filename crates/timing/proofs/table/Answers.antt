@@ -67,4 +67,4 @@ returns c = λ tabs a.
     let room = table_room c.args.tplaces.now c.due-a.ensures c.refuse_if-b.ensures c.new_name-d.ensures c.head-headed.ensures (eq-eqb c.head-headed.result.cursor.no 0 c.if-e-ne0.false) in
     let sized : length (part c.args.k c.args.waves.now) ≡ table_size = simp (length-take, length-drop) (omega (arith, room, c.requires.tplaces_len.1)) in
     table_reads c.args.tplaces.now c.due-a.ensures c.refuse_if-b.ensures c.new_name-d.ensures c.head-headed.ensures (names_of c.args.text.now c.args.places.now c.args.lists.now c.args.names) a.held (c.block-z.ensures (eqb c.args.k c.args.watch.table) [] (record { marks = part_free a.held room; watched = watched_none c.args.text.now c.args.watch (eqb c.args.k c.args.watch.table) 0 })) c.due-cursor.ensures
-    λ ws m. record { held = held_more a.held room c.refuse_if-b.result c.head-headed.result.n c.requires.tplaces_len.0 c.requires.tplaces_len.1 (c.block-z.auto.1.1.1.1.1.0 ∙ sized) m.marks; watched = watched_table a.held _ c.either-sight.ensures m.watched a.watched }
+    λ ws m. record { held = held_more a.held room c.refuse_if-b.result c.head-headed.result.n c.requires.tplaces_len.0 c.requires.tplaces_len.1 (c.block-z.auto.table ∙ sized) m.marks; watched = watched_table a.held _ c.either-sight.ensures m.watched a.watched }

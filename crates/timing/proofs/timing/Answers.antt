@@ -20,7 +20,7 @@ returns-then-c-ne0 c = made (stays {a = []} (ne_eqb c.args.c.no 0 c.if-c-ne0.tru
 
 pub table-x-requires : goal.table-x-requires
 table-x-requires c = let known = c.requires.all_below (eq-eqb c.args.c.no 0 c.if-c-ne0.false) in
-    ((c.requires.tplaces_len.0, c.requires.tplaces_len.1, (c.requires.tplaces_len.2, known.1), known.0), ([], held_none c.args.text.now c.args.tplaces.now c.args.waves.now c.requires.by_index))
+    record { tplaces_len = (c.requires.tplaces_len.0, c.requires.tplaces_len.1, (c.requires.tplaces_len.2, known.1), known.0); held = ([], held_none c.args.text.now c.args.tplaces.now c.args.waves.now c.requires.by_index) }
 
 pub loop-watch-init : goal.loop-watch-init
 loop-watch-init c = (refl, refl, λ tabs h. looping tabs h)
@@ -29,7 +29,7 @@ pub table-x-requires-in-loop-watch : goal.table-x-requires-in-loop-watch
 table-x-requires-in-loop-watch c = let known = c.requires.all_below (eq-eqb c.args.c.no 0 c.if-c-ne0.false) in
     let first = c.table-x.ensures [] (kept_none c.args.text.now c.args.tplaces.now c.args.waves.now c.args.watch c.requires.by_index) in
     let l = c.loop-watch.invariant.2 first.it first.held in
-    ((c.loop-watch.invariant.0 ∙ c.table-x.auto.1.1.1.1.1.0 ∙ c.requires.tplaces_len.0, c.loop-watch.invariant.1 ∙ c.table-x.auto.1.1.1.1.1.1.1.0 ∙ c.requires.tplaces_len.1, (c.requires.tplaces_len.2, known.1), known.0), (l.state, (l.kept (on _ _ c.until.ensures c.loop-watch-test.true)).held))
+    record { tplaces_len = (c.loop-watch.invariant.0 ∙ c.table-x.auto.tplaces ∙ c.requires.tplaces_len.0, c.loop-watch.invariant.1 ∙ c.table-x.auto.waves ∙ c.requires.tplaces_len.1, (c.requires.tplaces_len.2, known.1), known.0); held = (l.state, (l.kept (on _ _ c.until.ensures c.loop-watch-test.true)).held) }
 
 pub overflow_add-count : goal.overflow_add-count
 overflow_add-count c = let first = c.table-x.ensures [] (kept_none c.args.text.now c.args.tplaces.now c.args.waves.now c.args.watch c.requires.by_index) in
@@ -37,17 +37,19 @@ overflow_add-count c = let first = c.table-x.ensures [] (kept_none c.args.text.n
     omega (arith, (l.kept (on _ _ c.until.ensures c.loop-watch-test.true)).held.few)
 
 pub loop-watch-smaller : goal.loop-watch-smaller
+unfolding bytes
 loop-watch-smaller c = let first = c.table-x.ensures [] (kept_none c.args.text.now c.args.tplaces.now c.args.waves.now c.args.watch c.requires.by_index) in
     fewer (takes_table (names_of c.args.text.now c.args.places.now c.args.lists.now c.args.names)) (c.loop-watch.invariant.2 first.it first.held) c.until.ensures c.loop-watch-test.true c.table-x-in-loop-watch.ensures
 
 pub loop-watch-preserved : goal.loop-watch-preserved
-loop-watch-preserved c = (c.table-x-in-loop-watch.auto.1.1.1.1.1.0 ∙ c.loop-watch.invariant.0, c.table-x-in-loop-watch.auto.1.1.1.1.1.1.1.0 ∙ c.loop-watch.invariant.1, λ tabs h. again (takes_table (names_of c.args.text.now c.args.places.now c.args.lists.now c.args.names)) (c.loop-watch.invariant.2 tabs h) c.until.ensures c.loop-watch-test.true c.table-x-in-loop-watch.ensures)
+unfolding bytes
+loop-watch-preserved c = (c.table-x-in-loop-watch.auto.tplaces ∙ c.loop-watch.invariant.0, c.table-x-in-loop-watch.auto.waves ∙ c.loop-watch.invariant.1, λ tabs h. again (takes_table (names_of c.args.text.now c.args.places.now c.args.lists.now c.args.names)) (c.loop-watch.invariant.2 tabs h) c.until.ensures c.loop-watch-test.true c.table-x-in-loop-watch.ensures)
 
 pub shape_of-tplaces : goal.shape_of-tplaces
-shape_of-tplaces c = c.loop-watch.invariant.0 ∙ c.table-x.auto.1.1.1.1.1.0
+shape_of-tplaces c = c.loop-watch.invariant.0 ∙ c.table-x.auto.tplaces
 
 pub shape_of-waves : goal.shape_of-waves
-shape_of-waves c = c.loop-watch.invariant.1 ∙ c.table-x.auto.1.1.1.1.1.1.1.0
+shape_of-waves c = c.loop-watch.invariant.1 ∙ c.table-x.auto.waves
 
 pub returns : goal.returns
 unfolding timing bytes

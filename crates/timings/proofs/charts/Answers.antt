@@ -13,7 +13,7 @@ unfolding laid each
 loop-i-init c = (omega arith, λ ws a. ([], writes_nothing _ _, refl))
 
 pub chart-p-requires : goal.chart-p-requires
-chart-p-requires c = ((c.requires.spots_len.0, omega (arith, c.requires.spots_len.1), few_characters c.requires.spots_len.2), c.requires.spots)
+chart-p-requires c = record { spots_len = (c.requires.spots_len.0, omega (arith, c.requires.spots_len.1), few_characters c.requires.spots_len.2); spots = c.requires.spots }
 
 pub overflow_add-i : goal.overflow_add-i
 overflow_add-i c = omega (arith, c.requires.spots_len.1)

@@ -24,7 +24,7 @@ bounds-letters-i c = let r = c.read-n.ensures c.requires.0 c.requires.1 in omega
 pub loop-i-preserved : goal.loop-i-preserved
 loop-i-preserved c =
     let r = c.read-n.ensures c.requires.0 c.requires.1 in
-    (omega arith, events_more _ _ c.loop-i.i (omega (arith, r.count, r.few, c.read-n.auto.1.1.1.0)) (omega (arith, r.count, r.few, c.read-n.auto.1.1.1.1.0)) c.loop-i.invariant.1 c.event-p.ensures)
+    (omega arith, events_more _ _ c.loop-i.i (omega (arith, r.count, r.few, c.read-n.auto.times)) (omega (arith, r.count, r.few, c.read-n.auto.letters)) c.loop-i.invariant.1 c.event-p.ensures)
 
 pub shape_of-page : goal.shape_of-page
 shape_of-page c = c.add.ensures.kept ∙ c.loop-i.invariant.1.kept ∙ c.add-p.ensures.kept

@@ -16,7 +16,7 @@ table-x-requires c =
     let p = c.requires.answers in
     let t = c.loop-cursor.invariant.1 p.0 p.1 p.2 p.3 in
     let u = turn (moves_table _) t c.until.ensures c.loop-cursor-test.true in
-    (c.requires.listed, (t.state, u.0, u.1, u.2))
+    record { listed = c.requires.listed; answers = (t.state, u.0, u.1, u.2) }
 
 pub loop-cursor-smaller : goal.loop-cursor-smaller
 unfolding bytes
@@ -27,7 +27,7 @@ loop-cursor-smaller c =
 pub loop-cursor-preserved : goal.loop-cursor-preserved
 unfolding bytes
 loop-cursor-preserved c = (
-  c.table-x.auto.0 ∙ c.loop-cursor.invariant.0,
+  c.table-x.auto.page ∙ c.loop-cursor.invariant.0,
   λ tabs it us y. again (moves_table _) (c.loop-cursor.invariant.1 tabs it us y) c.until.ensures c.loop-cursor-test.true (λ s s' vs m x. let w = c.table-x.ensures s s' vs x in (w.0, sheets_more m w.1)),
 )
 

@@ -12,7 +12,7 @@ unfolding bytes
 waveforms-x-requires c =
     let ns = names_of c.args.text.now c.args.places.now c.args.lists.now c.args.names in
     let x = table_parts ns c.requires.answers.0 c.requires.answers.3 c.due-a.ensures c.name-d.ensures c.head-h.ensures in
-    (c.requires.listed, (x.waves, x.rest, x.read))
+    record { listed = c.requires.listed; answers = (x.waves, x.rest, x.read) }
 
 pub returns : goal.returns
 unfolding bytes

@@ -15,7 +15,7 @@ pub table-x-requires : goal.table-x-requires
 unfolding bytes
 table-x-requires c =
     let f = timing_first (names_of c.args.text.now c.args.places.now c.args.lists.now c.args.names) c.requires.answers.2 c.due-a.ensures c.due-b.ensures in
-    (c.requires.listed, ([], f.0, f.1, f.2))
+    record { listed = c.requires.listed; answers = ([], f.0, f.1, f.2) }
 
 pub others-q-requires : goal.others-q-requires
 unfolding bytes
@@ -23,7 +23,7 @@ others-q-requires c =
     let ns = names_of c.args.text.now c.args.places.now c.args.lists.now c.args.names in
     let f = timing_first ns c.requires.answers.2 c.due-a.ensures c.due-b.ensures in
     let w = c.table-x.ensures [] f.0 f.1 f.2 in
-    (c.requires.listed, (f.0, c.requires.answers.0, c.requires.answers.1, behind (table ns []) (until "}" (table ns)) (moves_leaves (moves_table ns [])) f.2 f.3 w.0))
+    record { listed = c.requires.listed; answers = (f.0, c.requires.answers.0, c.requires.answers.1, behind (table ns []) (until "}" (table ns)) (moves_leaves (moves_table ns [])) f.2 f.3 w.0) }
 
 pub returns : goal.returns
 unfolding bytes

@@ -16,13 +16,13 @@ slice_bounds-table_spots-end c = sym (length-replicate {A = ℕ} spots_most 0)
 pub table_spots-cursor-requires : goal.table_spots-cursor-requires
 table_spots-cursor-requires c =
     let p = c.requires in
-    ((length-replicate {A = ℕ} spots_most 0, p.listed.0), ([], p.answers.0, p.answers.1, blank_spots _, p.answers.2))
+    record { spots_len = (length-replicate {A = ℕ} spots_most 0, p.listed.0); spots = ([], p.answers.0, p.answers.1, blank_spots _, p.answers.2) }
 
 pub charts-p-requires : goal.charts-p-requires
 unfolding bytes characters up_from
 charts-p-requires c =
     let p = c.requires in
-    ((c.table_spots-cursor.auto.1.1.1.1.1.0, p.listed.1, refl), (p.answers.0, (c.table_spots-cursor.ensures [] p.answers.0 p.answers.1 (blank_spots _) p.answers.2).1))
+    record { spots_len = (c.table_spots-cursor.auto.spots, p.listed.1, refl); spots = (p.answers.0, (c.table_spots-cursor.ensures [] p.answers.0 p.answers.1 (blank_spots _) p.answers.2).1) }
 
 pub returns : goal.returns
 unfolding bytes

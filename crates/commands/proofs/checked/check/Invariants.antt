@@ -3,7 +3,7 @@ use Prim.Native.Nat.{◌+◌, ◌-◌, ◌≤◌}
 use Rattle.commands.proofs.checked.check.Given as goal
 
 abbrev pub invariant-loop-i : goal.invariant-loop-i
-invariant-loop-i l = (2 ≤ l.i) × (l.tally.good + l.tally.hurt + l.tally.unread ≤ l.i)
+invariant-loop-i g l = (2 ≤ l.i) × (l.tally.good + l.tally.hurt + l.tally.unread ≤ l.i)
 
 abbrev pub decreases-loop-i : goal.decreases-loop-i
-decreases-loop-i l = l.words - l.i
+decreases-loop-i g l = l.words - l.i

@@ -4,7 +4,7 @@ use lib.ListN.{length}
 use Rattle.commands.proofs.split.answer.Given as goal
 
 abbrev pub invariant-loop-p : goal.invariant-loop-p
-invariant-loop-p l = (length l.page ≡ 262144) × (l.end ≤ 200000) × (l.at ≤ length l.text) × (l.k ≤ l.at)
+invariant-loop-p g l = (length l.page ≡ 262144) × (l.end ≤ 200000) × (l.at ≤ length l.text) × (l.k ≤ l.at)
 
 abbrev pub decreases-loop-p : goal.decreases-loop-p
-decreases-loop-p l = length l.text - l.at
+decreases-loop-p g l = length l.text - l.at

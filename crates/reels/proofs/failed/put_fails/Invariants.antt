@@ -5,7 +5,7 @@ use lib.ListN.{length}
 use Rattle.reels.proofs.failed.put_fails.Given as goal
 
 abbrev pub invariant-loop-i : goal.invariant-loop-i
-invariant-loop-i l = (length l.page ≡ 1048576) × (l.i ≤ l.k)
+invariant-loop-i g l = (length l.page ≡ 1048576) × (l.i ≤ l.k)
 
 abbrev pub decreases-loop-i : goal.decreases-loop-i
-decreases-loop-i l = l.k - l.i
+decreases-loop-i g l = l.k - l.i

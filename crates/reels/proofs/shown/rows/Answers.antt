@@ -4,4 +4,4 @@ use native.Mathlib.Omega.{arith}
 use Rattle.reels.proofs.shown.rows.Goals as goal
 
 pub loop-done-smaller : goal.loop-done-smaller
-loop-done-smaller c = omega (arith, c.fitting-n.ensures.2 (omega arith))
+loop-done-smaller g c = omega (arith, c.fitting-n.ensures.2 (omega arith))
