@@ -21,10 +21,6 @@ slice_bounds-ask-start c = omega (arith, c.loop-at.invariant.in_times)
 pub slice_bounds-ask-count-in-loop-at : goal.slice_bounds-ask-count-in-loop-at
 slice_bounds-ask-count-in-loop-at c = omega (arith, c.loop-at.invariant.in_letters)
 
--- LOST slice-bounds-ask-start-2
-part-ask-start-2 : tie.Need-slice-bounds-ask-start-2 invariant-loop decreases-loop
-part-ask-start-2 c = omega (arith, c.before.before.loop.invariant.in_letters)
-
 pub ask-o-requires : goal.ask-o-requires
 ask-o-requires c =
     (c.requires.accepted, c.loop-at-test.true, asked_few _ c.requires.asked_len_bound.0)
@@ -33,13 +29,13 @@ pub shape_of-times-then-o-ne0 : goal.shape_of-times-then-o-ne0
 shape_of-times-then-o-ne0 c =
     let ask = c.ask-o in
     let loop = c.loop-at in
-    same_len_mid loop.events (length loop.times - loop.events) loop.times ask.new.1.1.1.0 ask.auto.1.1.1.0 ∙ loop.invariant.times_long
+    same_len_mid loop.events (length loop.times - loop.events) loop.times ask.new.times ask.auto.times ∙ loop.invariant.times_long
 
 pub shape_of-letters-then-o-ne0 : goal.shape_of-letters-then-o-ne0
 shape_of-letters-then-o-ne0 c =
     let ask = c.ask-o in
     let loop = c.loop-at in
-    same_len_mid loop.events (length loop.letters - loop.events) loop.letters ask.new.1.1.1.1.0 ask.auto.1.1.1.1.0 ∙ loop.invariant.letters_long
+    same_len_mid loop.events (length loop.letters - loop.events) loop.letters ask.new.letters ask.auto.letters ∙ loop.invariant.letters_long
 
 pub shape_of-counts-then-o-ne0 : goal.shape_of-counts-then-o-ne0
 shape_of-counts-then-o-ne0 c = c.loop-at.invariant.counts_long
@@ -92,7 +88,7 @@ loop-at-preserved c =
     let ask = c.ask-o in
     let inv = c.loop-at.invariant in
     let next = next_asked _ _ c.loop-at-test.true in
-    serving_more inv next (ask.ensures _ _ next.cut) c.if-o-ne0.false ask.auto.1.1.1.0 ask.auto.1.1.1.1.0
+    serving_more inv next (ask.ensures _ _ next.cut) c.if-o-ne0.false ask.auto.times ask.auto.letters
 
 pub shape_of-times : goal.shape_of-times
 shape_of-times c = c.loop-at.invariant.times_long

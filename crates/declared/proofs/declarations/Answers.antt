@@ -8,7 +8,11 @@ pub timing-t-requires : goal.timing-t-requires
 timing-t-requires c =
     let names = c.front-f.ensures in
     let blank = c.requires in
-    ((blank.tables, blank.marks, names.sized), (blank.unset, λ on. (names_below names on, names.chained on)))
+    record {
+      tplaces_len = (blank.tables, blank.marks, names.sized);
+      by_index = blank.unset;
+      all_below = λ on. (names_below names on, names.chained on);
+    }
 
 pub returns : goal.returns
 unfolding declarations
