@@ -1,5 +1,4 @@
 -- Each turn takes the next signal.
-use Prim.Native.Nat.{◌-◌}
 use native.Mathlib.Omega.{arith}
 use Rattle.meaning.specs.Bounds.{signals_most}
 use Rattle.noted.proofs.Marking.{args_none, args_kept, args_next, args_rest, args_all}
