@@ -18,8 +18,8 @@ pub loop-s-preserved : goal.loop-s-preserved
 loop-s-preserved c =
     let x = c.loop-s.invariant.1 in
     elim c.if-given-s-ne0.branch [
-        then-given-s-ne0 w ↦ (omega arith, rw w.used-is (args_next x w.note_data.ensures.0 w.note_data.ensures.1))
-        | else-given-s-ne0 w ↦ (omega arith, rw w.used-is (args_kept x w.if-given-s-ne0.false))
+      | then-given-s-ne0 w ↦ (omega arith, rw w.used-is (args_next x w.note_data.ensures.0 w.note_data.ensures.1))
+      | else-given-s-ne0 w ↦ (omega arith, rw w.used-is (args_kept x w.if-given-s-ne0.false))
     ]
 
 pub shape_of-used : goal.shape_of-used
