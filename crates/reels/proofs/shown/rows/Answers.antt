@@ -1,5 +1,4 @@
 -- `rows` is safe and ends: what is done stays within what is due, and each window after the first brings a row at least.
-use Prim.Native.Nat.{◌-◌}
 use native.Mathlib.Omega.{arith}
 use Rattle.reels.proofs.shown.rows.Goals as goal
 
