@@ -1,9 +1,9 @@
 -- Each turn looks at the next signal.
 use Prim.Native.Nat.{◌-◌}
 use native.Mathlib.Omega.{arith}
-use mathlib.Core.Path.{sym}
+use mathlib.Core.Path.{sym, ap}
+use mathlib.Core.Bool.{not}
 use Rattle.crossings.proofs.Ordering.{first_none, second_none, looked_none, looked_next, looked_fails, looked_all}
-use Rattle.crossings.proofs.in_order.Lts as lts
 use Rattle.crossings.proofs.in_order.Goals as goal
 
 pub returns-then-j-ge-TABLES : goal.returns-then-j-ge-TABLES
@@ -31,7 +31,7 @@ pub fine-requires : goal.fine-requires
 fine-requires c = (c.requires.0, omega arith, omega arith, omega arith)
 
 pub returns-then-not-fine : goal.returns-then-not-fine
-returns-then-not-fine c = λ tabs h p q. sym (looked_fails (c.loop-s.invariant.1 tabs h p q) (omega arith) (omega arith) (omega arith) (c.fine.ensures tabs h) c.if-not-fine.true-raw)
+returns-then-not-fine c = λ tabs h p q. sym (looked_fails (c.loop-s.invariant.1 tabs h p q) (omega arith) (omega arith) (omega arith) (c.fine.ensures tabs h) (ap not c.if-not-fine.true))
 
 pub overflow_add-s : goal.overflow_add-s
 overflow_add-s c = omega arith
@@ -40,7 +40,7 @@ pub loop-s-smaller : goal.loop-s-smaller
 loop-s-smaller c = omega arith
 
 pub loop-s-preserved : goal.loop-s-preserved
-loop-s-preserved c = (omega arith, λ tabs h p q. looked_next (c.loop-s.invariant.1 tabs h p q) (omega arith) (omega arith) (omega arith) (c.fine.ensures tabs h) c.if-not-fine.false-raw)
+loop-s-preserved c = (omega arith, λ tabs h p q. looked_next (c.loop-s.invariant.1 tabs h p q) (omega arith) (omega arith) (omega arith) (c.fine.ensures tabs h) (ap not c.if-not-fine.false))
 
 pub returns : goal.returns
 returns c = λ tabs h p q. sym (looked_all (c.loop-s.invariant.1 tabs h p q) (omega arith) (omega arith) (omega arith))

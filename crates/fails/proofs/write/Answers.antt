@@ -23,7 +23,7 @@ loop-cursor-smaller c = less (takes_record _ []) (on _ _ c.until.ensures c.loop-
 
 -- src/lib.rt:380:5
 pub loop-cursor-preserved : goal.loop-cursor-preserved
-loop-cursor-preserved c = (omega (arith, c.loop-cursor.invariant.0, c.write_record-w.auto.1.1.1.1.1.1.1.1.1.1.1.1.1.0), omega (arith, c.loop-cursor.invariant.1, c.write_record-w.auto.1.1.1.1.1.1.1.1.1.1.1.1.1.1.0), omega (arith, c.loop-cursor.invariant.2, c.write_record-w.auto.1.1.1.1.1.1.1.1.1.1.1.1.1.1.1.0), written_more _ _ _ _ _ _ _ c.loop-cursor.invariant.3 c.until.ensures c.loop-cursor-test.true c.write_record-w.ensures)
+loop-cursor-preserved c = (omega (arith, c.loop-cursor.invariant.0, c.write_record-w.auto.cycles), omega (arith, c.loop-cursor.invariant.1, c.write_record-w.auto.signals), omega (arith, c.loop-cursor.invariant.2, c.write_record-w.auto.letters), written_more _ _ _ _ _ _ _ c.loop-cursor.invariant.3 c.until.ensures c.loop-cursor-test.true c.write_record-w.ensures)
 
 -- src/lib.rt:358:1
 pub shape_of-cycles : goal.shape_of-cycles

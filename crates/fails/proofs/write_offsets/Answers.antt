@@ -18,7 +18,7 @@ loop-o-smaller c = fewer (on _ _ c.until.ensures c.loop-o-test.true) c.offset-o.
 
 -- src/lib.rt:302:5
 pub loop-o-preserved : goal.loop-o-preserved
-loop-o-preserved c = (omega (arith, c.loop-o.invariant.0, c.put-n.auto.1.1.1.1.0), omega (arith, c.loop-o.invariant.1, c.put-n.auto.1.1.1.1.1.0), omega (arith, c.loop-o.invariant.2, c.put-n.auto.1.1.1.1.1.1.0), offsets_more _ _ _ _ _ _ _ c.loop-o.invariant.3 c.until.ensures c.loop-o-test.true c.offset-o.ensures c.cycle_at-cycle.ensures c.put-n.ensures)
+loop-o-preserved c = (omega (arith, c.loop-o.invariant.0, c.put-n.auto.cycles), omega (arith, c.loop-o.invariant.1, c.put-n.auto.signals), omega (arith, c.loop-o.invariant.2, c.put-n.auto.letters), offsets_more _ _ _ _ _ _ _ c.loop-o.invariant.3 c.until.ensures c.loop-o-test.true c.offset-o.ensures c.cycle_at-cycle.ensures c.put-n.ensures)
 
 -- src/lib.rt:288:1
 pub shape_of-cycles : goal.shape_of-cycles

@@ -7,7 +7,7 @@ returns-then-j-ne0 c = outline_refused c.judge-j.ensures c.if-j-ne0.true
 
 pub read-count-requires : goal.read-count-requires
 read-count-requires c =
-    (c.requires, entry c.judge-j.ensures c.if-j-ne0.false c.if-j.true)
+    record { times_len = c.requires; entry_at = entry c.judge-j.ensures c.if-j-ne0.false c.if-j.true }
 
 pub returns-then-j : goal.returns-then-j
 returns-then-j c =

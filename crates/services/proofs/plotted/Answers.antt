@@ -23,10 +23,11 @@ returns-then-roomy-spare c =
 
 pub serve-s-requires : goal.serve-s-requires
 serve-s-requires c =
-    let at = c.args in (
-      text_accepted c.judge-j.ensures c.if-j-ne0.false,
-      (list_few at.asked.now c.too_many.ensures c.if-too_many.false, counts_roomy at.asked.now at.counts.now at.spare c.within-roomy.ensures c.if-roomy-spare.false),
-    )
+    let at = c.args in
+    record {
+      accepted = text_accepted c.judge-j.ensures c.if-j-ne0.false;
+      asked_len_bound = (list_few at.asked.now c.too_many.ensures c.if-too_many.false, counts_roomy at.asked.now at.counts.now at.spare c.within-roomy.ensures c.if-roomy-spare.false);
+    }
 
 pub returns-then-s-ne0 : goal.returns-then-s-ne0
 returns-then-s-ne0 c =

@@ -6,13 +6,13 @@ pub returns-then-text-gt-TEXT_MOST : goal.returns-then-text-gt-TEXT_MOST
 returns-then-text-gt-TEXT_MOST c = save_too_long c.args.text.now c.args.spans.now c.args.spare c.if-text-gt-TEXT_MOST.true
 
 pub returns-then-m-ne0 : goal.returns-then-m-ne0
-returns-then-m-ne0 c = save_beyond c.args.text.now c.args.spans.now c.args.spare c.mend_copy-m.new.1.0 c.mend_copy-m.ensures c.if-m-ne0.true
+returns-then-m-ne0 c = save_beyond c.args.text.now c.args.spans.now c.args.spare c.mend_copy-m.new.copy c.mend_copy-m.ensures c.if-m-ne0.true
 
 pub returns-then-spare-spans : goal.returns-then-spare-spans
-returns-then-spare-spans c = save_roomless c.args.text.now c.args.spans.now c.args.spare c.mend_copy-m.new.1.0 c.mend_copy-m.ensures c.if-m-ne0.false c.if-spare-spans.true
+returns-then-spare-spans c = save_roomless c.args.text.now c.args.spans.now c.args.spare c.mend_copy-m.new.copy c.mend_copy-m.ensures c.if-m-ne0.false c.if-spare-spans.true
 
 pub hand_back-requires : goal.hand_back-requires
-hand_back-requires c = some_copy c.args.text.now c.args.spans.now c.args.spare c.mend_copy-m.new.1.0 c.mend_copy-m.ensures c.if-m-ne0.false c.if-spare-spans.false c.if-text-gt-TEXT_MOST.false
+hand_back-requires c = some_copy c.args.text.now c.args.spans.now c.args.spare c.mend_copy-m.new.copy c.mend_copy-m.ensures c.if-m-ne0.false c.if-spare-spans.false c.if-text-gt-TEXT_MOST.false
 
 pub returns : goal.returns
-returns c = save_told c.args.text.now c.args.spans.now c.args.spare c.mend_copy-m.new.1.0 c.mend_copy-m.ensures c.if-m-ne0.false c.if-spare-spans.false c.hand_back.ensures
+returns c = save_told c.args.text.now c.args.spans.now c.args.spare c.mend_copy-m.new.copy c.mend_copy-m.ensures c.if-m-ne0.false c.if-spare-spans.false c.hand_back.ensures

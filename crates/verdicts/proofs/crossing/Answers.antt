@@ -12,23 +12,26 @@ use Rattle.verdicts.proofs.crossing.Goals as goal
 pub of_text-requires : goal.of_text-requires
 of_text-requires c =
     let found = c.requires.1 in
-    let read = sound_runs _ found.is in (
-      record { first = length-replicate {A = ℕ} times_most 0; last = length-replicate {A = ℕ} times_most 0; each = length-replicate {A = ℕ} tables_most 0 },
-      (λ i. (zeros times_most i, zeros times_most i, zeros tables_most i), (found.it.read, read.rest, read.read)),
-    )
+    let read = sound_runs _ found.is in
+    record {
+      sized = record { first = length-replicate {A = ℕ} times_most 0; last = length-replicate {A = ℕ} times_most 0; each = length-replicate {A = ℕ} tables_most 0 };
+      by_index = λ i. (zeros times_most i, zeros times_most i, zeros tables_most i);
+      text_value = (found.it.read, read.rest, read.read);
+    }
 
 pub first_failing_pair-requires : goal.first_failing_pair-requires
 first_failing_pair-requires c =
     let filled = c.of_text in
     let found = c.requires.1 in
-    let read = sound_runs _ found.is in (
-      record {
-        first = filled.auto.1.0 ∙ length-replicate {A = ℕ} times_most 0;
-        last = filled.auto.1.1.0 ∙ length-replicate {A = ℕ} times_most 0;
-        each = filled.auto.1.1.1.0 ∙ length-replicate {A = ℕ} tables_most 0;
-      },
-      (record { parts = _; read = _; body = _; runs = runs found }, filled.ensures found.it.read read.rest read.read),
-    )
+    let read = sound_runs _ found.is in
+    record {
+      sized = record {
+        first = filled.auto.firsts ∙ length-replicate {A = ℕ} times_most 0;
+        last = filled.auto.lasts ∙ length-replicate {A = ℕ} times_most 0;
+        each = filled.auto.periods ∙ length-replicate {A = ℕ} tables_most 0;
+      };
+      spans = (record { parts = _; read = _; body = _; runs = runs found }, filled.ensures found.it.read read.rest read.read);
+    }
 
 pub returns : goal.returns
 returns c = record {
