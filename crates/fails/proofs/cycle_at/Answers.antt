@@ -1,7 +1,6 @@
 -- `cycle_at` meets its contract.
 use Rattle.fails.proofs.Writing.{too_far, near}
 use native.Mathlib.Omega.{arith}
-use Rattle.fails.proofs.cycle_at.Lts as lts
 use Rattle.fails.proofs.cycle_at.Goals as goal
 
 -- src/lib.rt:261:9

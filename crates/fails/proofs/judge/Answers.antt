@@ -4,7 +4,6 @@ use Rattle.tokens.specs.Written.{bytes}
 use Rattle.words.proofs.Loops.{less, on}
 use Rattle.reports.proofs.Passing.{takes_record}
 use Rattle.fails.proofs.Judging.{kept_none, kept_more, judges_refused, judges_all}
-use Rattle.fails.proofs.judge.Lts as lts
 use Rattle.fails.proofs.judge.Goals as goal
 
 -- src/lib.rt:222:5

@@ -2,7 +2,6 @@
 use Rattle.references.specs.References.{past_by}
 use Rattle.references.specs.Filled.{noted}
 use Rattle.fails.proofs.Judging.{at_word, judges_out, judges_in}
-use Rattle.fails.proofs.judge_record.Lts as lts
 use Rattle.fails.proofs.judge_record.Goals as goal
 
 -- src/lib.rt:167:9

@@ -3,7 +3,6 @@ use lib.Dec.{leb}
 use borrow.Author.Tests.{leb-true}
 use Rattle.fails.proofs.Judging.{none_left}
 use Rattle.tokens.proofs.Bools.{both}
-use Rattle.fails.proofs.left_behind.Lts as lts
 use Rattle.fails.proofs.left_behind.Goals as goal
 
 -- src/lib.rt:120:17

@@ -2,7 +2,6 @@
 use native.Mathlib.Omega.{arith}
 use lib.ListN.{length}
 use Rattle.fails.proofs.Writing.{there, puts_none, puts_one}
-use Rattle.fails.proofs.put.Lts as lts
 use Rattle.fails.proofs.put.Goals as goal
 
 -- src/lib.rt:279:9

@@ -1,6 +1,5 @@
 -- `take` meets its contract.
 use Rattle.fails.proofs.Judging.{none_taken, enough, some_taken}
-use Rattle.fails.proofs.take.Lts as lts
 use Rattle.fails.proofs.take.Goals as goal
 
 -- src/lib.rt:187:9

@@ -3,7 +3,6 @@ use Rattle.meaning.specs.Body.{Body}
 use Rattle.meaning.specs.Statements.{Decls}
 use Rattle.index.specs.Lines.{Lists}
 use Rattle.fails.proofs.Listing.{Seen}
-use Rattle.fails.proofs.times_listed.Lts as lts
 use Rattle.fails.proofs.times_listed.Given as goal
 
 abbrev pub invariant-loop-k : goal.invariant-loop-k

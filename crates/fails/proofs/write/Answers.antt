@@ -6,7 +6,6 @@ use Rattle.tokens.specs.Written.{bytes}
 use Rattle.words.proofs.Loops.{less, on}
 use Rattle.reports.proofs.Passing.{takes_record}
 use Rattle.fails.proofs.Writing.{written_none, written_more, written_all}
-use Rattle.fails.proofs.write.Lts as lts
 use Rattle.fails.proofs.write.Goals as goal
 
 -- src/lib.rt:380:5

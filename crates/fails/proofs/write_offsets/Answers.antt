@@ -5,7 +5,6 @@ use Rattle.tokens.specs.Written.{bytes}
 use Rattle.words.proofs.Loops.{on}
 use Rattle.reports.proofs.Counting.{fewer}
 use Rattle.fails.proofs.Writing.{offsets_none, offsets_more, offsets_all}
-use Rattle.fails.proofs.write_offsets.Lts as lts
 use Rattle.fails.proofs.write_offsets.Goals as goal
 
 -- src/lib.rt:302:5

@@ -3,7 +3,6 @@ use Rattle.references.specs.References.{past_by}
 use Rattle.references.specs.Filled.{noted}
 use Rattle.fails.proofs.Judging.{at_word}
 use Rattle.fails.proofs.Writing.{writes_some, writes_one}
-use Rattle.fails.proofs.write_record.Lts as lts
 use Rattle.fails.proofs.write_record.Goals as goal
 
 -- src/lib.rt:350:9

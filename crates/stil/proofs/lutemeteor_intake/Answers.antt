@@ -11,4 +11,4 @@ pub returns : goal.returns
 returns c =
     let args = c.args in
     carries_all _ args.state.now args.store.now c.if-state-lt-STATE.false
-    c.progress_of-p.ensures c.take-answer.ensures c.put_progress.ensures
+    c.progress_of-p.ensures (c.take-answer.ensures.value, c.take-answer.ensures.store_after) c.put_progress.ensures

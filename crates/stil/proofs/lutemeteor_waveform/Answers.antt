@@ -20,7 +20,7 @@ pub put-requires : goal.put-requires
 put-requires c =
     let e = c.events-e in
     let few = outline_few e.ensures c.if-e-ne0.false in
-    ((omega (arith, e.auto.1.1.1.1.0), omega (arith, e.auto.1.1.1.1.1.0)), roomy _ _ _ c.if-times-due.false)
+    record { n_in_bounds = (omega (arith, e.auto.ts), omega (arith, e.auto.ls)); n_in_bounds_2 = roomy _ _ _ c.if-times-due.false }
 
 pub returns : goal.returns
 returns c =
