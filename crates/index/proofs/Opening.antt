@@ -8,7 +8,6 @@ use mathlib.Core.List.{List, [], ◌∷◌, ◌++◌}
 use borrow.Author.Tests.{eq-eqb, ne_eqb}
 use Rattle.tokens.specs.Written.{bytes, same}
 use Rattle.tokens.specs.Tokens.{Tok, Toks, stop, tok, Mode, plain, inword, line, closing, opened, block, Act, go, token, bad, act, ended, done, lex, toks}
-use Rattle.meaning.specs.Reader.{◌>>◌}
 use Rattle.meaning.specs.Names.{find}
 use Rattle.meaning.specs.Groups.{groups}
 use Rattle.meaning.specs.Meaning.{given, firsts, Meaning, meaning}

@@ -1,5 +1,5 @@
 -- A word of a command line as a number (docs/COMMANDS.md): decimal digits, 0 to the largest of 64 bits, leading zeros allowed.
-use Rattle.std.specs.Prelude.{ℕ, Bool, true, false, List, [], ◌∷◌, leb}
+use Rattle.std.specs.Prelude.{ℕ, true, false, List, [], ◌∷◌, leb}
 use Rattle.std.proofs.Math.Option.{Option, none, some}
 use Rattle.pages.specs.Pages.{value}
 use Rattle.lines.specs.declared.Value.{Value}

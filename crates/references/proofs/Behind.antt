@@ -1,7 +1,6 @@
 -- What stands behind a head and behind a body, where they are held.
-use mathlib.Core.Path.{◌≡◌, refl, sym, ap, ◌∙◌}
+use mathlib.Core.Path.{◌≡◌, ap, ◌∙◌}
 use Rattle.tokens.specs.Tokens.{Toks}
-use Rattle.meaning.specs.Reader.{ok}
 use Rattle.meaning.specs.Body.{looped, shifted, entered, Body, done, vec, set', inner}
 use Rattle.meaning.specs.Statements.{Env, Head}
 use Rattle.held.specs.Held.{HeadAt, Holds}

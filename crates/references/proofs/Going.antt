@@ -7,7 +7,7 @@ use mathlib.Core.List.{List, [], ◌++◌, append_assoc}
 use lib.ListN.{length}
 use Rattle.tokens.specs.Tokens.{Tok, Toks, left}
 use Rattle.meaning.specs.Bounds.{signals_most}
-use Rattle.meaning.specs.Body.{Body, done}
+use Rattle.meaning.specs.Body.{Body}
 use Rattle.meaning.specs.Statements.{Env}
 use Rattle.meaning.specs.Run.{cycles}
 use Rattle.words.specs.Cursor.{alive, stream}

@@ -1,8 +1,7 @@
 -- The X names of a body are labels: in the pass over the tokens each of them is due behind an X with which something begins.
 use Prim.Native.Nat.{ℕ, ◌+◌, ◌*◌}
-use native.Mathlib.Omega.{arith}
 use mathlib.Core.Path.{◌≡◌, refl, sym, ap, ◌∙◌, subst}
-use mathlib.Core.Bool.{Bool, true, false, ◌||◌}
+use mathlib.Core.Bool.{Bool, true, false}
 use mathlib.Core.Option.{Option, none, some, or_else}
 use mathlib.Core.List.{List, [], ◌∷◌, ◌++◌}
 use Rattle.tokens.specs.Written.{bytes, same, cases}
@@ -16,7 +15,7 @@ use Rattle.meaning.specs.Run.{cycles}
 use Rattle.held.specs.Held.{Holds}
 use Rattle.meaning.specs.Labels.{Here, begins, due, within, beginning, parting, labelling, behind, labelled, labels_from, labels, taken, used_by}
 use Rattle.meaning.proofs.Others.{same_eq}
-use Rattle.labels.specs.Table.{words_of, number_of, Gathers}
+use Rattle.labels.specs.Table.{words_of, Gathers}
 use Rattle.labels.specs.declared.Gathered.{Gathered}
 use Rattle.labels.proofs.Chains.{taken_number}
 use Rattle.labels.proofs.Scanning.{behind_parting}

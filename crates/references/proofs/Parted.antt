@@ -19,7 +19,7 @@ use Rattle.meaning.proofs.Choices.{◌also◌}
 use Rattle.held.specs.Held.{All, HeadAt, Holds}
 use Rattle.held.proofs.Rest.{Rest, all, behind, Leaves, rest_rest, moves_leaves, moves_due, moves_name, moves_old, moves_new, moves_number, leaves_if, leaves_while}
 use Rattle.held.proofs.Grammar.{moves_assign, moves_argument, moves_statements}
-use Rattle.held.proofs.Leads.{Leads, leads_bind, leads_give, leads_if, leads_while}
+use Rattle.held.proofs.Leads.{Leads, leads_bind, leads_if, leads_while}
 use Rattle.held.proofs.Due.{any_is, due_is}
 use Rattle.held.proofs.All.{all_more}
 use Rattle.meaning.specs.Labels.{parting}

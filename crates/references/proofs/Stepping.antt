@@ -7,7 +7,7 @@ use mathlib.Core.Bool.{true, false}
 use mathlib.Core.List.{List, [], ◌++◌}
 use Rattle.tokens.specs.Tokens.{Tok, Toks, left}
 use Rattle.meaning.specs.Bounds.{cycles_most}
-use Rattle.meaning.specs.Body.{Args, assigning, choosing, Kind, looped, entered, Body, done, vec, set', inner, depth}
+use Rattle.meaning.specs.Body.{Args, assigning, choosing, Kind, looped, entered, Body, done, inner, depth}
 use Rattle.meaning.specs.Statements.{Env, Head, ends, vecs, sets, loops, shifts, uses}
 use Rattle.meaning.specs.Run.{turns_of, shift_of, cycles}
 use Rattle.meaning.proofs.Turns.{Plain}

@@ -8,7 +8,6 @@ use mathlib.Core.List.{List, [], ◌∷◌}
 use lib.Dec.{leb, ltb, eqb}
 use lib.ListN.{length, get_or, drop, drop_of_length-le}
 use borrow.Author.Tests.{lt-leb, le-leb, lt-ltb}
-use Rattle.tokens.specs.Written.{same}
 use Rattle.tokens.specs.Bytes.{digit}
 use Rattle.tokens.specs.Refusals.{not_here}
 use Rattle.tokens.specs.Tokens.{Toks}

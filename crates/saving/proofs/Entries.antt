@@ -7,10 +7,10 @@ use mathlib.Core.Option.{Option, none, some}
 use mathlib.Core.List.{List, [], ◌∷◌, ◌++◌}
 use lib.ListN.{length}
 use Rattle.tokens.specs.Written.{bytes, same}
-use Rattle.tokens.specs.Tokens.{Tok, Toks, stop, tok, toks, fault_of}
+use Rattle.tokens.specs.Tokens.{Tok, Toks, tok, toks, fault_of}
 use Rattle.meaning.specs.Refusals.{not_defined, too_large, not_playable, across_edge}
-use Rattle.meaning.specs.Reader.{Res, ok, refuse, ◌>>◌}
-use Rattle.meaning.specs.Names.{find, name}
+use Rattle.meaning.specs.Reader.{Res, ok, refuse}
+use Rattle.meaning.specs.Names.{find}
 use Rattle.meaning.specs.Groups.{groups}
 use Rattle.meaning.specs.Body.{listed, entered, Body, inner}
 use Rattle.meaning.specs.Statements.{Decl, Decls}

@@ -1,21 +1,20 @@
 -- Turn after turn: from what each promises to the service's answer.
-use Prim.Native.Nat.{ℕ, suc, ◌+◌, ◌*◌, ◌/◌, ◌≤◌, ◌<◌}
+use Prim.Native.Nat.{ℕ, suc, ◌*◌, ◌/◌, ◌≤◌, ◌<◌}
 use native.Mathlib.Omega.{arith}
 use mathlib.Core.Path.{◌≡◌, refl, sym, ap, ◌∙◌, subst}
 use mathlib.Core.Bool.{Bool, true, false}
 use mathlib.Core.Option.{Option, none, some}
 use mathlib.Core.List.{List, [], ◌∷◌, ◌++◌}
-use lib.Dec.{leb, eqb}
+use lib.Dec.{eqb}
 use lib.ListN.{length, take, drop, length-append}
 use lib.Seq.{take_at}
 use borrow.Author.Tests.{eq-eqb, ne_eqb, eqb-true, eqb-false, le-leb, lt-leb}
 use Rattle.tokens.specs.Refusals.{text_most, too_long}
-use Rattle.tokens.specs.Tokens.{fault_of}
 use Rattle.tokens.specs.Bytes.{between}
 use Rattle.tokens.proofs.Faults.{fault_too_long}
 use Rattle.meaning.specs.Refusals.{no_room}
-use Rattle.meaning.specs.Meaning.{Answer, given, refused, answering, Meaning, meaning_up_to, meaning}
-use Rattle.saving.specs.Saving.{Span, of_block, hurt, overwritten, Verdict, accepted, hurt_in, beyond_help, helped, verdict, Saved, saving, numbers_of, Restored, restored, save}
+use Rattle.meaning.specs.Meaning.{given, refused, answering, Meaning, meaning_up_to, meaning}
+use Rattle.saving.specs.Saving.{Span, of_block, hurt, overwritten, accepted, beyond_help, helped, verdict, Saved, saving, numbers_of, restored, save}
 use Rattle.saving.specs.Steps.{Steps, still, step}
 use Rattle.saving.specs.Found.{span_if, hurt_of}
 use Rattle.saving.specs.Spans.{noted, noted_all, counted_on, noted_on, Notes}

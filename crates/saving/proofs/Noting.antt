@@ -3,13 +3,12 @@ use Prim.Native.Nat.{ℕ, zero, suc, ◌+◌, ◌*◌, ◌≤◌, ◌<◌}
 use native.Mathlib.Numerals.{add-one}
 use native.Mathlib.Omega.{arith}
 use mathlib.Core.Path.{◌≡◌, refl, sym, ap, ◌∙◌}
-use mathlib.Core.Bool.{Bool, true, false}
-use mathlib.Core.Option.{Option, none, some}
+use mathlib.Core.Bool.{true, false}
 use mathlib.Core.List.{List, [], ◌∷◌, ◌++◌}
 use lib.ListN.{length, get_or, take, drop, set, length-append, length-take, length-drop}
 use Rattle.saving.specs.Saving.{Span, numbers_of}
 use Rattle.saving.specs.Spans.{noted, noted_all, Notes}
-use Rattle.saving.specs.Found.{span_if, hurt_of}
+use Rattle.saving.specs.Found.{hurt_of}
 use Rattle.saving.specs.declared.Hurt.{Hurt}
 
 -- ---- one store after the other

@@ -3,8 +3,8 @@ use Prim.Native.Nat.{ℕ, zero, suc, ◌≤◌}
 use Prim.Native.String.{String}
 use native.Mathlib.Omega.{arith}
 use mathlib.Core.Path.{◌≡◌, refl, ap}
-use mathlib.Core.Bool.{Bool, true, false, not, ◌&&◌}
-use mathlib.Core.Logic.{◌⊎◌, inl, inr}
+use mathlib.Core.Bool.{Bool, true, false, ◌&&◌}
+use mathlib.Core.Logic.{inl, inr}
 use mathlib.Core.Option.{Option, none, some}
 use mathlib.Core.List.{List, [], ◌∷◌}
 use lib.Dec.{leb, ltb, eqb}
@@ -13,7 +13,7 @@ use borrow.Author.Tests.{leb-true}
 use Rattle.tokens.specs.Written.{bytes, same}
 use Rattle.tokens.specs.Refusals.{text_most, too_long, not_here}
 use Rattle.tokens.specs.Tokens.{Tok, Toks, stop, tok, plain, toks, left, fault_in, fault_of}
-use Rattle.tokens.proofs.Stream.{Stops, Closes, closes}
+use Rattle.tokens.proofs.Stream.{Closes, closes}
 use Rattle.meaning.specs.Refusals.{used_name}
 use Rattle.meaning.specs.Bounds.{depth_most, entry_most, brackets_most}
 use Rattle.meaning.specs.Reader.{Res, Reader, ok, refuse, after, ◌>>=◌, give, refuse_if, any, ahead, due_of, one_of, choose, is_word, word, if_ahead, option, while_f, while, closed, until}

@@ -1,12 +1,12 @@
 -- The repetition ends: each turn leaves fewer bytes that are no spaces, and so its count of turns is always enough and shows nowhere.
 use Prim.Native.Nat.{ℕ, zero, suc, ◌+◌, ◌≤◌, ◌<◌}
 use native.Mathlib.Omega.{arith}
-use mathlib.Core.Path.{◌≡◌, refl, sym, ap, ◌∙◌, subst}
+use mathlib.Core.Path.{◌≡◌, refl, ap, ◌∙◌}
 use mathlib.Core.Option.{Option, none, some}
 use mathlib.Core.List.{List, [], ◌∷◌, ◌++◌}
 use lib.ListN.{length}
 use Rattle.meaning.specs.Meaning.{Answer, given, refused, answering, Meaning, meaning}
-use Rattle.saving.specs.Saving.{Span, hurt, spaced, overwritten, Verdict, accepted, hurt_in, beyond_help, helped, judged_as, verdict, Saved, first, saving_f, saving}
+use Rattle.saving.specs.Saving.{Span, hurt, overwritten, Verdict, accepted, hurt_in, beyond_help, helped, judged_as, verdict, Saved, first, saving_f, saving}
 use Rattle.saving.specs.Steps.{Steps, still, step}
 use Rattle.saving.proofs.Spaces.{spaced_length, inked, inked_most, spaced_fewer}
 use Rattle.saving.proofs.Marks.{Marked, hurt_marked}

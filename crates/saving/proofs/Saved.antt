@@ -1,8 +1,8 @@
 -- THE THEOREMS of request 13, over the definitions: a saved text is accepted, and differs from the text only in the spans, which are spaces there; a text beyond help
 -- is refused by the last refusal; and each overwriting is that of a block that the refusal lies in, or of an entry of the list.
-use Prim.Native.Nat.{ℕ, zero, suc, ◌+◌, ◌≤◌, ◌<◌}
+use Prim.Native.Nat.{ℕ, zero, suc, ◌≤◌, ◌<◌}
 use native.Mathlib.Omega.{arith}
-use mathlib.Core.Path.{◌≡◌, refl, sym, ap, ◌∙◌, subst}
+use mathlib.Core.Path.{◌≡◌, refl, sym, ◌∙◌, subst}
 use mathlib.Core.Bool.{Bool, true, false, ◌&&◌, ◌||◌}
 use mathlib.Core.Option.{Option, none, some}
 use mathlib.Core.List.{List, [], ◌∷◌}
@@ -15,7 +15,6 @@ use Rattle.meaning.specs.Meaning.{Answer, given, refused, answering, Meaning, me
 use Rattle.saving.specs.Saving.{Span, Block, blocks, in_block, block_at, entry, of_block, hurt, overwritten, Verdict, accepted, hurt_in, beyond_help, verdict, Saved, first, saving}
 use Rattle.saving.specs.Steps.{Steps, still, step}
 use Rattle.saving.proofs.Spaces.{spaced_inside, spaced_before, spaced_behind, inked, inked_most}
-use Rattle.saving.proofs.Marks.{Marked}
 use Rattle.saving.proofs.Entries.{ListedAt, listed_place}
 use Rattle.saving.proofs.Repeating.{hurt_refuses, accepts_verdict, accepted_means, beyond_refuses, hurt_span, turn_fewer, turn_length, saving_accepted, saving_beyond, saving_hurt, steps_length, steps_fewer}
 

@@ -1,9 +1,8 @@
 -- What the code's functions promise: the span that a refusal overwrites, and the scan for it, token by token.
-use Rattle.std.specs.Prelude.{ℕ, ◌+◌, ◌<◌, ◌≡◌, Bool, true, false}
+use Rattle.std.specs.Prelude.{ℕ, ◌≡◌, Bool, true, false}
 use Rattle.std.proofs.Math.Option.{Option, none, some}
-use Rattle.tokens.specs.Tokens.{Tok}
 use Rattle.words.specs.Values.{told}
-use Rattle.saving.specs.Saving.{Span, Turn, on, ends, turn}
+use Rattle.saving.specs.Saving.{Span, Turn, on, ends}
 use Rattle.saving.specs.declared.Hurt.{Hurt}
 use Rattle.saving.specs.declared.Scan.{Scan}
 

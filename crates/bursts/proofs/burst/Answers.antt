@@ -1,6 +1,5 @@
 -- `burst` meets its contract: reading on with the names so far is reading the whole list, and there are never more than fit.
 use mathlib.Core.Path.{sym, ◌∙◌}
-use mathlib.Core.Bool.{true}
 use native.Mathlib.Omega.{arith}
 use Rattle.tokens.specs.Written.{bytes}
 use Rattle.meaning.specs.Meaning.{firsts}

@@ -1,5 +1,4 @@
 -- The invariant: i of the bytes stand behind the first n.
-use Prim.Native.Nat.{◌-◌}
 use mathlib.Core.Path.{refl}
 use native.Mathlib.Omega.{arith}
 use Rattle.data.proofs.Over.{wrote_none, wrote_more, wrote_all}

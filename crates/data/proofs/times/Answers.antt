@@ -16,6 +16,6 @@ returns c =
     let w = c.bytes_of-w.result.now in
     let no = refused_by c.refuse_if-cursor.ensures refl in
     elim c.if-w-gt0.branch [
-        then-w-gt0+else-w-eq114 z ↦ then _ c.step-d.ensures (times_none _ c.bytes_of-w.ensures (repeat_other w z.if-w-eq114.false) no)
-        | else-w-gt0 z ↦ then _ c.step-d.ensures (times_none _ c.bytes_of-w.ensures (repeat_end w z.if-w-gt0.false) no)
+      | then-w-gt0+else-w-eq114 z ↦ then _ c.step-d.ensures (times_none _ c.bytes_of-w.ensures (repeat_other w z.if-w-eq114.false) no)
+      | else-w-gt0 z ↦ then _ c.step-d.ensures (times_none _ c.bytes_of-w.ensures (repeat_end w z.if-w-gt0.false) no)
     ]

@@ -1,5 +1,4 @@
 -- `holder` meets its contract. The invariant: none of the patterns up to number k holds the cycle, and the next one begins no later.
-use Prim.Native.Nat.{◌-◌}
 use native.Mathlib.Omega.{arith}
 use Rattle.index.proofs.Left.{next_named, next_fits}
 use Rattle.index.proofs.Writing.{unheld_all, held_none, held_here, held_later}

@@ -1,5 +1,4 @@
 -- `keywords` meets its contract. The invariant: those up to number i are stored, and the others are looked for from here on.
-use Prim.Native.Nat.{◌-◌}
 use native.Mathlib.Omega.{arith}
 use mathlib.Core.Path.{refl, ◌∙◌}
 use lib.ListN.{length-set}

@@ -1,5 +1,4 @@
 -- `lines` meets its contract. The invariant: the patterns up to number k have their lines, and there is room for a line for each other.
-use Prim.Native.Nat.{◌-◌}
 use native.Mathlib.Omega.{arith}
 use mathlib.Core.Path.{refl, ap}
 use lib.ListN.{length}

@@ -1,5 +1,5 @@
 -- `listed_at` meets its contract: the number that is found is the pattern's, and the book has its cycles there.
-use Prim.Native.Nat.{◌*◌, ◌<◌}
+use Prim.Native.Nat.{◌*◌}
 use native.Mathlib.Omega.{arith}
 use mathlib.Core.Path.{ap}
 use Rattle.words.proofs.Words.{rest}

@@ -1,5 +1,4 @@
 -- As long as nothing is missing, the first i marks are covered.
-use Prim.Native.Nat.{◌-◌}
 use native.Mathlib.Omega.{arith}
 use mathlib.Core.Path.{refl}
 use borrow.Author.Tests.{not-true}

@@ -1,5 +1,4 @@
 -- Each turn takes the next signal.
-use Prim.Native.Nat.{◌-◌}
 use native.Mathlib.Omega.{arith}
 use Rattle.meaning.specs.Bounds.{signals_most}
 use Rattle.noted.proofs.Marking.{noting_none, noting_kept, noting_next, noting_rest, noting_all}
@@ -18,8 +17,8 @@ pub loop-s-preserved : goal.loop-s-preserved
 loop-s-preserved c =
     let x = c.loop-s.invariant.1 in
     elim c.if-c.branch [
-        then-c w ↦ (omega arith, rw w.used-is (noting_next x w.note_char.ensures.0 w.note_char.ensures.1))
-        | else-c w ↦ (omega arith, rw w.used-is (noting_kept x w.if-c.false))
+      | then-c w ↦ (omega arith, rw w.used-is (noting_next x w.note_char.ensures.0 w.note_char.ensures.1))
+      | else-c w ↦ (omega arith, rw w.used-is (noting_kept x w.if-c.false))
     ]
 
 pub shape_of-used : goal.shape_of-used

@@ -1,5 +1,4 @@
 -- Each turn takes the next signal.
-use Prim.Native.Nat.{◌-◌}
 use native.Mathlib.Omega.{arith}
 use Rattle.meaning.specs.Bounds.{signals_most}
 use Rattle.noted.proofs.Marking.{args_none, args_kept, args_next, args_rest, args_all}
@@ -18,8 +17,8 @@ pub loop-s-preserved : goal.loop-s-preserved
 loop-s-preserved c =
     let x = c.loop-s.invariant.1 in
     elim c.if-given-s-ne0.branch [
-        then-given-s-ne0 w ↦ (omega arith, rw w.used-is (args_next x w.note_data.ensures.0 w.note_data.ensures.1))
-        | else-given-s-ne0 w ↦ (omega arith, rw w.used-is (args_kept x w.if-given-s-ne0.false))
+      | then-given-s-ne0 w ↦ (omega arith, rw w.used-is (args_next x w.note_data.ensures.0 w.note_data.ensures.1))
+      | else-given-s-ne0 w ↦ (omega arith, rw w.used-is (args_kept x w.if-given-s-ne0.false))
     ]
 
 pub shape_of-used : goal.shape_of-used

@@ -1,5 +1,4 @@
 -- Each turn takes the next byte.
-use Prim.Native.Nat.{◌-◌}
 use native.Mathlib.Omega.{arith}
 use Rattle.noted.proofs.Marking.{grows_none, grows_then, word_none, word_more, word_all}
 use Rattle.noted.proofs.note_word.Goals as goal

@@ -1,6 +1,5 @@
 -- Statements and one statement, one proof for both: a Loop's body may stand one level less deep, so that twice the levels fall. What is kept at each
 -- statement: the X names so far are in the table, and a rest of the body is held from the cursor on.
-use Prim.Native.Nat.{ℕ, ◌+◌, ◌*◌, ◌<◌}
 use native.Mathlib.Omega.{arith}
 use mathlib.Core.Path.{refl, sym, ◌∙◌}
 use Rattle.assigns.proofs.Table.{gave_zeros}

@@ -1,5 +1,4 @@
 -- `number` meets its contract. The invariant: the digits that are left, behind n, stand for the word's number, which is not too large yet.
-use Prim.Native.Nat.{◌-◌}
 use mathlib.Core.Path.{refl, sym, ap, ◌∙◌}
 use native.Mathlib.Omega.{arith}
 use Rattle.reports.specs.Read.{bounded}

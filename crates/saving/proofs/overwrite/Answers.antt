@@ -1,5 +1,4 @@
 -- `overwrite` meets its contract. The invariant: what is left to overwrite from here gives what was to be given.
-use Prim.Native.Nat.{◌-◌}
 use native.Mathlib.Omega.{arith}
 use mathlib.Core.Path.{refl, sym, ◌∙◌}
 use lib.ListN.{length, length-set}

@@ -1,5 +1,5 @@
 -- `lines` meets its contract. The invariant: the names up to number i have their lines, and there is room for a line for each other.
-use Prim.Native.Nat.{◌-◌, ◌≤◌}
+use Prim.Native.Nat.{◌≤◌}
 use native.Mathlib.Omega.{arith}
 use mathlib.Core.Path.{◌≡◌, refl, ap}
 use lib.ListN.{length}
