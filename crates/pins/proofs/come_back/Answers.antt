@@ -1,5 +1,4 @@
 -- Each turn takes the next signal.
-use Prim.Native.Nat.{◌-◌}
 use native.Mathlib.Omega.{arith}
 use Rattle.pins.proofs.Turns.{done_none, done_next}
 use Rattle.pins.proofs.Rows.{back_all}

@@ -10,7 +10,11 @@ front-f-requires c = (record { all = refl; rows = refl }, blank_chains)
 pub fill-requires : goal.fill-requires
 fill-requires c =
     let t = timing_read c.requires.text_value.0 c.requires.text_value.1 c.requires.text_value.2 c.opening-c.ensures c.front-f.ensures in
-    ((c.requires.sized, t.listed), (c.requires.by_index, (c.requires.text_value.0.tables, t.rest, t.answers)))
+    record {
+      sized = (c.requires.sized, t.listed);
+      by_index = c.requires.by_index;
+      answers = (c.requires.text_value.0.tables, t.rest, t.answers);
+    }
 
 pub returns : goal.returns
 returns c =

@@ -43,7 +43,7 @@ in_book c = let n = c.requires.listed_at in omega (arith, (found c n).0, n.few)
 -- and its measure, for what follows it
 measured : (c : After-measure_at-m) {E : Env} {ps : Decls} {d : Decl}
     → ListedAt
-    (ground c.args.text.now c.args.places.now c.args.lists.now c.args.tplaces.now c.args.book.now c.args.rows.now c.args.waves.now
+    (ground_of c.args.text.now c.args.places.now c.args.lists.now c.args.tplaces.now c.args.book.now c.args.rows.now c.args.waves.now
     c.args.known c.args.signals) c.args.list.now c.args.patterns c.args.k E ps d → Measures d.body c.measure_at-m.result
 measured c n =
     rw c.measure_at-m.ensures
