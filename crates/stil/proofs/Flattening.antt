@@ -1,11 +1,10 @@
 -- Fold for callers in C, from what the service answers where its length has room, or 19.
 use Prim.Native.Nat.{ℕ, ◌≤◌}
-use native.Mathlib.Omega.{arith}
 use mathlib.Core.Path.{◌≡◌, sym, ap, ◌∙◌}
 use mathlib.Core.List.{List, [], ◌∷◌}
 use lib.Dec.{leb}
 use lib.ListN.{length}
-use Rattle.meaning.specs.Meaning.{Answer, given, refused}
+use Rattle.meaning.specs.Meaning.{Answer}
 use Rattle.texts.specs.Told.{packed_refusal}
 use Rattle.folded.specs.Fold.{Folded as Bytes}
 use Rattle.flats.specs.Flattens.{folded_of, Folds}
