@@ -18,7 +18,7 @@ use Rattle.meaning.specs.Statements.{Decl, Decls, Env, statements, declared}
 use Rattle.meaning.specs.Document.{one_body, bodies_of, one_macro, one_procedure}
 use Rattle.held.proofs.All.{all_more}
 use Rattle.words.specs.declared.Cursor.{Cursor}
-use Rattle.words.specs.Cursor.{ahead, alive, from, Goes, Checked}
+use Rattle.words.specs.Cursor.{ahead, alive, Goes, Checked}
 use Rattle.words.specs.Table.{names}
 use Rattle.words.proofs.Flow.{given, then, checked, passed, alive_before}
 use Rattle.timing.specs.Makes.{Makes}

@@ -1,7 +1,7 @@
 -- What the code has of MacroDefs and Procedures. Which of the two: is it MacroDefs?
 use Rattle.std.specs.Prelude.{ℕ, ◌+◌, Bool, true, false, List}
 use Prim.Native.String.{String}
-use Rattle.meaning.specs.Reader.{Reader, ◌>>=◌, ◌>>◌, due, until}
+use Rattle.meaning.specs.Reader.{Reader, ◌>>◌, due, until}
 use Rattle.meaning.specs.Statements.{Env}
 use Rattle.meaning.specs.Document.{one_macro, one_procedure}
 use Rattle.timing.specs.Makes.{Makes}

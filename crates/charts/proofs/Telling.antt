@@ -4,11 +4,10 @@ use native.Mathlib.Omega.{arith}
 use mathlib.Core.Path.{◌≡◌, refl, sym, ap, ◌∙◌}
 use mathlib.Core.Bool.{Bool, true, false}
 use mathlib.Core.List.{List, [], ◌∷◌, ◌++◌}
-use lib.Dec.{ltb}
 use lib.ListN.{length, get_or, take, drop, set}
 use borrow.Author.Tests.{lt-ltb, le-ltb}
 use Rattle.meaning.specs.Bounds.{time_most}
-use Rattle.meaning.specs.Timing.{Event, Signed, plus, minus, uncounted}
+use Rattle.meaning.specs.Timing.{Event, plus, minus, uncounted}
 use Rattle.meaning.specs.Services.{word_range, bits_of, times_of}
 use Rattle.waves.specs.Waves.{counts_of}
 use Rattle.charts.specs.Serving.{told_all}

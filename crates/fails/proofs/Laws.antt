@@ -1,11 +1,9 @@
 -- What is declared before the patterns is the environment in which an accepted text's patterns are held.
 use mathlib.Core.Path.{◌≡◌, sym, ap, ◌∙◌}
-use mathlib.Core.List.{List}
-use Rattle.tokens.specs.Tokens.{Toks, toks}
+use Rattle.tokens.specs.Tokens.{Toks}
 use Rattle.meaning.specs.Reader.{ok, give}
 use Rattle.meaning.specs.Statements.{Env}
 use Rattle.meaning.specs.Document.{Read}
-use Rattle.meaning.specs.Meaning.{Meaning}
 use Rattle.meaning.proofs.Gives.{bind_go}
 use Rattle.held.proofs.Parts.{Parts}
 use Rattle.fails.specs.Fails.{declarations}

@@ -3,7 +3,7 @@ use Prim.Native.Nat.{ℕ, zero, suc, ◌+◌, ◌-◌, ◌≤◌, ◌<◌}
 use native.Mathlib.Omega.{arith}
 use mathlib.Core.Path.{◌≡◌, refl, sym, ap, ◌∙◌, subst}
 use mathlib.Core.Bool.{Bool, true, false, not}
-use mathlib.Core.Option.{Option, some}
+use mathlib.Core.Option.{some}
 use mathlib.Core.List.{List, [], ◌∷◌, ◌++◌, append_assoc, append-nil}
 use lib.ListN.{get_or}
 use Rattle.tokens.specs.Written.{same}
@@ -24,7 +24,7 @@ use Rattle.index.specs.Lines.{Lists, Shares, blocks_in}
 use Rattle.index.specs.declared.Share.{Share}
 use Rattle.index.proofs.Left.{alone_cycles, Left, left_all, next, next_cycles, next_fits, next_line, left_next}
 use Rattle.fails.specs.Fails.{lines_named}
-use Rattle.fails.specs.Once.{More, One, Several, Often}
+use Rattle.fails.specs.Once.{More, Several, Often}
 use Rattle.fails.specs.declared.Times.{Times}
 
 -- ---- one line more

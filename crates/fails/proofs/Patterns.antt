@@ -3,7 +3,7 @@ use Prim.Native.Nat.{ℕ, ◌≤◌}
 use mathlib.Core.Path.{◌≡◌, sym, ◌∙◌, subst}
 use mathlib.Core.Bool.{true}
 use mathlib.Core.Option.{none, some}
-use mathlib.Core.List.{List, [], ◌∷◌, ◌++◌}
+use mathlib.Core.List.{List, [], ◌∷◌}
 use Rattle.tokens.specs.Tokens.{Tok, Toks, toks}
 use Rattle.meaning.specs.Bounds.{depth_most, cycles_most}
 use Rattle.meaning.specs.Reader.{ok}
@@ -14,7 +14,6 @@ use Rattle.meaning.specs.Labels.{used_twice, each_once}
 use Rattle.meaning.specs.Run.{cycles}
 use Rattle.meaning.specs.Statements.{Decl, Decls, Env, for_patterns}
 use Rattle.meaning.specs.Document.{one_macro, one_procedure, bodies, pattern, patterns, Read, document, document_up_to}
-use Rattle.meaning.specs.Meaning.{refused}
 use Rattle.meaning.proofs.Gives.{bind_ok, bind_go}
 use Rattle.meaning.proofs.Once.{earlier_ok}
 use Rattle.meaning.proofs.Turns.{Plain, Good}

@@ -3,37 +3,35 @@ use Prim.Native.Nat.{ℕ, ◌+◌, ◌*◌, ◌<◌}
 use native.Mathlib.Omega.{arith}
 use mathlib.Core.Path.{◌≡◌, refl, sym, ap, ◌∙◌, subst}
 use mathlib.Core.Bool.{Bool, true, false}
-use mathlib.Core.Option.{Option, none, some}
-use mathlib.Core.List.{List, [], ◌∷◌}
+use mathlib.Core.Option.{none, some}
+use mathlib.Core.List.{List, []}
 use lib.Dec.{ltb}
-use lib.ListN.{length, get_or, drop, replicate, length-replicate, get_or-replicate}
+use lib.ListN.{get_or, drop, replicate, length-replicate, get_or-replicate}
 use borrow.Author.Tests.{ltb-true, ltb-false}
-use Rattle.tokens.specs.Tokens.{Tok, Toks, toks}
+use Rattle.tokens.specs.Tokens.{Toks, toks}
 use Rattle.meaning.specs.Bounds.{depth_most}
 use Rattle.meaning.specs.Names.{find}
-use Rattle.meaning.specs.Body.{Body}
 use Rattle.meaning.specs.Labels.{used_twice}
-use Rattle.meaning.specs.Run.{cycles}
 use Rattle.meaning.specs.Statements.{Decl, Decls, Env}
 use Rattle.held.specs.Held.{Holds}
-use Rattle.words.specs.Cursor.{stream, Stands, alive}
+use Rattle.words.specs.Cursor.{stream, Stands}
 use Rattle.words.specs.Table.{names}
 use Rattle.words.specs.Values.{told}
 use Rattle.words.specs.declared.Cursor.{Cursor}
 use Rattle.words.proofs.Words.{zeros}
-use Rattle.measures.specs.Book.{entries, first_pattern, start_at, Entry}
+use Rattle.measures.specs.Book.{entries, first_pattern, start_at}
 use Rattle.heads.specs.declared.Known.{Known}
 use Rattle.texts.proofs.Runs.{found_none, found_pattern}
 use Rattle.labels.specs.Table.{labels_most, hashes, Gathers}
 use Rattle.labels.proofs.Scanning.{empty_held}
 use Rattle.labels.specs.declared.Gathered.{Gathered}
 use Rattle.references.specs.References.{referred, past_by, past}
-use Rattle.references.specs.Filled.{noted, Filled, tables, Standing, Stood, Promised}
+use Rattle.references.specs.Filled.{noted, tables, Standing, Stood, Promised}
 use Rattle.references.specs.declared.Passed.{Passed}
 use Rattle.references.proofs.Whole.{Labelled, past_is}
 use Rattle.references.proofs.Labelled.{names_labelled}
 use Rattle.references.proofs.Apart.{none_twice}
-use Rattle.fails.specs.Referred.{Pattern, Blank, Refers}
+use Rattle.fails.specs.Referred.{Pattern, Blank}
 
 module _ {text places lists tplaces book rows : List ℕ} {known : Known} {patterns : ℕ} {name : List ℕ} {E : Env} {ps : Decls} {d : Decl}
     (p : Pattern text places lists tplaces book rows known patterns name E ps d) where

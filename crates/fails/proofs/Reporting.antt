@@ -11,7 +11,6 @@ use borrow.Author.Tests.{le-leb, leb-true}
 use Rattle.tokens.specs.Tokens.{Tok}
 use Rattle.tokens.proofs.Bools.{never}
 use Rattle.meaning.specs.Refusals.{no_room}
-use Rattle.meaning.specs.Run.{cycles}
 use Rattle.meaning.specs.Statements.{Decl, Decls, Env, numbered}
 use Rattle.meaning.specs.Meaning.{Answer, given, refused, answering}
 use Rattle.words.specs.Cursor.{span}

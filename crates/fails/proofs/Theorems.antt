@@ -3,7 +3,7 @@ use Prim.Native.Nat.{ℕ}
 use mathlib.Core.Path.{◌≡◌, sym, ap, ◌∙◌}
 use mathlib.Core.Bool.{true, false}
 use mathlib.Core.List.{List}
-use Rattle.fails.specs.Fails.{Told, answers, refuses, Rows, Failed}
+use Rattle.fails.specs.Fails.{Told, answers, refuses, Failed}
 use Rattle.fails.specs.Service.{told_of, row_after, Reports}
 use Rattle.fails.specs.declared.Failures.{Failures}
 use Rattle.fails.specs.declared.Failures.TheVariants.{Answers, Refused, ReportRefused}

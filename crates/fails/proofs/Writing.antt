@@ -1,35 +1,34 @@
 -- The writing pass: answers at the fronts of three rows, one behind the other.
-use Prim.Native.Nat.{ℕ, zero, suc, ◌+◌, ◌-◌, ◌≤◌, ◌<◌}
+use Prim.Native.Nat.{ℕ, suc, ◌+◌, ◌-◌, ◌≤◌, ◌<◌}
 use native.Mathlib.Omega.{arith}
 use mathlib.Core.Path.{◌≡◌, refl, sym, ap, ◌∙◌, subst}
 use mathlib.Core.Bool.{Bool, true, false, not, ◌&&◌, ◌||◌}
 use mathlib.Core.Option.{Option, none, some}
 use mathlib.Core.List.{List, [], ◌∷◌, ◌++◌, append_assoc, append-nil}
 use lib.Dec.{leb, ltb}
-use lib.ListN.{length, set, drop, length-append, length-drop}
+use lib.ListN.{length, set, length-append}
 use borrow.Author.Tests.{lt-leb, leb-false, le-ltb, ltb-false}
 use Rattle.tokens.specs.Written.{bytes}
-use Rattle.tokens.specs.Tokens.{Tok, Toks}
+use Rattle.tokens.specs.Tokens.{Tok}
 use Rattle.tokens.proofs.Bools.{neither}
 use Rattle.meaning.specs.Bounds.{cycles_most}
-use Rattle.meaning.specs.Reader.{due, ahead_of, while, until}
-use Rattle.meaning.specs.Meaning.{Answer, given, refused, answering}
+use Rattle.meaning.specs.Reader.{due, ahead_of, while}
+use Rattle.meaning.specs.Meaning.{given}
 use Rattle.words.specs.Cursor.{span, ahead, stream, Stands, alive, Goes}
 use Rattle.words.specs.Values.{told}
 use Rattle.words.specs.declared.Cursor.{Cursor}
 use Rattle.words.proofs.Loops.{Leads, turned, over, ends}
 use Rattle.references.specs.Filled.{past_of}
 use Rattle.references.specs.declared.Before.{Before}
-use Rattle.reports.specs.Report.{Signals, Offset, offset, one_more, head, Record, one_record, Fail, not_in_pattern, offsets_of, answered_of, answered_all}
+use Rattle.reports.specs.Report.{Signals, Offset, offset, one_more, head, Record, one_record, Fail, offsets_of, answered_of, answered_all}
 use Rattle.reports.specs.Read.{earlier, first_outside}
-use Rattle.reports.proofs.Answers.{Both, both}
+use Rattle.reports.proofs.Answers.{both}
 use Rattle.reports.proofs.Counting.{fails_from, answered_by}
 use Rattle.reports.proofs.Passing.{takes_more, takes_record, more_goes}
 use Rattle.fails.specs.Fails.{Rows, in_front}
-use Rattle.fails.specs.Judged.{Records}
 use Rattle.fails.specs.Written.{Stand, Roomy, Adds, PutsOne, Within, WritesOffsets, WritesRecord, Writes}
 use Rattle.fails.specs.declared.Wrote.{Wrote}
-use Rattle.fails.proofs.Judging.{fails_long, answered_unknown, answered_known, record_goes, answered_last, reads_on, ended}
+use Rattle.fails.proofs.Judging.{answered_unknown, answered_known, record_goes, answered_last, reads_on, ended}
 
 -- ---- a row
 

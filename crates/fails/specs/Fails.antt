@@ -1,5 +1,5 @@
 -- The service Fails (request 9): a text and a fail report to a run's cycle, a signal's number and a letter for each offset of the report.
-use Rattle.std.specs.Prelude.{ℕ, Bool, true, false, ◌&&◌, List, [], ◌∷◌, ◌++◌, leb, length, drop}
+use Rattle.std.specs.Prelude.{ℕ, Bool, true, false, ◌&&◌, List, [], ◌∷◌, leb, length, drop}
 use Rattle.std.proofs.Math.Option.{Option, none, some}
 use Rattle.tokens.specs.Written.{same}
 use Rattle.tokens.specs.Tokens.{Tok, toks}
@@ -11,11 +11,11 @@ use Rattle.meaning.specs.Groups.{groups}
 use Rattle.meaning.specs.Timing.{timing}
 use Rattle.meaning.specs.Statements.{Decls, Env, for_patterns, numbered}
 use Rattle.meaning.specs.Document.{Read, bodies, document}
-use Rattle.meaning.specs.Meaning.{Answer, given, refused, answering, Meaning, meaning}
+use Rattle.meaning.specs.Meaning.{Answer, given, refused, answering, meaning}
 use Rattle.held.proofs.Parts.{first_env}
 use Rattle.index.specs.Index.{Line, index_of}
 use Rattle.references.specs.References.{past}
-use Rattle.reports.specs.Report.{Report, reported, not_in_pattern, Fail, answered}
+use Rattle.reports.specs.Report.{reported, not_in_pattern, Fail, answered}
 
 -- ---- answers and refusals
 

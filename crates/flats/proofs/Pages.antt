@@ -1,9 +1,9 @@
 -- Two pages joined, and what a folded text's refusal or bytes say of it.
-use Prim.Native.Nat.{ℕ, zero, suc, ◌+◌, ◌-◌, ◌≤◌, ◌<◌}
+use Prim.Native.Nat.{ℕ, ◌-◌, ◌≤◌, ◌<◌}
 use native.Mathlib.Omega.{arith}
 use mathlib.Core.Path.{◌≡◌, refl, sym, ap, ap₂, ◌∙◌, subst}
 use mathlib.Core.Bool.{Bool, true, false}
-use mathlib.Core.List.{List, [], ◌∷◌, ◌++◌}
+use mathlib.Core.List.{List, [], ◌++◌}
 use lib.Dec.{leb}
 use lib.ListN.{length, take, drop, length-append}
 use lib.Seq.{take_at}
@@ -12,7 +12,7 @@ use Rattle.tokens.specs.Refusals.{text_most}
 use Rattle.tokens.proofs.Bools.{true_false}
 use Rattle.meaning.specs.Bounds.{patterns_most}
 use Rattle.meaning.specs.Refusals.{no_room}
-use Rattle.meaning.specs.Meaning.{Answer, given, refused, Meaning, meaning}
+use Rattle.meaning.specs.Meaning.{Answer, given, refused, Meaning}
 use Rattle.plays.specs.Plays.{Ground}
 use Rattle.folded.specs.Flat.{patterns_of, flat}
 use Rattle.folded.specs.Layout.{written}
@@ -20,7 +20,7 @@ use Rattle.folded.specs.Fold.{many_patterns}
 use Rattle.pens.specs.Pens.{Holds, Writes}
 use Rattle.pens.specs.declared.Pen.{Pen}
 use Rattle.flats.specs.Meant.{Meant, signals_in, tables_in, Bodied}
-use Rattle.flats.specs.Flattens.{headed, Heads, Fits, Joins, flat_in, Stands, Puts}
+use Rattle.flats.specs.Flattens.{headed, Heads, Fits, Joins, flat_in, Puts}
 use Rattle.flats.specs.declared.Part.{Part}
 use Rattle.flats.specs.declared.Flat.{Flat}
 use Rattle.flats.proofs.Whole.{body_of, whole_is}

@@ -1,23 +1,21 @@
 -- One listed pattern: its Patterns from the first one's beginning to the last one's end.
-use Prim.Native.Nat.{ℕ, zero, suc, ◌+◌, ◌*◌, ◌-◌, ◌/◌, ◌≤◌, ◌<◌, min}
+use Prim.Native.Nat.{ℕ, ◌+◌, ◌*◌, ◌-◌, ◌/◌, ◌≤◌, ◌<◌, min}
 use native.Mathlib.Nat.{one-mul, le-div_iff_mul-le, div-mul-le_self, mul-le-mul_right}
 use native.Mathlib.Omega.{arith}
 use native.Mathlib.Numerals.{add-one}
-use mathlib.Core.Path.{◌≡◌, refl, sym, ap, ap₂, ◌∙◌, subst}
+use mathlib.Core.Path.{◌≡◌, refl, sym, ap, ap₂, ◌∙◌}
 use mathlib.Core.Option.{Option, none}
-use mathlib.Core.List.{List, [], ◌∷◌, ◌++◌, append-nil}
+use mathlib.Core.List.{List, [], ◌++◌, append-nil}
 use lib.ListN.{length}
 use Rattle.words.specs.Values.{told}
-use Rattle.meaning.specs.Bounds.{signals_most, list_most, cycles_most}
+use Rattle.meaning.specs.Bounds.{list_most}
 use Rattle.meaning.specs.Meaning.{Meaning}
 use Rattle.plays.specs.Plays.{Ground}
-use Rattle.folded.specs.Pieces.{Piece, laid}
+use Rattle.folded.specs.Pieces.{laid}
 use Rattle.folded.specs.Flat.{Row}
-use Rattle.folded.specs.Walk.{opened, walked, begun_all}
-use Rattle.folded.specs.Fold.{folded_most}
 use Rattle.pens.specs.declared.Pen.{Pen}
 use Rattle.stretches.specs.Rows.{row_in}
-use Rattle.stretches.specs.Folding.{Onward, ahead, left_by, begins, Opens, Ends, Taking}
+use Rattle.stretches.specs.Folding.{ahead, left_by, begins, Opens, Ends}
 use Rattle.stretches.specs.declared.Folding.{Folding}
 use Rattle.stretches.proofs.Writing.{onward_none, onward_more, onward_both, onward_from, own_opened}
 use Rattle.stretches.proofs.Taking.{walked_ahead, begins_none, begins_one}

@@ -1,40 +1,34 @@
 -- All listed patterns, one after the other: what is left of the run, of its cycles and of what is to be written.
-use Prim.Native.Nat.{ℕ, zero, suc, ◌+◌, ◌*◌, ◌-◌, ◌≤◌, ◌<◌}
+use Prim.Native.Nat.{ℕ, ◌+◌, ◌-◌, ◌≤◌, ◌<◌}
 use native.Mathlib.Omega.{arith}
 use mathlib.Core.Path.{◌≡◌, refl, sym, ap, ap₂, ◌∙◌, subst}
-use mathlib.Core.Bool.{Bool, true, false}
-use mathlib.Core.Option.{some}
+use mathlib.Core.Bool.{false}
 use mathlib.Core.List.{List, [], ◌∷◌, ◌++◌, append_assoc, append-nil}
-use lib.ListN.{length, take, drop, length-append}
+use lib.ListN.{length, take, length-append}
 use lib.Seq.{take_at, drop_at}
 use Rattle.tokens.specs.Tokens.{Tok}
-use Rattle.meaning.specs.Bounds.{cycles_most}
-use Rattle.meaning.specs.Names.{find}
 use Rattle.meaning.specs.Body.{listed as by_list, entered, Body, done, inner}
-use Rattle.meaning.specs.Run.{Cycle, cycles, turns_of, shift_of, play, playing, entering, follow, start, cycles_of, alone}
+use Rattle.meaning.specs.Run.{Cycle, cycles, shift_of, play, playing, entering, follow, start, cycles_of, alone}
 use Rattle.meaning.specs.Meaning.{Answer, given, answering, run_of, Meaning}
-use Rattle.meaning.specs.Statements.{Decl, Decls}
+use Rattle.meaning.specs.Statements.{Decls}
 use Rattle.meaning.proofs.Rows.{rows_are_cycles}
 use Rattle.walks.specs.Seen.{seen}
 use Rattle.words.specs.Table.{name_of}
 use Rattle.texts.proofs.Runs.{list_from, list_cut, list_end}
-use Rattle.bursts.specs.Listed.{listed_in}
 use Rattle.sections.specs.Listing.{Short}
-use Rattle.index.specs.Lines.{Lists, Named, SomeNamed, Shares}
+use Rattle.index.specs.Lines.{Lists, Named, Shares}
 use Rattle.index.specs.declared.Share.{Share}
 use Rattle.index.proofs.Names.{listed_few}
-use Rattle.index.proofs.Left.{First, Left, next, next_named, next_cycles, next_fits}
+use Rattle.index.proofs.Left.{First, Left, next, next_named, next_cycles}
 use Rattle.plays.specs.Plays.{Ground}
-use Rattle.folded.specs.Pieces.{Piece, laid}
+use Rattle.folded.specs.Pieces.{laid}
 use Rattle.folded.specs.Flat.{Row, rows_of, listed_rows}
-use Rattle.folded.specs.Walk.{walked, walked_all, begun_all}
-use Rattle.folded.specs.Fold.{folded_most}
+use Rattle.folded.specs.Walk.{walked_all, begun_all}
 use Rattle.pens.specs.Pens.{Writes}
-use Rattle.pens.specs.declared.Pen.{Pen}
 use Rattle.stretches.specs.Folding.{Onward}
 use Rattle.stretches.proofs.Writing.{onward_none, onward_both, onward_from, onward_all}
 use Rattle.stretches.proofs.Taking.{begins_all}
-use Rattle.flats.specs.Meant.{Meant, signals_in, tables_in, Listed, Parts, Run, Patterned}
+use Rattle.flats.specs.Meant.{Meant, signals_in, tables_in, Parts}
 use Rattle.flats.specs.declared.Part.{Part}
 
 -- ---- a run's first pattern, and the rest

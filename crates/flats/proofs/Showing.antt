@@ -1,5 +1,5 @@
 -- What a window writes with the mark 0 are the rows themselves; window by window they are a listed pattern's.
-use Prim.Native.Nat.{ℕ, suc, ◌+◌, ◌*◌, ◌-◌, ◌≤◌, ◌<◌}
+use Prim.Native.Nat.{ℕ, suc, ◌+◌, ◌*◌, ◌-◌, ◌≤◌}
 use native.Mathlib.Nat.{suc-mul, zero-mul}
 use native.Mathlib.Omega.{arith}
 use mathlib.Core.Path.{◌≡◌, refl, sym, ap, ap₂, ◌∙◌, subst}
@@ -22,9 +22,7 @@ use Rattle.windows.specs.Run.{Accepts, Windows}
 use Rattle.folded.specs.Flat.{Row, table_of, row_of, rows_of}
 use Rattle.folded.proofs.Source.{rows-++}
 use Rattle.stretches.specs.Rows.{row_in, rows_in}
-use Rattle.stretches.specs.Folding.{Takes}
 use Rattle.stretches.specs.declared.Folding.{Folding}
-use Rattle.stretches.proofs.Laws.{rows_long}
 use Rattle.stretches.proofs.Taking.{takes_none, takes_both}
 use Rattle.flats.specs.Meant.{Meant, signals_in, tables_in, Shows}
 

@@ -1,10 +1,10 @@
 -- The whole text from its parts: each part's pieces are its own and then those behind, so that parts that were written one behind the other are the text.
-use Prim.Native.Nat.{ℕ, zero, ◌+◌, ◌-◌, ◌≤◌, ◌<◌}
+use Prim.Native.Nat.{ℕ, ◌-◌, ◌≤◌}
 use native.Mathlib.Omega.{arith}
-use mathlib.Core.Path.{◌≡◌, refl, sym, ap, ap₂, ◌∙◌, subst}
-use mathlib.Core.Bool.{Bool, true, false}
+use mathlib.Core.Path.{◌≡◌, refl, sym, ap, ap₂, ◌∙◌}
+use mathlib.Core.Bool.{false}
 use mathlib.Core.List.{List, [], ◌∷◌, ◌++◌, append_assoc}
-use lib.ListN.{length, length-append}
+use lib.ListN.{length}
 use Rattle.tokens.specs.Written.{bytes}
 use Rattle.tokens.specs.Tokens.{Tok}
 use Rattle.meaning.specs.Bounds.{signals_most}
@@ -18,10 +18,10 @@ use Rattle.texts.proofs.Runs.{list_from, list_end, list_cut}
 use Rattle.index.proofs.Left.{first_listed}
 use Rattle.plays.specs.Plays.{Ground}
 use Rattle.folded.specs.Pieces.{Piece, word, only, laid, each}
-use Rattle.folded.specs.Flat.{Row, Chart, Sheet, Line, directed, direction, sheets, rows_of, listed_rows, parted, parted_all, lines_of, patterns_of, flat}
+use Rattle.folded.specs.Flat.{Row, Chart, Sheet, directed, sheets, rows_of, listed_rows, parted_all, lines_of, patterns_of, flat}
 use Rattle.pages.specs.Pages.{digits, decimal}
-use Rattle.folded.specs.Layout.{pattern_name, signal_put, signals_put, time_put, event_put, entry_put, chart_put, sheet_put, timing_put, names_from, listed_put, burst_put, burst_name, exec_put, pattern_put, named_from, or_one, names_of, sheet_names, pieces, written}
-use Rattle.folded.specs.Walk.{walked_all, begun_all}
+use Rattle.folded.specs.Layout.{pattern_name, signal_put, signals_put, time_put, event_put, entry_put, chart_put, sheet_put, timing_put, names_from, listed_put, burst_put, exec_put, pattern_put, named_from, or_one, names_of, sheet_names, pieces, written}
+use Rattle.folded.specs.Walk.{begun_all}
 use Rattle.folded.specs.Same.{words_of}
 use Rattle.folded.proofs.Walk.{walked_all_lem, begun_all_lem}
 use Rattle.folded.proofs.FlatGood.{lines_length}

@@ -1,6 +1,5 @@
 -- What the code has of an accepted text that is folded, and what is promised of its rows, window by window, and of its Patterns, one listed pattern after the other.
 use Rattle.std.specs.Prelude.{ℕ, ◌+◌, ◌*◌, ◌≤◌, ◌≡◌, false, List, [], ◌∷◌, length}
-use Rattle.meaning.specs.Bounds.{signals_most}
 use Rattle.meaning.specs.Run.{size, cycles, cycles_of}
 use Rattle.meaning.specs.Meaning.{given, Meaning, meaning, firsts}
 use Rattle.words.specs.Table.{names}

@@ -7,7 +7,7 @@ use lib.ListN.{length}
 use Rattle.tokens.specs.Written.{bytes}
 use Rattle.tokens.specs.Bytes.{blank}
 use Rattle.tokens.specs.Tokens.{Tok, Toks, tok}
-use Rattle.meaning.specs.Reader.{◌>>=◌, ◌>>◌, due, closed, until}
+use Rattle.meaning.specs.Reader.{◌>>◌, due, closed, until}
 use Rattle.meaning.specs.Names.{due_among}
 use Rattle.meaning.specs.Signals.{Names, directions, signal, signals, signal_up_to, signals_up_to}
 use Rattle.meaning.specs.Meaning.{firsts}

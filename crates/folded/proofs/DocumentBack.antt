@@ -15,7 +15,7 @@ use Rattle.meaning.specs.Statements.{Env, for_patterns}
 use Rattle.meaning.specs.Document.{macro_defs, procedures, bodies, patterns, Read, document, document_up_to}
 use Rattle.meaning.proofs.Gives.{bind_go}
 use Rattle.held.proofs.Parts.{first_env}
-use Rattle.folded.specs.Pieces.{Piece, each, word}
+use Rattle.folded.specs.Pieces.{Piece, each}
 use Rattle.folded.specs.Flat.{Sheet, Flat}
 use Rattle.folded.specs.Layout.{burst_name, names_from, named_from, or_one, names_of, sheet_names, pattern_put, signals_put, timing_put, burst_put, exec_put, pieces}
 use Rattle.folded.specs.Same.{words_of}

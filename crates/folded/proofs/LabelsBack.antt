@@ -2,13 +2,13 @@
 use Prim.Native.Nat.{ℕ}
 use native.Mathlib.Omega.{arith}
 use mathlib.Core.Path.{◌≡◌, refl, sym, ap, ◌∙◌, subst}
-use mathlib.Core.Bool.{Bool, true, false, ◌&&◌, ◌||◌}
+use mathlib.Core.Bool.{Bool, true, false}
 use mathlib.Core.Option.{Option, none, some}
 use mathlib.Core.List.{List, [], ◌∷◌, ◌++◌}
 use lib.Dec.{leb}
 use Rattle.tokens.specs.Written.{bytes, same, cases}
 use Rattle.tokens.specs.Bytes.{between, blank, digit, letter, wordy}
-use Rattle.tokens.specs.Tokens.{Tok, Toks, stop, tok}
+use Rattle.tokens.specs.Tokens.{Toks, stop, tok}
 use Rattle.meaning.specs.Lists.{has}
 use Rattle.meaning.specs.Reader.{Reader, is_word}
 use Rattle.meaning.specs.Names.{reserved, among, is_name}
@@ -18,11 +18,11 @@ use Rattle.meaning.specs.Body.{Assigns, Body}
 use Rattle.meaning.specs.Document.{over}
 use Rattle.meaning.proofs.Once.{once_none}
 use Rattle.meaning.proofs.Others.{same_eq}
-use Rattle.folded.specs.Pieces.{Piece, each, only, word, closing, opening, lf, space, semicolon}
+use Rattle.folded.specs.Pieces.{Piece, each, only, word, closing, opening, lf, space}
 use Rattle.folded.specs.Flat.{Line, chooses, repeats}
 use Rattle.folded.specs.Layout.{burst_name, name_at, value_put, vector_put, line_put, pattern_put}
 use Rattle.pages.specs.Pages.{decimal}
-use Rattle.folded.proofs.Words.{Before, Proper, sign, words}
+use Rattle.folded.proofs.Words.{Before, sign, words}
 use Rattle.folded.proofs.Reading.{Reads, AllFit, SomeFit, find_in}
 use Rattle.folded.proofs.Leaves.{decimal_word}
 use Rattle.folded.proofs.SignalsBack.{proper_word}

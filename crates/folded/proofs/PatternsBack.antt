@@ -20,7 +20,7 @@ use Rattle.meaning.specs.Document.{besides, pattern, over, patterns}
 use Rattle.meaning.proofs.Unplaced.{unplaced}
 use Rattle.held.proofs.Rest.{moves_takes}
 use Rattle.held.proofs.Grammar.{moves_pattern}
-use Rattle.folded.specs.Pieces.{Piece, each, only, word, lf}
+use Rattle.folded.specs.Pieces.{Piece, each, only, lf}
 use Rattle.folded.specs.Flat.{Line}
 use Rattle.folded.specs.Layout.{burst_name, pattern_put}
 use Rattle.folded.proofs.Words.{Before, Proper, sign, words}

@@ -7,9 +7,8 @@ use lib.ListN.{length}
 use Rattle.tokens.specs.Tokens.{Toks, toks}
 use Rattle.meaning.specs.Bounds.{depth_most}
 use Rattle.meaning.specs.Reader.{ok, give}
-use Rattle.meaning.specs.Signals.{signals}
 use Rattle.meaning.specs.Groups.{groups}
-use Rattle.meaning.specs.Body.{listed, Body, depth}
+use Rattle.meaning.specs.Body.{Body, depth}
 use Rattle.meaning.specs.Statements.{Env}
 use Rattle.meaning.specs.Document.{Read}
 use Rattle.meaning.specs.Run.{Cycle, play, cycles_of, alone}

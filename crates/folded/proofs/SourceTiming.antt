@@ -11,7 +11,7 @@ use borrow.Author.Tests.{leb-true, leb-false, not-false}
 use Rattle.tokens.specs.Written.{bytes, same}
 use Rattle.tokens.specs.Tokens.{Tok, Toks}
 use Rattle.meaning.specs.Bounds.{entry_most, tables_most, time_most}
-use Rattle.meaning.specs.Reader.{Res, ok, refuse, ◌>>=◌, ahead_of, ahead, due, word}
+use Rattle.meaning.specs.Reader.{Res, ok, refuse, ◌>>=◌, ahead_of, ahead, due}
 use Rattle.meaning.specs.Names.{is_name, find, old_name, within}
 use Rattle.meaning.specs.Signals.{Names}
 use Rattle.meaning.specs.Timing.{Event, Wave, Table, Tables, quoted, counted_most, signed_quoted, drives, compares, event_letter, letter_due, alternative, letters, spread, rises, add_events, Events, one_event, event, wave_char, all_chars, blanks, waves_of, waves_for, entry, waveforms, table, timing}

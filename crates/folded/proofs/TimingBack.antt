@@ -24,7 +24,7 @@ use Rattle.meaning.proofs.Takes.{while_done}
 use Rattle.meaning.proofs.Signs.{amount, amount_most, counted_back}
 use Rattle.held.proofs.Rest.{moves_takes}
 use Rattle.held.proofs.Grammar.{moves_alternative, moves_event, moves_entry, moves_waveforms, moves_table}
-use Rattle.folded.specs.Pieces.{Piece, each, only, word, closing, lf}
+use Rattle.folded.specs.Pieces.{Piece, each, only, closing, lf}
 use Rattle.folded.specs.Flat.{Entries, Chart, Sheet}
 use Rattle.folded.specs.Layout.{timed, time_put, event_put, entry_put, chart_put, sheet_put, timing_put}
 use Rattle.folded.proofs.Words.{Proper, sign, words}

@@ -9,7 +9,7 @@ use mathlib.Core.List.{List}
 use lib.Dec.{eqb, ltb, leb, lit<}
 use lib.Bits.{bit_or, or_shr, or_mod, or_lt}
 use lib.Pow.{shl_exact}
-use lib.ListN.{length, get_or, set, length-set}
+use lib.ListN.{length, get_or, set}
 use lib.Seq.{get_or-set_same, get_or-set_other}
 use borrow.Author.Tests.{eq-eqb, eqb-true, eqb-false, ltb-true, ltb-false, le-leb, leb-true, ne_eqb, not-true, lt-ltb}
 use Rattle.tokens.proofs.Bools.{both, neither, or_right, true_false}

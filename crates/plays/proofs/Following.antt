@@ -4,7 +4,7 @@ use native.Mathlib.Omega.{arith}
 use mathlib.Core.Path.{◌≡◌, refl, sym, ap, ◌∙◌}
 use mathlib.Core.Bool.{Bool, true, false}
 use mathlib.Core.Option.{Option, none, some, or_else}
-use mathlib.Core.List.{List, ◌++◌}
+use mathlib.Core.List.{List}
 use Rattle.tokens.specs.Tokens.{Toks}
 use Rattle.meaning.specs.Timing.{Tables}
 use Rattle.meaning.specs.Run.{State, Played, follow}

@@ -11,11 +11,10 @@ use borrow.Author.Tests.{ltb-true, leb-true, leb-false, eqb-true, eqb-false, not
 use Rattle.tokens.proofs.Bools.{both, neither, true_false}
 use Rattle.meaning.specs.Bounds.{signals_most, tables_most}
 use Rattle.meaning.specs.Timing.{Tables}
-use Rattle.meaning.specs.Run.{unassigned}
 use Rattle.pins.specs.Shown.{table_of}
 use Rattle.pins.proofs.Callers.{table_some}
-use Rattle.sums.specs.Sums.{Shown, before, Sum, ok_at, or_table}
-use Rattle.tallies.specs.Rows.{slots, flag_at, slot_of, is_slot, sum_at, Marked}
+use Rattle.sums.specs.Sums.{before, Sum, ok_at, or_table}
+use Rattle.tallies.specs.Rows.{slots, flag_at, sum_at, Marked}
 use Rattle.measures.specs.Book.{first_procedure}
 use Rattle.memos.specs.Tracks.{is_marked, assigned_mark, marks_most, Joins, tracks_length, marks_at, Granted}
 use Rattle.memos.proofs.Marking.{MarkedIf, marked_kept, marked_here, marked_other, joins_zero}

@@ -22,15 +22,15 @@ use Rattle.turns.proofs.Shows.{seen, With}
 use Rattle.turns.proofs.Thinned.{thinning}
 use Rattle.turns.proofs.Decides.{few_left}
 use Rattle.measures.specs.Book.{bodies, first_procedure}
-use Rattle.pins.specs.Shown.{table_of, values_length, Shows}
+use Rattle.pins.specs.Shown.{table_of, values_length}
 use Rattle.sums.specs.Sums.{Shown, before, argument, char, Sum, ok_at, or_table, Asks, Stands, Leaves, due, Sums}
 use Rattle.sums.specs.Parts.{Exact, last_of}
 use Rattle.sums.proofs.Left.{last_at}
 use Rattle.tallies.specs.Rows.{row_size, sum_at, Marked, left_on, Grants, Holds}
-use Rattle.memos.specs.Tracks.{is_marked, assigned_mark, Granted as GrantedPin, Like, Lands, Tracked}
+use Rattle.memos.specs.Tracks.{is_marked, assigned_mark, Granted as GrantedPin, Like}
 use Rattle.memos.proofs.Tracking.{like_same}
 use Rattle.plays.proofs.Tracks.{pins_wide, procedure_tracked}
-use Rattle.plays.specs.Plays.{Ground, Settles, SumMarks, PassedMarks, Passing}
+use Rattle.plays.specs.Plays.{Ground, Settles, SumMarks, Passing}
 use Rattle.plays.proofs.Summing.{usable, known_sum}
 use Rattle.plays.proofs.Entering.{kind_macro, kind_procedure}
 

@@ -17,7 +17,7 @@ use Rattle.meaning.specs.Timing.{Tables}
 use Rattle.meaning.specs.Reader.{due_of}
 use Rattle.meaning.specs.Body.{Assigns, done, vec}
 use Rattle.meaning.specs.Run.{State, follow, again}
-use Rattle.meaning.specs.Statements.{Env, Head, ends, vecs}
+use Rattle.meaning.specs.Statements.{Env, Head, vecs}
 use Rattle.held.specs.Held.{free_head, Holds}
 use Rattle.turns.specs.Few.{play_few}
 use Rattle.words.specs.Cursor.{alive, stream, Goes}

@@ -4,8 +4,7 @@ use native.Mathlib.Omega.{arith}
 use mathlib.Core.Path.{◌≡◌, refl, sym, ap, ◌∙◌, subst}
 use mathlib.Core.Bool.{Bool, true, false}
 use mathlib.Core.List.{List, []}
-use lib.ListN.{length, get_or, take}
-use lib.Seq.{length-take-le}
+use lib.ListN.{length, get_or}
 use Rattle.meaning.specs.Bounds.{signals_most, tables_most}
 use Rattle.memos.specs.Tracks.{Joins, shown_marks, tracks_length, marks_at, Tracking}
 use Rattle.memos.proofs.Marking.{joins_zero}

@@ -8,7 +8,7 @@ use mathlib.Core.List.{List}
 use lib.ListN.{length, get_or, replicate, length-replicate}
 use Rattle.tokens.specs.Tokens.{Tok, toks}
 use Rattle.meaning.specs.Bounds.{signals_most}
-use Rattle.meaning.specs.Body.{listed, Body}
+use Rattle.meaning.specs.Body.{Body}
 use Rattle.meaning.specs.Run.{start, cycles_of}
 use Rattle.meaning.specs.Meaning.{first_failing}
 use Rattle.meaning.specs.Names.{find}

@@ -1,5 +1,5 @@
 -- What is tracked of each statement: which signals it assigns, and under which table it shows the others.
-use Prim.Native.Nat.{ℕ, zero, suc, ◌+◌, ◌-◌, ◌*◌, ◌<◌, ◌≤◌}
+use Prim.Native.Nat.{ℕ, zero, suc, ◌+◌, ◌-◌, ◌<◌, ◌≤◌}
 use native.Mathlib.Nat.{add-zero, zero-add, add-suc, suc-add}
 use native.Mathlib.Omega.{arith}
 use mathlib.Core.Path.{◌≡◌, refl, sym, ap, ◌∙◌, subst}
@@ -14,7 +14,7 @@ use Rattle.tokens.specs.Tokens.{Toks}
 use Rattle.tokens.proofs.Bools.{both, true_false}
 use Rattle.meaning.specs.Bounds.{signals_most, tables_most, depth_most}
 use Rattle.meaning.specs.Timing.{Wave, Tables}
-use Rattle.meaning.specs.Body.{Assigns, Args, mark, choosing, Kind, macro, procedure, Body, done, vec, marked, arg_of}
+use Rattle.meaning.specs.Body.{Assigns, Args, mark, choosing, macro, procedure, Body, marked, arg_of}
 use Rattle.meaning.specs.Run.{State, Played, unassigned, next, puts, changed, cycle_at, follow, again, bare, entering}
 use Rattle.meaning.specs.Statements.{Env}
 use Rattle.words.specs.declared.Cursor.{Cursor}
@@ -24,16 +24,15 @@ use Rattle.meaning.proofs.Rows.{puts_table, puts_long}
 use Rattle.walks.specs.Turns.{lost_all}
 use Rattle.walks.proofs.Shifts.{puts_args}
 use Rattle.measures.specs.Uses.{Given}
-use Rattle.assigns.specs.Given.{char_of}
 use lib.Seq.{length-take-le}
 use Rattle.pins.specs.Shown.{table_of, values_length, Shows, vector}
 use Rattle.plays.specs.Plays.{Ground, Arrays, nest_of, Fits, Invoking}
 use Rattle.pins.proofs.Puts.{shown, puts_pin}
 use Rattle.sums.specs.Sums.{ok_at}
 use Rattle.sums.proofs.Cycles.{passes}
-use Rattle.memos.specs.Tracks.{is_marked, assigned_mark, Joins, shown_marks, tracks_length, marks_at, Granted, Like, Lands, Tracked, Tracking}
-use Rattle.memos.proofs.Marking.{zero_marked, joins_zero, joins_same, shown_put, shown_kept, shown_under}
-use Rattle.memos.proofs.Tracking.{tracked_then, tracked_same, tracked_silent, tracked_wide, tracking_joined, like_same}
+use Rattle.memos.specs.Tracks.{is_marked, assigned_mark, shown_marks, Granted, Like, Lands, Tracked}
+use Rattle.memos.proofs.Marking.{zero_marked, joins_same, shown_put, shown_kept, shown_under}
+use Rattle.memos.proofs.Tracking.{tracked_then, tracked_silent}
 
 -- ---- a cycle that can be played shows what can be shown
 

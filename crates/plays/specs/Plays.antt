@@ -1,5 +1,5 @@
 -- What is promised of playing bodies where the text holds them.
-use Rattle.std.specs.Prelude.{ℕ, ◌+◌, ◌*◌, ◌-◌, ◌<◌, ◌≤◌, ◌≡◌, Bool, true, false, List, length, get_or, take}
+use Rattle.std.specs.Prelude.{ℕ, ◌+◌, ◌*◌, ◌-◌, ◌<◌, ◌≤◌, ◌≡◌, true, false, List, length, get_or}
 use Rattle.std.proofs.Math.Option.{Option, none, some}
 use Rattle.tokens.specs.Tokens.{Toks, toks, left}
 use Rattle.meaning.specs.Bounds.{signals_most, tables_most, depth_most}
@@ -19,7 +19,7 @@ use Rattle.timing.specs.Marks.{table_size}
 use Rattle.timing.specs.Held.{Held}
 use Rattle.measures.specs.Book.{bodies, first_procedure, start_at}
 use Rattle.arguments.specs.Supplied.{Supplied}
-use Rattle.sums.specs.Sums.{Shown, before, Sum, or_table, Sums}
+use Rattle.sums.specs.Sums.{before, Sum, or_table, Sums}
 use Rattle.sums.specs.Parts.{Exact}
 use Rattle.tallies.specs.Rows.{row_size, sum_at, is_summed, is_shifted, Marked}
 use Rattle.heads.specs.declared.Known.{Known}
@@ -30,7 +30,7 @@ use Rattle.plays.specs.declared.Played.{Played}
 use Rattle.plays.specs.declared.Passed.{Passed}
 use Rattle.memos.specs.declared.Use.{Use}
 use Rattle.memos.specs.declared.Found.{Found}
-use Rattle.memos.specs.Tracks.{is_marked, assigned_mark, Joins, tracks_length, marks_from, marks_at, Granted, Tracked, Tracking}
+use Rattle.memos.specs.Tracks.{is_marked, assigned_mark, tracks_length, marks_from, marks_at, Granted, Tracked, Tracking}
 use Rattle.memos.specs.Memo.{before_at, AtLevel, telling, Row, Finds}
 
 -- ---- what is played

@@ -17,10 +17,8 @@ use Rattle.columns.proofs.Laws.{onward_capped, onward_joins, later_is}
 use Rattle.columns.specs.declared.Position.{Position}
 use Rattle.tokens.proofs.Laws.{unfolds, at_token}
 use Rattle.reader.specs.Pass.{later, seen_in, seen, standing, placed, behind, behind_next, position_behind, ahead_at, ahead_of, passed, passes, answers, ending}
-use Rattle.reader.specs.declared.Reader.{Reader}
 use Rattle.reader.specs.declared.Seen.{Seen}
 use Rattle.reader.specs.declared.Seen.TheVariants.{Token}
-use Rattle.reader.specs.declared.Ahead.{Ahead}
 
 -- an answer that is known tells the place behind it
 pub behind_known : (text : List ℕ) (at : ℕ) (x : Next) → next_token text at ≡ x → behind x at ≡ behind_next text at

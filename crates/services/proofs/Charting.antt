@@ -8,7 +8,7 @@ use lib.Dec.{leb}
 use lib.ListN.{length}
 use borrow.Author.Tests.{leb-true, eq-eqb, ne_eqb}
 use Rattle.meaning.specs.Refusals.{too_many, no_room}
-use Rattle.meaning.specs.Meaning.{Answer, given, refused, answering, Meaning, meaning}
+use Rattle.meaning.specs.Meaning.{Answer, given, refused, answering}
 use Rattle.meaning.specs.Charts.{chart_most, asked_in, Chart, chart, waveforms}
 use Rattle.charts.specs.Serving.{Accepted, stopped_by, Serves}
 use Rattle.charts.specs.declared.Served.{Served}

@@ -13,7 +13,6 @@ use borrow.Author.Tests.{ltb-false, not-true, not-false}
 use Rattle.tokens.specs.Written.{same}
 use Rattle.tokens.proofs.Bools.{neither}
 use Rattle.meaning.specs.Refusals.{no_room}
-use Rattle.meaning.specs.Run.{size}
 use Rattle.meaning.specs.Meaning.{Answer, given, refused, answering, Meaning}
 use Rattle.timing.specs.declared.Watch.{Watch}
 use Rattle.texts.specs.Texts.{sound}

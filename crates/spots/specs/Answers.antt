@@ -1,7 +1,7 @@
 -- Reading again what was read before: the definition's reader answers, so that the code tests nothing and goes where that goes.
 use Rattle.std.specs.Prelude.{ℕ, ◌≡◌, true, List}
 use Rattle.tokens.specs.Tokens.{Toks, toks}
-use Rattle.meaning.specs.Reader.{Reader, ok, ◌>>=◌, ◌>>◌, due}
+use Rattle.meaning.specs.Reader.{Reader, ok, ◌>>◌, due}
 use Rattle.words.specs.Cursor.{alive, stream}
 use Rattle.words.specs.declared.Cursor.{Cursor}
 

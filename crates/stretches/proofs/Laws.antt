@@ -6,14 +6,13 @@ use mathlib.Core.Path.{◌≡◌, refl, sym, ap, ap₂, ◌∙◌}
 use mathlib.Core.Bool.{Bool, true, false, not, ◌&&◌, ◌||◌}
 use mathlib.Core.List.{List, [], ◌∷◌, ◌++◌}
 use lib.Dec.{eqb}
-use lib.ListN.{length, get_or, take, drop, length-drop, length-take, drop_of_length-le}
-use lib.Seq.{drop-cons, take_at, length-take-le}
-use borrow.Author.Tests.{eq-eqb}
+use lib.ListN.{length, get_or, take, drop, length-drop, drop_of_length-le}
+use lib.Seq.{drop-cons, length-take-le}
 use Rattle.tokens.specs.Written.{same}
 use Rattle.meaning.specs.Meaning.{firsts}
 use Rattle.meaning.specs.Run.{unassigned}
 use Rattle.words.specs.Table.{name_of, names_from}
-use Rattle.folded.specs.Flat.{Row, same_row, loses}
+use Rattle.folded.specs.Flat.{same_row, loses}
 use Rattle.folded.specs.Layout.{name_at}
 use Rattle.folded.specs.Same.{words_of}
 use Rattle.stretches.specs.Rows.{row_in, rows_in, words_in}

@@ -1,12 +1,12 @@
 -- Row by row: what each step writes is the next part of what is left, and the numbers of the Patterns go along.
-use Prim.Native.Nat.{ℕ, zero, suc, ◌+◌, ◌*◌, ◌-◌, ◌≤◌, ◌<◌}
+use Prim.Native.Nat.{ℕ, zero, suc, ◌+◌, ◌≤◌, ◌<◌}
 use native.Mathlib.Omega.{arith}
 use native.Mathlib.Numerals.{add-one}
-use mathlib.Core.Path.{◌≡◌, refl, sym, ap, ap₂, ◌∙◌, subst}
+use mathlib.Core.Path.{◌≡◌, refl, sym, ap, ap₂, ◌∙◌}
 use mathlib.Core.Bool.{Bool, true, false}
 use mathlib.Core.Option.{Option, none, some}
 use mathlib.Core.List.{List, [], ◌∷◌, ◌++◌, append_assoc}
-use lib.ListN.{length, take, drop, length-append}
+use lib.ListN.{length, drop, length-append}
 use Rattle.words.specs.Values.{told}
 use Rattle.pages.specs.Pages.{Puts}
 use Rattle.pages.proofs.Laws.{puts_length}
@@ -16,10 +16,10 @@ use Rattle.folded.specs.Walk.{opened, closed, flushed, rest, walked, begun, begu
 use Rattle.folded.proofs.Stretches.{row_is, self_loses}
 use Rattle.pens.specs.Pens.{Writes}
 use Rattle.pens.specs.declared.Pen.{Pen}
-use Rattle.stretches.specs.Rows.{row_in, rows_in}
+use Rattle.stretches.specs.Rows.{row_in}
 use Rattle.stretches.specs.Folding.{Onward, ahead, left_by, begins, Follows, Takes, Ends}
 use Rattle.stretches.specs.declared.Folding.{Folding}
-use Rattle.stretches.proofs.Laws.{row_kept, row_next, rows_end, rows_long}
+use Rattle.stretches.proofs.Laws.{row_kept}
 use Rattle.stretches.proofs.Writing.{onward_none, onward_more, onward_both, onward_from, onward_pen, own_flush, own_opened, own_closed}
 
 -- the same but for how often the row in hand came

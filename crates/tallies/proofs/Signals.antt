@@ -1,12 +1,12 @@
 -- What a row says of one signal, by its slots.
 use Prim.Native.Nat.{ℕ, ◌+◌, ◌*◌, ◌<◌}
 use native.Mathlib.Omega.{arith}
-use mathlib.Core.Path.{◌≡◌, refl, sym, ap, ◌∙◌, subst}
+use mathlib.Core.Path.{◌≡◌, refl, sym, subst}
 use mathlib.Core.Bool.{Bool, true, false, not}
-use mathlib.Core.Option.{Option, none, some}
+use mathlib.Core.Option.{none, some}
 use mathlib.Core.List.{List}
 use lib.Dec.{ltb, eqb}
-use borrow.Author.Tests.{lt-ltb, ltb-false, eqb-true, not-true, not-false}
+use borrow.Author.Tests.{lt-ltb, ltb-false}
 use Rattle.meaning.specs.Bounds.{signals_most, tables_most}
 use Rattle.meaning.specs.Body.{mark}
 use Rattle.pins.specs.Shown.{table_of}

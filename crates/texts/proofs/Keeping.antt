@@ -31,7 +31,7 @@ use Rattle.timing.specs.Makes.{Makes}
 use Rattle.timing.proofs.Making.{made}
 use Rattle.measures.specs.declared.Measure.{Measure}
 use Rattle.measures.specs.Measures.{Measures}
-use Rattle.measures.specs.Book.{first_procedure, bodies, burst, first_pattern, entries, Listed, Used, Kept}
+use Rattle.measures.specs.Book.{first_procedure, bodies, burst, first_pattern, Listed, Used, Kept}
 use Rattle.measures.proofs.Book.{listed_map, entry_new, used_beside, entries_more, part_listed}
 use Rattle.heads.specs.declared.Known.{Known}
 use Rattle.heads.specs.Known.{Describes}

@@ -1,6 +1,5 @@
 -- A text that 1 to 16 leave, with the tables that hold it; and 17 and 25.
 use Rattle.std.specs.Prelude.{ℕ, ◌≡◌, List, length}
-use Rattle.std.proofs.Math.Option.{none}
 use Rattle.meaning.specs.Bounds.{tables_most}
 use Rattle.meaning.specs.Meaning.{given, refused, Meaning, meaning_of, meaning}
 use Rattle.timing.specs.Marks.{table_size}

@@ -10,7 +10,7 @@ use Rattle.meaning.specs.Refusals.{bad_data, no_room}
 use Rattle.meaning.specs.Run.{Cycle, size, visits, cycles_of}
 use Rattle.meaning.specs.Meaning.{Answer, given, refused, answering, Meaning, meaning}
 use Rattle.meaning.specs.Services.{bad_mark, rows, Window, rows_due, width_of, rows_out, window_of, window}
-use Rattle.meaning.specs.Windows.{Lent, rows_given, joined, Roomy, reach}
+use Rattle.meaning.specs.Windows.{rows_given, joined, Roomy, reach}
 use Rattle.meaning.proofs.Accepted.{visits_bounded}
 use Rattle.meaning.proofs.Windows.{windows_join}
 use Rattle.verdicts.specs.Buffers.{afterwards}

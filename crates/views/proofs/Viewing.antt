@@ -13,7 +13,7 @@ use Rattle.meaning.specs.Bounds.{signals_most, size_most, cycles_most}
 use Rattle.meaning.specs.Refusals.{bad_data, no_room}
 use Rattle.meaning.specs.Run.{size, cycles, visits}
 use Rattle.meaning.specs.Meaning.{Answer, given, refused, answering, fitting, Meaning, meaning}
-use Rattle.meaning.specs.Services.{Counts, counts, bad_mark, rows, row_width, Window, rows_due, width_of, window_rows, rows_out, window_of, window}
+use Rattle.meaning.specs.Services.{Counts, counts, bad_mark, row_width, Window, rows_due, width_of, window_rows, rows_out, window_of, window}
 use Rattle.timing.specs.declared.Watch.{Watch}
 use Rattle.texts.specs.Tables.{Found}
 use Rattle.texts.specs.declared.Verdict.{Verdict}

@@ -6,7 +6,7 @@ use mathlib.Core.Path.{◌≡◌, sym, ◌∙◌}
 use mathlib.Core.Bool.{true}
 use mathlib.Core.List.{List, []}
 use Rattle.meaning.specs.Timing.{Tables}
-use Rattle.meaning.specs.Body.{listed, entered, Body}
+use Rattle.meaning.specs.Body.{listed, Body}
 use Rattle.meaning.specs.Run.{State, size, cycles, shift_of, visits, play}
 use Rattle.measures.specs.Measures.{size_cap, Measures}
 use Rattle.measures.specs.declared.Measure.{Measure}

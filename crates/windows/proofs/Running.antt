@@ -7,7 +7,7 @@ use mathlib.Core.List.{List, [], ◌∷◌}
 use Rattle.tokens.specs.Tokens.{Tok}
 use Rattle.meaning.specs.Names.{find}
 use Rattle.meaning.specs.Timing.{Tables}
-use Rattle.meaning.specs.Body.{listed, Body, done, inner}
+use Rattle.meaning.specs.Body.{Body, done, inner}
 use Rattle.meaning.specs.Run.{follow, entering, playing, play, visits, start}
 use Rattle.meaning.specs.Statements.{Decl, Decls, Env}
 use Rattle.held.specs.Held.{Stands, Listed}

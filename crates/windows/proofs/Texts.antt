@@ -13,7 +13,6 @@ use Rattle.tokens.specs.Tokens.{Tok, Toks, toks}
 use Rattle.tokens.proofs.Bools.{both}
 use Rattle.meaning.specs.Bounds.{signals_most, list_most, size_most, cycles_most}
 use Rattle.meaning.specs.Timing.{Tables}
-use Rattle.meaning.specs.Body.{listed}
 use Rattle.meaning.specs.Run.{size, cycles, play, visits, start, cycles_of}
 use Rattle.meaning.specs.Meaning.{Meaning, first_failing, fitting}
 use Rattle.meaning.specs.Services.{rows as rows_of, row_width}

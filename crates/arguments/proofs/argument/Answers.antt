@@ -1,5 +1,5 @@
 -- `argument` meets its contract: where nothing was refused, the name is one signal that had no argument, and the tables have it now.
-use Prim.Native.Nat.{ℕ, ◌*◌, ◌+◌, ◌<◌}
+use Prim.Native.Nat.{◌*◌, ◌+◌, ◌<◌}
 use native.Mathlib.Omega.{arith}
 use mathlib.Core.Path.{◌≡◌, refl}
 use lib.ListN.{length, get_or, length-set}

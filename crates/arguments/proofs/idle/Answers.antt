@@ -1,5 +1,4 @@
 -- `idle` meets its contract. The invariant: as long as nothing was found, none of the first k signals of the block has anything.
-use Prim.Native.Nat.{◌-◌}
 use native.Mathlib.Omega.{arith}
 use borrow.Author.Tests.{eqb-true, not-true, not-false}
 use Rattle.tokens.proofs.Bools.{neither}

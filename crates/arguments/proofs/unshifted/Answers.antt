@@ -1,5 +1,5 @@
 -- `unshifted` meets its contract. The invariant: as long as nothing was found, no signal before s has a mark.
-use Prim.Native.Nat.{ℕ, ◌+◌, ◌-◌}
+use Prim.Native.Nat.{ℕ, ◌+◌}
 use native.Mathlib.Omega.{arith}
 use mathlib.Core.Path.{◌≡◌}
 use lib.ListN.{get_or}

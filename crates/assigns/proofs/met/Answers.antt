@@ -1,6 +1,6 @@
 -- What is left of the row decides: a turn whose signal has no character leaves the answer to the rest.
 use mathlib.Core.Path.{refl, sym, ◌∙◌}
-use Prim.Native.Nat.{◌-◌, ◌<◌}
+use Prim.Native.Nat.{◌<◌}
 use native.Mathlib.Omega.{arith}
 use lib.ListN.{length}
 use Rattle.meaning.specs.Data.{assigned}

@@ -1,6 +1,6 @@
 -- What is left to put is put behind what is done: a turn takes the next signal and the next character.
 use mathlib.Core.Path.{refl, sym, ◌∙◌}
-use Prim.Native.Nat.{◌-◌, ◌<◌}
+use Prim.Native.Nat.{◌<◌}
 use native.Mathlib.Omega.{arith}
 use lib.ListN.{length, length-set}
 use Rattle.signals.specs.Names.{list_at}

@@ -1,7 +1,6 @@
 -- `ask` meets its contract: numbers that name no waveform, or a single call.
 use Rattle.charts.proofs.Lists.{next_asked}
 use Rattle.charts.proofs.Drawing.{ask_short, ask_unlike, ask_named}
-use Rattle.charts.proofs.ask.Lts as lts
 use Rattle.charts.proofs.ask.Goals as goal
 
 pub returns-then-asked-at-lt-ASK : goal.returns-then-asked-at-lt-ASK

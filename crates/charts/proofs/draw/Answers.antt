@@ -3,7 +3,6 @@ use native.Mathlib.Omega.{arith}
 use mathlib.Core.Path.{refl}
 use Rattle.charts.proofs.Rooms.{roomy}
 use Rattle.charts.proofs.Drawing.{events_full, events_put}
-use Rattle.charts.proofs.draw.Lts as lts
 use Rattle.charts.proofs.draw.Goals as goal
 
 pub returns-then-times-n : goal.returns-then-times-n

@@ -1,5 +1,4 @@
 -- `put` meets its contract. The invariant: the first i of both arrays stand at the front of both buffers, the times as they are told.
-use Prim.Native.Nat.{◌-◌}
 use native.Mathlib.Omega.{arith}
 use Rattle.charts.proofs.Fronts.{fronted_none, fronted_more, fronted_length, fronted_all}
 use Rattle.charts.proofs.Telling.{told_more, told_all_lem}

@@ -6,7 +6,6 @@ use lib.ListN.{length}
 use borrow.Rule.Slice.PartMut.{same_len_mid}
 use Rattle.charts.proofs.Lists.{asked_few, next_asked}
 use Rattle.charts.proofs.Turns.{serving_none, serving_all, served_room, serving_stops, count_fits, serving_more}
-use Rattle.charts.proofs.serve.Lts as lts
 use Rattle.charts.proofs.serve.Goals as goal
 
 pub loop-at-init : goal.loop-at-init

@@ -1,7 +1,6 @@
 use Prim.Native.Nat.{◌-◌}
 use lib.ListN.{length}
 use Rattle.charts.proofs.Turns.{Serving}
-use Rattle.charts.proofs.serve.Lts as lts
 use Rattle.charts.proofs.serve.Given as goal
 
 abbrev pub invariant-loop-at : goal.invariant-loop-at

@@ -2,7 +2,6 @@
 use mathlib.Core.Path.{refl}
 use Rattle.declared.proofs.Numbers.{blank_chains, blank_waves}
 use Rattle.charts.proofs.Sighting.{sighted}
-use Rattle.charts.proofs.sight.Lts as lts
 use Rattle.charts.proofs.sight.Goals as goal
 
 pub declarations-d-requires : goal.declarations-d-requires

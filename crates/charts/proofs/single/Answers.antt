@@ -1,6 +1,5 @@
 -- `single` meets its contract: none there, or drawn where its entry stands.
 use Rattle.charts.proofs.Drawing.{entry, single_none, single_drawn}
-use Rattle.charts.proofs.single.Lts as lts
 use Rattle.charts.proofs.single.Goals as goal
 
 pub draw-o-requires : goal.draw-o-requires

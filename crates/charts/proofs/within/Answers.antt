@@ -1,6 +1,5 @@
 -- `within` meets its contract: a waveform has three numbers.
 use Rattle.charts.proofs.Lists.{asked_within, asked_roomy}
-use Rattle.charts.proofs.within.Lts as lts
 use Rattle.charts.proofs.within.Goals as goal
 
 pub returns-then-waveforms-lt-MOST : goal.returns-then-waveforms-lt-MOST

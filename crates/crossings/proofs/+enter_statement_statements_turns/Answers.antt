@@ -1,6 +1,5 @@
 -- Statements and the bodies in them, one proof for all: a body in a body has one level less to go, so that the number of levels falls at each call that
 -- enters one; at each turn of a body's statements fewer tokens are left.
-use Prim.Native.Nat.{◌+◌, ◌*◌}
 use native.Mathlib.Omega.{arith}
 use mathlib.Core.Path.{refl, sym, ◌∙◌}
 use mathlib.Core.List.{[]}
@@ -17,7 +16,6 @@ use Rattle.crossings.proofs.Stepping.{ends_step, vector_step, assigns_step, choo
 use Rattle.crossings.proofs.Looping.{turned_once, still_found, turned_steady, turned_twice, turned_on, turned_standing, turn_same}
 use Rattle.crossings.proofs.Going.{starts, onward_next, fewer, gone}
 use Rattle.crossings.proofs.Entering.{macro_tells, procedure_tells}
-use Prim.Native.Nat.{ℕ, ◌<◌}
 use Rattle.crossings.proofs.+enter_statement_statements_turns.Goals as goal
 
 pub enter-overflow_sub-inner : goal.enter-overflow_sub-inner

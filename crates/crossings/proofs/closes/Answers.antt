@@ -1,7 +1,6 @@
 -- No cycle in the row, or a pair.
 use native.Mathlib.Omega.{arith}
 use Rattle.crossings.proofs.Passing.{closed_none, closed_pair}
-use Rattle.crossings.proofs.closes.Lts as lts
 use Rattle.crossings.proofs.closes.Goals as goal
 
 pub returns-then-marks-row-eq0 : goal.returns-then-marks-row-eq0

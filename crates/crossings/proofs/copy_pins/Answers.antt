@@ -1,5 +1,4 @@
 -- Each turn copies the next pin.
-use Prim.Native.Nat.{◌-◌}
 use native.Mathlib.Omega.{arith}
 use Rattle.crossings.proofs.Storing.{copied_none, copied_next, copied_all}
 use Rattle.crossings.proofs.copy_pins.Goals as goal

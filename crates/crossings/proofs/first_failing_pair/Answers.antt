@@ -1,12 +1,11 @@
 -- The run meets refusal 25: in the patterns that were played each pair is in order, and the rest of the list is left.
-use Prim.Native.Nat.{ℕ, ◌*◌, ◌-◌}
+use Prim.Native.Nat.{ℕ, ◌*◌}
 use native.Mathlib.Omega.{arith}
 use lib.ListN.{length-replicate}
 use Rattle.meaning.specs.Bounds.{signals_most}
 use Rattle.plays.proofs.Texts.{listed_any, opening_sized}
 use Rattle.crossings.specs.Rows.{rows_most}
 use Rattle.crossings.proofs.Running.{run_timed, run_begins, run_sound, run_fails, run_left, decides_failing, decides_sound}
-use Rattle.crossings.proofs.first_failing_pair.Lts as lts
 use Rattle.crossings.proofs.first_failing_pair.Goals as goal
 
 pub loop-k-init : goal.loop-k-init

@@ -2,7 +2,6 @@ use Prim.Native.Nat.{◌-◌}
 use Rattle.plays.specs.Plays.{arrays}
 use Rattle.crossings.specs.Rows.{seen, clock}
 use Rattle.crossings.proofs.Running.{Unplayed}
-use Rattle.crossings.proofs.first_failing_pair.Lts as lts
 use Rattle.crossings.proofs.first_failing_pair.Given as goal
 
 abbrev pub invariant-loop-k : goal.invariant-loop-k

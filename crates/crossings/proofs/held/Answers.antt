@@ -1,7 +1,6 @@
 -- No last cycle, or a pair.
 use native.Mathlib.Omega.{arith}
 use Rattle.crossings.proofs.Passing.{fine_none, fine_pair}
-use Rattle.crossings.proofs.held.Lts as lts
 use Rattle.crossings.proofs.held.Goals as goal
 
 pub returns-then-marks-eq0 : goal.returns-then-marks-eq0

@@ -2,7 +2,6 @@ use Prim.Native.Nat.{ℕ, ◌-◌, ◌≤◌}
 use Rattle.meaning.specs.Timing.{Tables}
 use Rattle.spans.specs.Spans.{Spans}
 use Rattle.crossings.proofs.Ordering.{Looked}
-use Rattle.crossings.proofs.in_order.Lts as lts
 use Rattle.crossings.proofs.in_order.Given as goal
 
 abbrev pub invariant-loop-s : goal.invariant-loop-s

@@ -1,9 +1,7 @@
 -- Each turn looks at the next row.
-use Prim.Native.Nat.{◌-◌}
 use native.Mathlib.Omega.{arith}
 use mathlib.Core.Path.{◌∙◌}
 use Rattle.crossings.proofs.Storing.{noting_none, noting_next, noting_all, noting_ample}
-use Rattle.crossings.proofs.note.Lts as lts
 use Rattle.crossings.proofs.note.Goals as goal
 
 pub loop-i-init : goal.loop-i-init

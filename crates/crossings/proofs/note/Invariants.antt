@@ -1,7 +1,6 @@
 use Prim.Native.Nat.{◌-◌, ◌<◌}
 use Rattle.crossings.specs.Rows.{seen, cycle_in}
 use Rattle.crossings.proofs.Storing.{Noting}
-use Rattle.crossings.proofs.note.Lts as lts
 use Rattle.crossings.proofs.note.Given as goal
 
 abbrev pub invariant-loop-i : goal.invariant-loop-i

@@ -1,7 +1,6 @@
 -- A row that has a cycle, or one that gets it.
 use Rattle.crossings.specs.Rows.{cycle_in}
 use Rattle.crossings.proofs.Storing.{first_seen_lem, first_unseen}
-use Rattle.crossings.proofs.note_first.Lts as lts
 use Rattle.crossings.proofs.note_first.Goals as goal
 
 pub returns-then-marks-row-ne0 : goal.returns-then-marks-row-ne0

@@ -13,7 +13,6 @@ use Rattle.plays.proofs.Entering.{sized_left}
 use Rattle.plays.proofs.Running.{found_at, pattern_standing, opening_long}
 use Rattle.crossings.proofs.Passing.{long_ample, long_stored}
 use Rattle.crossings.proofs.Running.{pattern_pair}
-use Rattle.crossings.proofs.pattern.Lts as lts
 use Rattle.crossings.proofs.pattern.Goals as goal
 
 pub overflow_add-i : goal.overflow_add-i

@@ -1,5 +1,5 @@
 -- Each turn compares the next pin.
-use Prim.Native.Nat.{ℕ, ◌*◌, ◌-◌}
+use Prim.Native.Nat.{ℕ, ◌*◌}
 use native.Mathlib.Omega.{arith}
 use mathlib.Core.Path.{◌≡◌}
 use Rattle.meaning.specs.Bounds.{signals_most}

@@ -5,7 +5,6 @@ use Rattle.tokens.specs.Written.{bytes}
 use Rattle.assigns.proofs.Table.{gave_zeros}
 use Rattle.plays.proofs.Keeping.{kept_others}
 use Rattle.crossings.proofs.Stepping.{shift_plays}
-use Rattle.crossings.proofs.shift.Lts as lts
 use Rattle.crossings.proofs.shift.Goals as goal
 
 pub head-h-requires : goal.head-h-requires

@@ -1,7 +1,6 @@
 -- Pins, and numbers.
 use native.Mathlib.Omega.{arith}
 use Rattle.crossings.proofs.Storing.{stored}
-use Rattle.crossings.proofs.store.Lts as lts
 use Rattle.crossings.proofs.store.Goals as goal
 
 pub copy_pins-requires : goal.copy_pins-requires

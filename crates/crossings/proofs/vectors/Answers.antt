@@ -1,11 +1,9 @@
 -- Each turn of the loop is a turn of the V.
-use Prim.Native.Nat.{◌-◌}
 use native.Mathlib.Omega.{arith}
 use mathlib.Core.Path.{◌∙◌}
 use Rattle.pins.proofs.Callers.{others_then, roomy_kept}
 use Rattle.crossings.proofs.Turning.{after_none, after_more, after_fails, after_all}
 use Rattle.crossings.proofs.Passing.{long_then, long_ample}
-use Rattle.crossings.proofs.vectors.Lts as lts
 use Rattle.crossings.proofs.vectors.Goals as goal
 
 pub loop-i-init : goal.loop-i-init

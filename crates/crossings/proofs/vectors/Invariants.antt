@@ -1,7 +1,6 @@
 use Prim.Native.Nat.{◌-◌}
 use Rattle.crossings.specs.Rows.{seen, clock}
 use Rattle.crossings.proofs.Turning.{After}
-use Rattle.crossings.proofs.vectors.Lts as lts
 use Rattle.crossings.proofs.vectors.Given as goal
 
 abbrev pub invariant-loop-i : goal.invariant-loop-i

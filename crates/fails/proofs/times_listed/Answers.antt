@@ -1,5 +1,4 @@
 -- `times_listed` meets its contract. The invariant: those of the name up to number k are counted.
-use Prim.Native.Nat.{◌-◌}
 use native.Mathlib.Omega.{arith}
 use Rattle.index.proofs.Left.{next_named, next_fits}
 use Rattle.fails.proofs.Listing.{seen_none, seen_next, seen_all}

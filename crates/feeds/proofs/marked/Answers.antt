@@ -1,5 +1,4 @@
 -- The invariant: what is marked from the beginning on are the bytes so far, and what is marked behind them.
-use Prim.Native.Nat.{◌-◌}
 use native.Mathlib.Omega.{arith}
 use Rattle.feeds.proofs.Front.{front_next, front_here, front_end, unmarked_past}
 use Rattle.feeds.proofs.marked.Goals as goal

@@ -1,5 +1,5 @@
 -- `pattern` meets its contract. The invariant: so many of the pattern's cycles were taken since its first Pattern began.
-use Prim.Native.Nat.{◌+◌, ◌-◌}
+use Prim.Native.Nat.{◌+◌}
 use native.Mathlib.Omega.{arith}
 use mathlib.Core.Path.{refl, ◌∙◌}
 use lib.ListN.{length}

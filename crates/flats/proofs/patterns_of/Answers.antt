@@ -1,5 +1,4 @@
 -- `patterns_of` meets its contract. The invariant: whatever accepted text the tables hold, its listed patterns from number k on are left.
-use Prim.Native.Nat.{◌-◌}
 use native.Mathlib.Omega.{arith}
 use mathlib.Core.Path.{refl, ◌∙◌}
 use mathlib.Core.List.{[]}

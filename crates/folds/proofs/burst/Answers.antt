@@ -1,5 +1,4 @@
 -- `burst` meets its contract. The invariant: behind the line's beginning the names up to number i are written.
-use Prim.Native.Nat.{◌-◌}
 use native.Mathlib.Omega.{arith}
 use mathlib.Core.Path.{◌≡◌, ◌∙◌}
 use Rattle.tokens.specs.Written.{bytes}

@@ -1,5 +1,4 @@
 -- `signals` meets its contract. The invariant: behind `Signals{` the signals up to number i are written.
-use Prim.Native.Nat.{◌-◌}
 use native.Mathlib.Omega.{arith}
 use mathlib.Core.Path.{◌≡◌, ◌∙◌}
 use Rattle.tokens.specs.Written.{bytes}

@@ -1,9 +1,8 @@
 -- Statements, one statement, Loops, used bodies: one proof for all, since each calls the others where bodies may stand one level less deep.
 use native.Mathlib.Omega.{arith}
-use Prim.Native.Nat.{◌+◌, ◌*◌}
+use Prim.Native.Nat.{◌*◌}
 use mathlib.Core.Path.{refl, sym, ◌∙◌}
 use lib.ListN.{length-replicate}
-use borrow.Author.Rules.{rules}
 use Rattle.meaning.specs.Bounds.{signals_most}
 use Rattle.assigns.proofs.Table.{gave_zeros}
 use Rattle.grants.proofs.Keeping.{sized_kept, kept_then, kept_none, kept_only, kept_deeper, sized_loop, below_loop, kept_loop, open_fixed, room}
@@ -11,7 +10,7 @@ use Rattle.grants.proofs.Stepping.{ends_step, vector_step, assigns_step, chooses
 use Rattle.grants.proofs.Entering.{loop_gone, other_body, use_spoilt, use_macro, use_procedure}
 use Rattle.grants.proofs.Bodies.{body_standing, stands_on, body_sized, bodied_twice, bodied_shifted, bodied_summed, body_long, body_within, body_set_long}
 use Rattle.grants.proofs.Going.{going_on, all_gone, going}
-use Prim.Native.Nat.{ℕ, ◌<◌}
+use Prim.Native.Nat.{ℕ}
 use Rattle.grants.proofs.+body_looped_statement_tally_used.Goals as goal
 
 pub body-bounds-marks-i : goal.body-bounds-marks-i

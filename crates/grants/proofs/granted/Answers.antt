@@ -1,5 +1,4 @@
 -- What each listed pattern uses is summed up; where none asks for anything that isn't there, no cycle of the run fails.
-use Prim.Native.Nat.{◌-◌}
 use mathlib.Core.Path.{sym, ◌∙◌}
 use Rattle.plays.proofs.Texts.{run_sound}
 use Rattle.grants.proofs.Texts.{ungranted, some_pattern, granted_next}

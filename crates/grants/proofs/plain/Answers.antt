@@ -1,5 +1,4 @@
 -- Every table has the waveforms, and each turn takes the next listed pattern.
-use Prim.Native.Nat.{◌-◌}
 use native.Mathlib.Omega.{arith}
 use mathlib.Core.Path.{sym}
 use mathlib.Core.Bool.{true≢false}

@@ -1,5 +1,5 @@
 -- Each turn takes the next signal: one use more where its character is `#`, up to the cap.
-use Prim.Native.Nat.{◌-◌, ◌<◌}
+use Prim.Native.Nat.{◌<◌}
 use native.Mathlib.Omega.{arith}
 use mathlib.Core.Path.{refl}
 use lib.ListN.{length, get_or}

@@ -1,5 +1,4 @@
 -- Each turn copies the next number of the row.
-use Prim.Native.Nat.{◌-◌}
 use native.Mathlib.Omega.{arith}
 use mathlib.Core.Path.{refl}
 use Rattle.measures.proofs.Changed.{changed_none, changed_next}

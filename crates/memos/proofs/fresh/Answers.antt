@@ -1,7 +1,5 @@
 -- Each turn sets the next signal's marks to none.
-use Prim.Native.Nat.{◌-◌}
 use native.Mathlib.Omega.{arith}
-use mathlib.Core.Bool.{true, false}
 use Rattle.memos.proofs.Rows.{writes_none}
 use Rattle.memos.proofs.Marking.{freshened_none, freshened_next}
 use Rattle.memos.proofs.fresh.Goals as goal

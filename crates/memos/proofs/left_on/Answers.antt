@@ -1,6 +1,5 @@
 -- One test.
 use mathlib.Core.Path.{sym, refl, ◌∙◌}
-use mathlib.Core.Bool.{true, false}
 use Rattle.tokens.proofs.Bools.{true_false}
 use Rattle.memos.proofs.left_on.Goals as goal
 

@@ -1,8 +1,6 @@
 -- Each turn joins the next signal's marks.
-use Prim.Native.Nat.{◌-◌}
 use native.Mathlib.Omega.{arith}
 use lib.ListN.{length}
-use Rattle.memos.specs.Tracks.{shown_marks}
 use Rattle.memos.proofs.Rows.{writes_none}
 use Rattle.memos.proofs.Marking.{joined_none, joined_next, untracked, tracked_room}
 use Rattle.memos.proofs.mark.Goals as goal

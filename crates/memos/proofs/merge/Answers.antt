@@ -1,5 +1,5 @@
 -- Each turn joins the next signal's marks; those that are read stand behind the row.
-use Prim.Native.Nat.{ℕ, ◌-◌, ◌+◌, ◌%◌}
+use Prim.Native.Nat.{ℕ, ◌+◌, ◌%◌}
 use native.Mathlib.Omega.{arith}
 use mathlib.Core.Path.{◌∙◌, ap}
 use Rattle.memos.specs.Tracks.{marks_most}

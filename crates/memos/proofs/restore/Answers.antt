@@ -1,5 +1,4 @@
 -- Each turn leaves the next signal's pin.
-use Prim.Native.Nat.{◌-◌}
 use native.Mathlib.Omega.{arith}
 use Rattle.memos.proofs.Rows.{restores_none, restores_next, restores_all}
 use Rattle.memos.proofs.restore.Goals as goal

@@ -1,5 +1,5 @@
 -- Each turn draws the next signal's marks; those that are read stand before the row.
-use Prim.Native.Nat.{◌-◌, ◌+◌}
+use Prim.Native.Nat.{◌+◌}
 use native.Mathlib.Omega.{arith}
 use mathlib.Core.Path.{◌∙◌, ap}
 use lib.ListN.{length-set}

@@ -1,33 +1,11 @@
 -- Each turn takes the next signal.
-use Prim.Native.Nat.{◌-◌}
 use native.Mathlib.Omega.{arith}
 use Rattle.pins.proofs.Turns.{done_none, done_next}
 use Rattle.pins.proofs.Rows.{back_all}
 use Rattle.pins.proofs.come_back.Goals as goal
 
-pub overflow_add-at : goal.overflow_add-at
-overflow_add-at c = omega arith
-
-pub overflow_mul-at : goal.overflow_mul-at
-overflow_mul-at c = omega arith
-
 pub loop-s-init : goal.loop-s-init
 loop-s-init c = (omega arith, done_none)
-
-pub overflow_add-values : goal.overflow_add-values
-overflow_add-values c = omega arith
-
-pub bounds-values-at : goal.bounds-values-at
-bounds-values-at c = omega arith
-
-pub bounds-values-s : goal.bounds-values-s
-bounds-values-s c = omega arith
-
-pub overflow_add-s : goal.overflow_add-s
-overflow_add-s c = omega arith
-
-pub loop-s-smaller : goal.loop-s-smaller
-loop-s-smaller c = omega arith
 
 pub loop-s-preserved : goal.loop-s-preserved
 loop-s-preserved c = (omega arith, (let x = c.loop-s.invariant.1 in done_next x _ (omega (arith, x.long)) (x.rest _ (omega arith))))

@@ -1,5 +1,5 @@
 -- Word by word: a character that is taken, and those of its word behind it.
-use Prim.Native.Nat.{◌+◌, ◌-◌}
+use Prim.Native.Nat.{◌+◌}
 use native.Mathlib.Omega.{arith}
 use Rattle.pins.proofs.Advancing.{far_none, far_on, having_then}
 use Rattle.pins.proofs.having.Goals as goal

@@ -1,5 +1,4 @@
 -- Each turn takes the next signal.
-use Prim.Native.Nat.{◌-◌}
 use native.Mathlib.Omega.{arith}
 use lib.ListN.{length-set}
 use Rattle.pins.proofs.Rows.{leaving_none, leaving_next, leaving_all}

@@ -1,5 +1,5 @@
 -- Each turn takes the next signal, or passes eight that are given nothing.
-use Prim.Native.Nat.{◌-◌, ◌<◌}
+use Prim.Native.Nat.{◌<◌}
 use native.Mathlib.Omega.{arith}
 use lib.ListN.{length}
 use Rattle.meaning.specs.Bounds.{signals_most}

@@ -1,5 +1,4 @@
 -- Each turn takes the next signal.
-use Prim.Native.Nat.{◌-◌}
 use native.Mathlib.Omega.{arith}
 use Rattle.pins.proofs.Skipping.{skipped_none, skipped_mark, skipped_other, skipped_others, skipped_shows}
 use Rattle.pins.proofs.skip.Goals as goal

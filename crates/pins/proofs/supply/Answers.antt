@@ -1,5 +1,4 @@
 -- Each turn takes the next signal, and writes the feed of its argument where it has one.
-use Prim.Native.Nat.{◌-◌}
 use native.Mathlib.Omega.{arith}
 use Rattle.pins.proofs.Turns.{refilled_none, refilled_next, refilled_same, refilled_rest}
 use Rattle.pins.proofs.Supplying.{begun_all_lem}

@@ -1,8 +1,6 @@
 -- Each turn of the outer loop is a turn of the V, and those that are gone on at once behind it; each of the inner one a signal of its cycle.
-use Prim.Native.Nat.{◌-◌}
 use native.Mathlib.Omega.{arith}
 use mathlib.Core.Path.{refl, ◌∙◌}
-use mathlib.Core.Bool.{false}
 use Rattle.pins.proofs.Callers.{others_none, others_then, roomy_kept}
 use Rattle.pins.proofs.Cycles.{searched_none, searched_next, searched_lacks, searched_all, after_none, after_all, after_no_table, after_searched, after_lacks}
 use Rattle.pins.proofs.vectors.Goals as goal

@@ -1,12 +1,10 @@
 -- Statements and the bodies in them, one proof for all: a body in a body has one level less to go, so that the number of levels falls at each call that
 -- enters one; at each turn of a body's statements fewer tokens are left.
-use Prim.Native.Nat.{◌+◌, ◌-◌, ◌*◌}
+use Prim.Native.Nat.{◌-◌}
 use native.Mathlib.Omega.{arith}
 use mathlib.Core.Path.{refl, sym, ◌∙◌}
-use mathlib.Core.Bool.{true, false}
 use mathlib.Core.List.{[]}
 use borrow.Author.Tests.{eq-eqb}
-use Rattle.tokens.specs.Tokens.{left}
 use Rattle.tokens.proofs.Bools.{true_false}
 use Rattle.meaning.specs.Run.{bare}
 use Rattle.turns.specs.Few.{play_few}
@@ -25,7 +23,6 @@ use Rattle.plays.proofs.Seconds.{turned_plays, turned_tracks}
 use Rattle.plays.proofs.Going.{going, going_on, gone, gone_tracked, ended_then, resumed, resumed_standing, resumed_on, resumed_less, resumed_end, again_standing}
 use Rattle.plays.proofs.Recalling.{recalled_told, recalled_tracked, invoked_using, invoking_untouched, knows_tracked, used_knows, looped_heads, looped_knows, risen, remembered_joins, behind_head_lem, loop_head, heads_more, heads_tracked, below_tracked, below_remembered, below_none, below_then, below_around}
 use Rattle.plays.proofs.Entering.{kind_macro, kind_procedure, kept_below, kept_returned, sized_left, macro_standing, procedure_standing, macro_told, procedure_told, served_fed, part_within, part_begins}
-use Prim.Native.Nat.{ℕ, ◌<◌}
 use Rattle.plays.proofs.+body_of_looped_needed_turns_play_body_statement_statements_used_uses.Goals as goal
 
 pub body_of-overflow_sub-text : goal.body_of-overflow_sub-text

@@ -1,5 +1,5 @@
 -- The run meets refusal 17: behind the patterns that were played nothing failed, and the rest of the list is left.
-use Prim.Native.Nat.{ℕ, ◌-◌}
+use Prim.Native.Nat.{ℕ}
 use native.Mathlib.Omega.{arith}
 use mathlib.Core.Path.{sym, ◌∙◌}
 use lib.ListN.{length-replicate}

@@ -1,5 +1,4 @@
 -- Each turn joins the next signal's marks, where the body runs in place and something is tracked.
-use Prim.Native.Nat.{◌-◌}
 use native.Mathlib.Omega.{arith}
 use Rattle.memos.proofs.Rows.{writes_none}
 use Rattle.memos.proofs.Marking.{joined_some_none, joined_some_next}

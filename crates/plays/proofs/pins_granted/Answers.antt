@@ -1,5 +1,4 @@
 -- Each turn asks for the next signal.
-use Prim.Native.Nat.{◌-◌}
 use native.Mathlib.Omega.{arith}
 use mathlib.Core.Path.{refl}
 use Rattle.tokens.proofs.Bools.{true_false}

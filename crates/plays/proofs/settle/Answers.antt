@@ -1,5 +1,4 @@
 -- Each turn settles the next signal.
-use Prim.Native.Nat.{◌-◌}
 use native.Mathlib.Omega.{arith}
 use Rattle.plays.proofs.Settling.{settles_none, settles_next, settles_all}
 use Rattle.plays.proofs.settle.Goals as goal

@@ -1,5 +1,4 @@
 -- Each turn adds the next table's mark.
-use Prim.Native.Nat.{◌-◌}
 use native.Mathlib.Omega.{arith}
 use Rattle.plays.proofs.Marks.{summing_first, summing_next, summing_all}
 use Rattle.plays.proofs.sum_marks.Goals as goal

@@ -1,6 +1,5 @@
 -- `entries` meets its contract. The invariant: from here the definition reads on to the closing brace, and what it read lies within the cycles.
 use Rattle.tokens.specs.Written.{bytes}
-use Rattle.meaning.specs.Reader.{until}
 use Rattle.spots.proofs.Following.{again, fewer, ended}
 use borrow.Author.Tests.{not-false, not-true}
 use Rattle.held.proofs.Grammar.{moves_entry}

@@ -1,7 +1,6 @@
 -- `events` meets its contract. The invariant: from here the definition reads on to the entry's end, and its events so far lie within the cycle.
 use mathlib.Core.Path.{refl}
 use Rattle.tokens.specs.Written.{bytes}
-use Rattle.meaning.specs.Reader.{until}
 use Rattle.spots.proofs.Following.{again, fewer, ended}
 use Rattle.held.proofs.Grammar.{moves_event}
 use Rattle.quiet.proofs.Keeping.{keeps_nothing}

@@ -1,5 +1,4 @@
 -- `cycle` meets its contract: the cycle is passed, or it is reached, and its row goes to its own part of the buffer.
-use Prim.Native.Nat.{◌<◌}
 use native.Mathlib.Omega.{arith}
 use mathlib.Core.Path.{refl, sym, ap, ◌∙◌, subst}
 use mathlib.Core.List.{[], ◌∷◌}

@@ -1,5 +1,4 @@
 -- Each turn of the loop is a turn of the V, from the one that has the cycle looked for on.
-use Prim.Native.Nat.{◌-◌}
 use native.Mathlib.Omega.{arith}
 use mathlib.Core.Path.{sym, ◌∙◌}
 use Rattle.pins.proofs.Callers.{others_then, roomy_kept}

@@ -1,5 +1,4 @@
 -- `event` meets its contract: an event counts in its own category alone.
-use Rattle.meaning.specs.Timing.{drives, compares}
 use Rattle.meaning.specs.Edges.{drive, compare, belongs}
 use Rattle.spans.proofs.event.Goals as goal
 

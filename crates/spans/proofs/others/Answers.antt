@@ -2,7 +2,6 @@
 use native.Mathlib.Omega.{arith}
 use mathlib.Core.Path.{refl, ◌∙◌}
 use Rattle.tokens.specs.Written.{bytes}
-use Rattle.meaning.specs.Reader.{until}
 use Rattle.held.proofs.Grammar.{moves_table}
 use Rattle.spots.proofs.Following.{turn, again, fewer, settled}
 use Rattle.spans.proofs.Tables.{table_few, still_sized}

@@ -1,5 +1,4 @@
 -- `read` meets its contract. The invariant: the numbers are those of the events up to number i.
-use Prim.Native.Nat.{◌-◌}
 use native.Mathlib.Omega.{arith}
 use mathlib.Core.Path.{refl}
 use Rattle.spots.proofs.Joined.{joined}

@@ -1,5 +1,4 @@
 -- `table_times` meets its contract. The invariant: the first i slots of the table hold its times.
-use Prim.Native.Nat.{◌-◌}
 use native.Mathlib.Omega.{arith}
 use mathlib.Core.Path.{◌≡◌, refl, ◌∙◌}
 use Rattle.meaning.specs.Edges.{first_time, last_time}

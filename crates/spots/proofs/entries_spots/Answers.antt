@@ -1,7 +1,6 @@
 -- `entries_spots` meets its contract. The invariant: from here the definition reads on to the closing brace, and the spots are those of what it read.
 use mathlib.Core.Path.{refl, ◌∙◌}
 use Rattle.tokens.specs.Written.{bytes}
-use Rattle.meaning.specs.Reader.{until}
 use Rattle.held.proofs.Grammar.{moves_entry}
 use Rattle.spots.proofs.Following.{turn, again, fewer, ended}
 use Rattle.spots.proofs.entries_spots.Goals as goal

@@ -1,6 +1,5 @@
 -- `events` meets its contract. The invariant: from here the definition reads on to the entry's end.
 use Rattle.tokens.specs.Written.{bytes}
-use Rattle.meaning.specs.Reader.{until}
 use Rattle.held.proofs.Grammar.{moves_event}
 use Rattle.spots.proofs.Following.{again, fewer, ended}
 use Rattle.spots.proofs.Entering.{event_follows}

@@ -1,5 +1,4 @@
 -- `keep` meets its contract. The invariant: the characters before i have their spots, and no other spot is changed.
-use Prim.Native.Nat.{◌-◌}
 use mathlib.Core.Path.{refl, ◌∙◌}
 use mathlib.Core.List.{[], ◌∷◌}
 use lib.ListN.{length-set}

@@ -1,5 +1,4 @@
 -- `keep_all` meets its contract. The invariant: the signals before i have their spots, and no other spot is changed.
-use Prim.Native.Nat.{◌-◌}
 use mathlib.Core.Path.{refl, ◌∙◌}
 use Rattle.sets.proofs.Sets.{sized}
 use Rattle.spots.proofs.Spotting.{stored_no_signals, stored_signal, stored_all, below_at}

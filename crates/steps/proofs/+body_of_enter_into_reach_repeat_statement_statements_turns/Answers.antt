@@ -1,11 +1,10 @@
 -- Statements and the bodies in them, one proof for all: a body in a body has one level less to go, so that the number of levels falls at each call that
 -- enters one; at each turn of a body's statements fewer tokens are left, and at each turn of a Loop fewer turns.
-use Prim.Native.Nat.{ℕ, ◌+◌, ◌*◌, ◌-◌, ◌<◌}
+use Prim.Native.Nat.{ℕ, ◌+◌, ◌-◌}
 use native.Mathlib.Nat.{div-mul-le_self}
 use native.Mathlib.Omega.{arith}
 use mathlib.Core.Path.{refl, sym, ◌∙◌}
 use borrow.Author.Tests.{eq-eqb}
-use Rattle.tokens.specs.Tokens.{left}
 use Rattle.meaning.specs.Run.{bare}
 use Rattle.walks.proofs.Loops.{some_cycles, turn_below}
 use Rattle.words.specs.Cursor.{stream}

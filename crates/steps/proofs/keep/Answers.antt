@@ -1,5 +1,4 @@
 -- Each turn keeps the next signal's pin.
-use Prim.Native.Nat.{◌-◌}
 use native.Mathlib.Omega.{arith}
 use mathlib.Core.Path.{refl}
 use lib.ListN.{length-set}

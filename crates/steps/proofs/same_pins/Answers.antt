@@ -1,5 +1,5 @@
 -- Each turn compares the next signal's pin.
-use Prim.Native.Nat.{ℕ, ◌-◌}
+use Prim.Native.Nat.{ℕ}
 use native.Mathlib.Omega.{arith}
 use mathlib.Core.Path.{◌≡◌}
 use Rattle.steps.proofs.Copying.{alike_none, alike_next, alike_all}

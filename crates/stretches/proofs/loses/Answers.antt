@@ -1,5 +1,4 @@
 -- `loses` meets its contract. The invariant: whether a pin loses its value is decided by those from number i on.
-use Prim.Native.Nat.{◌-◌}
 use native.Mathlib.Omega.{arith}
 use mathlib.Core.Path.{refl, sym, ◌∙◌}
 use Rattle.stretches.proofs.Laws.{loses_here, loses_later, loses_none}

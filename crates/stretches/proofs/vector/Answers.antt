@@ -1,5 +1,4 @@
 -- `vector` meets its contract. The invariant: the values of the pins from number s on, and the brace, are left to write.
-use Prim.Native.Nat.{◌-◌}
 use native.Mathlib.Omega.{arith}
 use mathlib.Core.Path.{refl, sym, ◌∙◌}
 use Rattle.tokens.specs.Written.{bytes}

@@ -1,5 +1,4 @@
 -- Each turn adds the next slot's mark.
-use Prim.Native.Nat.{◌-◌}
 use native.Mathlib.Omega.{arith}
 use mathlib.Core.Path.{sym, ◌∙◌}
 use borrow.Author.Count.{below_more}

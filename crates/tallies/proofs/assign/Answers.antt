@@ -1,5 +1,4 @@
 -- Each turn takes the next signal.
-use Prim.Native.Nat.{◌-◌}
 use native.Mathlib.Omega.{arith}
 use Rattle.tallies.proofs.Rows.{assigning_none, assigning_kept, assigning_next, assigning_all}
 use Rattle.tallies.proofs.assign.Goals.{then-given-s-ne0, else-given-s-ne0}

@@ -1,5 +1,4 @@
 -- Zeros, then the tables' flags, then no table.
-use Prim.Native.Nat.{◌-◌}
 use native.Mathlib.Omega.{arith}
 use Rattle.tallies.proofs.Stored.{only_none, only_then}
 use Rattle.tallies.proofs.Rows.{zeros_next, zeros_kept, cleared}

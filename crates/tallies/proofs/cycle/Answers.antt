@@ -1,5 +1,4 @@
 -- Each turn shows the next signal.
-use Prim.Native.Nat.{◌-◌}
 use native.Mathlib.Omega.{arith}
 use mathlib.Core.Path.{◌∙◌}
 use Rattle.tallies.proofs.Grown.{more_then}

@@ -1,8 +1,7 @@
 -- Each turn takes the next table, then the one in force.
-use Prim.Native.Nat.{◌-◌}
 use native.Mathlib.Omega.{arith}
 use mathlib.Core.Path.{sym}
-use mathlib.Core.Bool.{true, true≢false}
+use mathlib.Core.Bool.{true≢false}
 use borrow.Author.Count.{below_more}
 use Rattle.tallies.proofs.Fitting.{fits_all}
 use Rattle.tallies.proofs.fits_where.Goals as goal

@@ -1,5 +1,4 @@
 -- What it asks by itself, then each signal, then the table.
-use Prim.Native.Nat.{◌-◌}
 use native.Mathlib.Omega.{arith}
 use mathlib.Core.Path.{◌∙◌}
 use Rattle.tallies.proofs.Stored.{only_then}

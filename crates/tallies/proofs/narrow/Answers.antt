@@ -1,5 +1,4 @@
 -- Each turn takes the next table; the row `from` is not written.
-use Prim.Native.Nat.{◌-◌}
 use native.Mathlib.Omega.{arith}
 use Rattle.tallies.proofs.Grown.{fine_read}
 use Rattle.tallies.proofs.Narrowed.{narrowed_none, narrowed_passed, narrowed_failed, narrowed_all}

@@ -1,5 +1,4 @@
 -- Each turn takes the next table.
-use Prim.Native.Nat.{◌-◌}
 use native.Mathlib.Omega.{arith}
 use mathlib.Core.Path.{sym, ◌∙◌}
 use Rattle.tallies.proofs.Stored.{flag_set}

@@ -1,5 +1,4 @@
 -- Each turn takes the next table.
-use Prim.Native.Nat.{◌-◌}
 use native.Mathlib.Omega.{arith}
 use Rattle.tallies.proofs.Showing.{showing_none, showing_kept, showing_next}
 use Rattle.tallies.proofs.show_tables.Goals.{then-byte-ne0, else-byte-ne0}

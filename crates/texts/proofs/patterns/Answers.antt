@@ -1,7 +1,6 @@
 -- `patterns` meets its contract: reading on behind the patterns so far is reading all of them, for every text of which the book has these.
 use native.Mathlib.Omega.{arith}
 use mathlib.Core.Path.{refl, ◌∙◌}
-use mathlib.Core.Bool.{true}
 use mathlib.Core.List.{[]}
 use Rattle.meaning.specs.Document.{patterns as patterns_due}
 use Rattle.words.proofs.Loops.{on}

@@ -1,5 +1,5 @@
 -- `run_of` meets its contract: what was found so far is the front of the run, and the rest of the list is left.
-use Prim.Native.Nat.{◌-◌, ◌*◌}
+use Prim.Native.Nat.{◌*◌}
 use mathlib.Core.Path.{refl}
 use native.Mathlib.Omega.{arith}
 use Rattle.words.proofs.Words.{rest}

@@ -1,7 +1,5 @@
 -- `add` meets its contract. The invariant: the characters before i have the event, and what the times tell is right for all of them.
-use Prim.Native.Nat.{◌-◌}
 use native.Mathlib.Omega.{arith}
-use mathlib.Core.Bool.{true, false}
 use Rattle.meaning.specs.Timing.{spread}
 use Rattle.timing.proofs.EventLetters.{spread_many}
 use Rattle.timing.proofs.EventTimes.{upto_none, upto_all, none_added, add_turn, add_fails, slot_most}

@@ -1,5 +1,4 @@
 -- `events` meets its contract. The invariant: reading on from here, with the events so far, is reading all of them.
-use mathlib.Core.Bool.{true}
 use lib.ListN.{replicate, length-replicate}
 use Rattle.tokens.specs.Written.{bytes}
 use Rattle.meaning.specs.Timing.{blanks, event}

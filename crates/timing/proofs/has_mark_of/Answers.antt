@@ -1,5 +1,4 @@
 -- `has_mark_of` meets its contract. The invariant: there is a mark if there is one for what is left of the characters.
-use Prim.Native.Nat.{◌-◌}
 use mathlib.Core.Path.{refl, sym, ◌∙◌}
 use Rattle.timing.proofs.Marking.{any_here, any_more, any_end}
 use Rattle.timing.proofs.has_mark_of.Goals as goal

@@ -1,5 +1,4 @@
 -- `lists_signal` meets its contract. The invariant: the signal is one of them if it is one of those that are left.
-use Prim.Native.Nat.{◌-◌}
 use native.Mathlib.Omega.{arith}
 use mathlib.Core.Path.{refl, sym, ◌∙◌}
 use Rattle.words.proofs.Words.{has_more, has_here, has_end}

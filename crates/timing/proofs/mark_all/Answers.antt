@@ -1,5 +1,4 @@
 -- `mark_all` meets its contract. The invariant: the signals before i have their marks, and no other mark is changed.
-use Prim.Native.Nat.{◌-◌}
 use mathlib.Core.Path.{refl, ◌∙◌}
 use Rattle.timing.proofs.Marking.{marked_no_signals, marked_signal, marked_all}
 use Rattle.timing.proofs.mark_all.Goals as goal

@@ -1,5 +1,4 @@
 -- `mark_chars` meets its contract. The invariant: the characters before i have their marks, and no other mark is changed.
-use Prim.Native.Nat.{◌-◌}
 use native.Mathlib.Omega.{arith}
 use mathlib.Core.Path.{refl, ◌∙◌}
 use mathlib.Core.List.{[], ◌∷◌}

@@ -1,5 +1,4 @@
 -- `repeats` meets its contract. The invariant: a byte stands twice if one does in what is left.
-use Prim.Native.Nat.{◌-◌}
 use mathlib.Core.Path.{refl, sym, ◌∙◌}
 use lib.ListN.{get_or}
 use Rattle.timing.proofs.Marking.{repeats_here, repeats_more, repeats_end, rest_has}

@@ -1,5 +1,4 @@
 -- `taken` meets its contract. The invariant: one of the signals has a mark if one of those that are left has.
-use Prim.Native.Nat.{◌-◌}
 use mathlib.Core.Path.{refl, sym, ◌∙◌}
 use Rattle.timing.proofs.Marking.{any_here, any_more, any_end}
 use Rattle.timing.proofs.taken.Goals as goal

@@ -1,5 +1,4 @@
 -- `chart` meets its contract. The invariant: what is written, and the entries of the characters from i on, are the signal's entries.
-use Prim.Native.Nat.{◌-◌}
 use mathlib.Core.Path.{refl, sym, ◌∙◌}
 use mathlib.Core.List.{[], ◌∷◌, ◌++◌}
 use Rattle.folded.specs.Pieces.{laid, each}

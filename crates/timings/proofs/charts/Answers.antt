@@ -1,5 +1,4 @@
 -- `charts` meets its contract. The invariant: what is written, and the lines of the signals from i on, are all lines.
-use Prim.Native.Nat.{◌-◌}
 use mathlib.Core.Path.{refl, ◌∙◌}
 use mathlib.Core.List.{[], ◌++◌}
 use Rattle.folded.specs.Pieces.{laid, each}

@@ -1,5 +1,4 @@
 -- `entry` meets its contract. The invariant: behind the character the events up to number i are written.
-use Prim.Native.Nat.{◌-◌}
 use mathlib.Core.Path.{refl, ◌∙◌}
 use Rattle.folded.specs.Pieces.{laid, each}
 use Rattle.folds.proofs.Laws.{writes_nothing}

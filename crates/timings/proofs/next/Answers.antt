@@ -1,5 +1,4 @@
 -- `next` meets its contract. The invariant: from the first on, and from i on, the same characters have entries.
-use Prim.Native.Nat.{◌-◌}
 use mathlib.Core.Path.{refl, ◌∙◌}
 use Rattle.timings.proofs.Telling.{spot_none}
 use native.Mathlib.Omega.{arith}

@@ -1,7 +1,6 @@
 -- `others` meets its contract. The invariant: from here the definition reads on to the last brace, and what it read is written.
 use mathlib.Core.Path.{refl, ◌∙◌}
 use Rattle.tokens.specs.Written.{bytes}
-use Rattle.meaning.specs.Reader.{until}
 use Rattle.held.proofs.Grammar.{moves_table}
 use Rattle.spots.proofs.Following.{turn, again, fewer, settled}
 use Rattle.timings.proofs.Tabling.{no_sheets, sheets_more}

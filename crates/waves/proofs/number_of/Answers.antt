@@ -1,5 +1,4 @@
 -- `number_of` meets its contract. The invariant: the number is i and that of the character among those from i on.
-use Prim.Native.Nat.{◌-◌}
 use native.Mathlib.Omega.{arith}
 use Rattle.waves.proofs.Numbers.{number_here, number_more, number_end}
 use Rattle.waves.proofs.number_of.Goals as goal

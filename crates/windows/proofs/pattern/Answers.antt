@@ -1,16 +1,14 @@
 -- A listed pattern is passed or entered: the name's number is its own, the book has its measure, and its body is held from where the book says.
-use Prim.Native.Nat.{ℕ, ◌+◌, ◌*◌, ◌<◌}
+use Prim.Native.Nat.{◌+◌, ◌*◌, ◌<◌}
 use native.Mathlib.Omega.{arith}
-use mathlib.Core.Path.{◌≡◌}
 use mathlib.Core.List.{[]}
-use lib.ListN.{length}
 use Rattle.tokens.specs.Tokens.{Tok}
 use Rattle.meaning.specs.Body.{listed}
 use Rattle.meaning.specs.Statements.{Decl, Decls, Env}
 use Rattle.walks.specs.Statement.{begun}
 use Rattle.words.proofs.Words.{rest}
 use Rattle.measures.specs.Measures.{Measures}
-use Rattle.measures.specs.Book.{first_pattern, entries, start_at, Entry}
+use Rattle.measures.specs.Book.{first_pattern, entries, Entry}
 use Rattle.plays.specs.Plays.{ground_of}
 use Rattle.plays.specs.Run.{ListedAt}
 use Rattle.plays.proofs.Keeping.{sized_kept}

@@ -1,5 +1,5 @@
 -- The window goes through the run: behind the patterns gone through the rest of the list is left, and at its end, or where nothing is left to do, all is gone through.
-use Prim.Native.Nat.{◌*◌, ◌-◌}
+use Prim.Native.Nat.{◌*◌}
 use native.Mathlib.Omega.{arith}
 use mathlib.Core.Path.{sym, ◌∙◌}
 use Rattle.meaning.specs.Run.{play, visits, start as opening}
