@@ -2,7 +2,7 @@
  * window FILE: the names of a STIL text, five rows from the middle of its run and a waveform; or why the text is
  * refused, and where.
  *
- *     cc -std=c99 -I include examples/c/window.c target/staticlib/libstil.a -o window
+ *     cc -std=c99 -I include examples/c/window.c target/libstil.a -o window
  */
 #include "stil.h"
 
