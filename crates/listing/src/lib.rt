@@ -7,7 +7,7 @@ ghost use Rattle.sections.specs.Listing.{front_most};
 ghost use Rattle.listing.specs.Pages.{fitting as fitting_of, Begins, GoesOn};
 
 use sections::Page;
-use streams::System;
+use streams::Screen;
 use texts::Verdict;
 use views::Shown;
 
@@ -131,7 +131,7 @@ pub fn go_on(text: &[u8], p: Page, page: &mut [u8]) -> Page
 // ---- to standard output
 
 // A text's listing to standard output, page by page. Where a page brings no row nearer to the end, that is told, and nothing is passed over silently.
-pub fn list(rt: &impl System, text: &[u8]) {
+pub fn list(rt: &impl Screen, text: &[u8]) {
     let mut space = streams::rows();
     let page: &mut [u8] = &mut space;
     let watched = streams::is_watched(rt);

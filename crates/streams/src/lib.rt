@@ -11,8 +11,8 @@ use std::io;
 use std::io::{IsTerminal, Read};
 use std::rt::{Env, Files};
 
-// What the programs ask of the system: files, the words of the command line, standard output; and standard error as bytes, since a word need not be text.
-pub trait System: Files + Env + Print {
+// What a program writes to: standard output; and standard error as bytes, since a word need not be text.
+pub trait Screen: Print {
     fn tell_bytes(&self, bytes: &[u8]) -> io::Result<()>;
 
     // Is somebody looking at standard error? At standard output?
@@ -21,7 +21,7 @@ pub trait System: Files + Env + Print {
     fn is_output_seen(&self) -> bool;
 }
 
-impl System for HostRuntime {
+impl Screen for HostRuntime {
     fn tell_bytes(&self, bytes: &[u8]) -> io::Result<()> {
         self.stderr().write_all(bytes)
     }
@@ -34,6 +34,11 @@ impl System for HostRuntime {
         self.stdout().is_terminal()
     }
 }
+
+// What the programs for daily work ask of the system besides: files, and the words of the command line.
+pub trait System: Screen + Files + Env {}
+
+impl System for HostRuntime {}
 
 // One byte more than a text may have, so that one that is too long is refused and never cut.
 const TEXT: usize = tokens::TEXT_MOST + 1;
@@ -107,12 +112,12 @@ pub fn read(from: &mut impl Read, text: &mut [u8]) -> Text
 // ---- pages to standard output and standard error
 
 // What the promises of the library rule out is told all the same: nothing goes on silently.
-pub fn broken(rt: &impl System, what: &[u8]) {
+pub fn broken(rt: &impl Screen, what: &[u8]) {
     let _ = rt.tell_bytes(what);
 }
 
 // What failed, and why, in the system's words.
-pub fn fail(rt: &impl System, what: &[u8], error: io::Error) {
+pub fn fail(rt: &impl Screen, what: &[u8], error: io::Error) {
     let words = why::said_of(error);
     let _ = rt.tell_bytes(what);
     let _ = rt.tell_bytes(b": ");
@@ -121,7 +126,7 @@ pub fn fail(rt: &impl System, what: &[u8], error: io::Error) {
 }
 
 // The first bytes of a page. A page that is shorter is never cut silently.
-fn front<'a>(rt: &impl System, page: &'a [u8], length: usize) -> Option<&'a [u8]> {
+fn front<'a>(rt: &impl Screen, page: &'a [u8], length: usize) -> Option<&'a [u8]> {
     if page.len() < length {
         broken(rt, b"a page is too short for its line\n");
         return None;
@@ -130,7 +135,7 @@ fn front<'a>(rt: &impl System, page: &'a [u8], length: usize) -> Option<&'a [u8]
 }
 
 // A page's first bytes to standard output; a write that fails is told on standard error.
-pub fn write(rt: &impl System, page: &[u8], length: usize) -> bool {
+pub fn write(rt: &impl Screen, page: &[u8], length: usize) -> bool {
     let Some(front) = front(rt, page, length) else {
         return false;
     };
@@ -144,19 +149,19 @@ pub fn write(rt: &impl System, page: &[u8], length: usize) -> bool {
 }
 
 // A page's first bytes to standard error.
-pub fn tell(rt: &impl System, page: &[u8], length: usize) {
+pub fn tell(rt: &impl Screen, page: &[u8], length: usize) {
     if let Some(front) = front(rt, page, length) {
         let _ = rt.tell_bytes(front);
     }
 }
 
 // Is somebody looking at standard error who does not see standard output?
-pub fn is_watched(rt: &impl System) -> bool {
+pub fn is_watched(rt: &impl Screen) -> bool {
     rt.is_error_seen() & !rt.is_output_seen()
 }
 
 // How far it is, to standard error.
-pub fn progress(rt: &impl System, done: usize, all: usize) {
+pub fn progress(rt: &impl Screen, done: usize, all: usize) {
     let mut line = [0; lines::LINE];
     let end = lines::progress(&mut line, 0, done, all);
     tell(rt, &line, end);
