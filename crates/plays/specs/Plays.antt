@@ -26,6 +26,7 @@ use Rattle.heads.specs.declared.Known.{Known}
 use Rattle.heads.specs.Known.{Describes}
 use Rattle.heads.specs.Heads.{kind_of}
 use Rattle.pins.specs.Shown.{table_of, Shows, Told, Roomy, Feeding, feed_at}
+use Rattle.plays.specs.declared.Ground.{Ground as Ours}
 use Rattle.plays.specs.declared.Played.{Played}
 use Rattle.plays.specs.declared.Passed.{Passed}
 use Rattle.memos.specs.declared.Use.{Use}
@@ -47,8 +48,8 @@ pub record Ground : Type 0 where
   pub known : Known
   pub signals : ℕ
 
-abbrev pub ground_of : (text places lists tplaces book rows waves : List ℕ) → Known → ℕ → Ground
-ground_of text places lists tplaces book rows waves known signals = record {
+abbrev pub grounded : (text places lists tplaces book rows waves : List ℕ) → Known → ℕ → Ground
+grounded text places lists tplaces book rows waves known signals = record {
   text = text;
   places = places;
   lists = lists;
@@ -59,6 +60,10 @@ ground_of text places lists tplaces book rows waves known signals = record {
   known = known;
   signals = signals;
 }
+
+-- as the code has it
+abbrev pub ground_of : Ours → Ground
+ground_of g = grounded g.declared.text.now g.declared.places.now g.declared.lists.now g.declared.tplaces.now g.declared.book.now g.declared.rows.now g.waves.now g.declared.known g.signals
 
 -- they hold what is declared in it
 pub record Holding (g : Ground) (E : Env) : Type 0 where

@@ -109,9 +109,16 @@ fn pattern<'a>(
     let b = words::refuse_if(a, PATTERNS <= count, TOO_MANY, c.at);
     let d = words::new_name(text, b, &book[measures::BODIES * 2..], count + 1);
     let e = words::due(text, d, b"{");
-    let x = bodies::statements(
-        text, e, places, lists, tplaces, book, rows, known, false, DEPTH, row, args, used,
-    );
+    let declared = Declared {
+        text,
+        places,
+        lists,
+        tplaces,
+        book,
+        rows,
+        known,
+    };
+    let x = bodies::statements(&declared, e, false, DEPTH, row, args, used);
     let r = x.cursor;
     if r.no != 0 {
         return r;

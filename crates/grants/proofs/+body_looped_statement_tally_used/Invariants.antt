@@ -7,11 +7,11 @@ use Rattle.grants.proofs.+body_looped_statement_tally_used.Given as goal
 
 abbrev pub invariant-tally-loop-known : goal.invariant-tally-loop-known
 invariant-tally-loop-known l =
-    Going (ground_of l.text l.places l.lists l.tplaces l.book l.rows l.waves l.known l.signals) l.depth l.r l.initial.cursor l.cursor l.initial.marks l.marks l.initial.sums l.sums l.shifts l.twice
+    Going (ground_of l.ground) l.depth l.r l.initial.cursor l.cursor l.initial.marks l.marks l.initial.sums l.sums l.shifts l.twice
 
 abbrev pub decreases-tally-loop-known : goal.decreases-tally-loop-known
 decreases-tally-loop-known l =
-    left (stream l.text l.cursor)
+    left (stream l.ground.declared.text.now l.cursor)
 
 abbrev pub decreases-body : goal.decreases-body
 decreases-body l = 4 * l.depth + 3

@@ -307,8 +307,8 @@ play_body-body_of-requires t c =
     let at = start-at'.ensures (omega (arith, u.declared)) in
     let within = begins_within _ _ _ _ _ u.holds in (
       omega (arith, u.some_more),
-      rw (part_begins args'.text.now start-at'.result _ at within) (
-        part_within args'.text.now start-at'.result _ at within,
+      rw (part_begins args'.ground.now.declared.text.now start-at'.result _ at within) (
+        part_within args'.ground.now.declared.text.now start-at'.result _ at within,
         record {
           env = used.env;
           body = used.body;
@@ -326,7 +326,7 @@ play_body-returns-then-i-lt-PROCEDURES t c =
     let u = c.requires.0.use' in
     let roomy = c.requires.0.sized.roomy in
     let at = c.start_at-start.ensures (omega (arith, u.declared)) in
-    let p = rw (part_begins c.args.text.now c.start_at-start.result _ at (begins_within _ _ _ _ _ u.holds)) at c.body_of.ensures in
+    let p = rw (part_begins c.args.ground.now.declared.text.now c.start_at-start.result _ at (begins_within _ _ _ _ _ u.holds)) at c.body_of.ensures in
     record {
       kept = kept_below p.kept;
       own = λ s h. p.kept.arguments _ s h (omega arith);
@@ -356,8 +356,8 @@ play_body-body_of-r-requires t c =
     let at = start-at'.ensures (omega (arith, u.declared)) in
     let within = begins_within _ _ _ _ _ u.holds in (
       omega (arith, u.some_more),
-      rw (part_begins args'.text.now start-at'.result _ at within) (
-        part_within args'.text.now start-at'.result _ at within,
+      rw (part_begins args'.ground.now.declared.text.now start-at'.result _ at within) (
+        part_within args'.ground.now.declared.text.now start-at'.result _ at within,
         record {
           env = used.env;
           body = used.body;
@@ -390,7 +390,7 @@ play_body-returns t c =
     let u = c.requires.0.use' in
     let at = c.start_at-start.ensures (omega (arith, u.declared)) in
     let l = c.leave.ensures in
-    let p = rw (part_begins c.args.text.now c.start_at-start.result _ at (begins_within _ _ _ _ _ u.holds)) at c.body_of-r.ensures in
+    let p = rw (part_begins c.args.ground.now.declared.text.now c.start_at-start.result _ at (begins_within _ _ _ _ _ u.holds)) at c.body_of-r.ensures in
     let w = c.fresh.ensures in
     let back = c.come_back.ensures in
     record {
@@ -685,8 +685,8 @@ statement-returns-in-Uses t c =
           v.2.learnt E d.body d.after d.arguments s (called_invoking st.holding d st.shows) m);
     }
 
-pub statements-loop-known-init : goal.statements-loop-known-init
-statements-loop-known-init t c =
+pub statements-loop-r-init : goal.statements-loop-r-init
+statements-loop-r-init t c =
     let start = c.requires in
     record {
       kept = kept_none;
@@ -701,7 +701,7 @@ statements-loop-known-init t c =
 pub statements-statement-r-requires : goal.statements-statement-r-requires
 statements-statement-r-requires t c =
     let pre' = c.requires in
-    let loop' = c.loop-known in
+    let loop' = c.loop-r in
     let stood = pre'.1 in
     let inv = loop'.invariant in
     let o = inv.resumes stood.env stood.body stood.rest stood.state stood.standing pre'.2 in (
@@ -722,7 +722,7 @@ statements-statement-r-requires t c =
 
 pub statements-returns-then-r : goal.statements-returns-then-r
 statements-returns-then-r t c =
-    let inv = c.loop-known.invariant in
+    let inv = c.loop-r.invariant in
     let step = c.statement-r.ensures in
     record {
       kept = kept_then inv.kept step.kept;
@@ -738,10 +738,10 @@ statements-returns-then-r t c =
           let o = inv.onward E b us s st m in gone_tracked inv.memo_long o (step.steps E o.rest us o.state o.standing (inv.learnt E b us s st m)) c.if-r.true e);
     }
 
-pub statements-loop-known-smaller : goal.statements-loop-known-smaller
-statements-loop-known-smaller t c =
+pub statements-loop-r-smaller : goal.statements-loop-r-smaller
+statements-loop-r-smaller t c =
     let pre' = c.requires in
-    let loop' = c.loop-known in
+    let loop' = c.loop-r in
     let statement' = c.statement-r in
     let if1' = c.if-r in
     let stood = pre'.1 in
@@ -749,9 +749,9 @@ statements-loop-known-smaller t c =
     let heads = loop'.invariant.heads stood.env stood.body stood.rest stood.state stood.standing pre'.2 in
     resumed_less o (statement'.ensures.moves stood.env o.rest stood.rest _ (resumed_standing o _ stood.standing.holding) heads) if1'.false
 
-pub statements-loop-known-preserved : goal.statements-loop-known-preserved
-statements-loop-known-preserved t c =
-    let inv = c.loop-known.invariant in
+pub statements-loop-r-preserved : goal.statements-loop-r-preserved
+statements-loop-r-preserved t c =
+    let inv = c.loop-r.invariant in
     let step = c.statement-r.ensures in
     let left' = c.if-r.false in
     record {
@@ -893,7 +893,7 @@ uses-overflow_sub-frame t c = omega (arith, c.requires.0.invoking.fits.levels, c
 
 pub uses-mark_passed-requires : goal.uses-mark_passed-requires
 uses-mark_passed-requires t c =
-    let q = c.pass-p.ensures c.args.places.now c.args.lists.now c.args.tplaces.now c.args.book.now c.args.rows.now c.args.known in
+    let q = c.pass-p.ensures in
     (nest_fits _, c.requires.0.sized.roomy.few, q.room c.if-p.true)
 
 pub uses-returns-then-p : goal.uses-returns-then-p
@@ -902,7 +902,7 @@ uses-returns-then-p t c =
     let depth = c.args.frame.depth in
     let sized = start.0.sized in
     let few = sized.roomy.few in
-    let q = c.pass-p.ensures c.args.places.now c.args.lists.now c.args.tplaces.now c.args.book.now c.args.rows.now c.args.known in
+    let q = c.pass-p.ensures in
     let taken = c.if-p.true in
     let w = c.mark_passed.ensures in
     rw c.goes_on.ensures (
@@ -927,7 +927,7 @@ pub uses-used-r-requires : goal.uses-used-r-requires
 uses-used-r-requires t c =
     let start = c.requires in
     let s = start.0 in
-    let q = c.pass-p.ensures c.args.places.now c.args.lists.now c.args.tplaces.now c.args.book.now c.args.rows.now c.args.known in (
+    let q = c.pass-p.ensures in (
       omega arith,
       (
         record {
@@ -948,7 +948,7 @@ uses-used-r-requires t c =
 pub uses-returns : goal.uses-returns
 uses-returns t c =
     let sized = c.requires.0.sized in
-    let q = c.pass-p.ensures c.args.places.now c.args.lists.now c.args.tplaces.now c.args.book.now c.args.rows.now c.args.known in
+    let q = c.pass-p.ensures in
     let same = q.untouched c.if-p.false in
     let v = c.used-r.ensures in (
       refl,
