@@ -24,7 +24,7 @@ ghost use Rattle.texts.specs.Tables.{stopped_at, Reads, NotesRead, Decides, Note
 ghost use Rattle.texts.specs.Run.{Refuses, Tells, sound_of, Recorded, ReadAs};
 ghost use Rattle.texts.specs.Told.{decided_of, Packs};
 
-use heads::Known;
+use heads::{Declared, Known};
 use measures::{CYCLES_MOST, DEPTH, Measure, SIZE_MOST};
 use timing::Watch;
 use tokens::{TEXT_MOST, TOO_LONG};
