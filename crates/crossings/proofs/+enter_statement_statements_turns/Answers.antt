@@ -369,13 +369,13 @@ statement-returns-in-Uses t c =
           called_step st.holding _ d refl refl (v.told E d.body d.after d.arguments s (called_using st d (shows_supplied st.shows w.1) (w.2 _ _ d.supplied)) runs));
     })
 
-pub statements-loop-r-init : goal.statements-loop-r-init
-statements-loop-r-init t c = record { kept = kept_none; long = long_none; onward = λ E b us s st runs. starts c.requires.0 st }
+pub statements-loop-frame-init : goal.statements-loop-frame-init
+statements-loop-frame-init t c = record { kept = kept_none; long = long_none; onward = λ E b us s st runs. starts c.requires.0 st }
 
 pub statements-statement-r-requires : goal.statements-statement-r-requires
 statements-statement-r-requires t c =
     let stood = c.requires.1 in
-    let inv = c.loop-r.invariant in
+    let inv = c.loop-frame.invariant in
     let o = inv.onward stood.env stood.body stood.rest stood.state stood.standing stood.timed in (
       omega arith,
       (
@@ -395,23 +395,23 @@ statements-statement-r-requires t c =
     )
 
 pub statements-shape_of-values-then-r : goal.statements-shape_of-values-then-r
-statements-shape_of-values-then-r t c = c.statement-r.ensures.kept.values_long ∙ c.loop-r.invariant.kept.values_long
+statements-shape_of-values-then-r t c = c.statement-r.ensures.kept.values_long ∙ c.loop-frame.invariant.kept.values_long
 
 pub statements-shape_of-feeds-then-r : goal.statements-shape_of-feeds-then-r
-statements-shape_of-feeds-then-r t c = c.statement-r.ensures.kept.feeds_long ∙ c.loop-r.invariant.kept.feeds_long
+statements-shape_of-feeds-then-r t c = c.statement-r.ensures.kept.feeds_long ∙ c.loop-frame.invariant.kept.feeds_long
 
 pub statements-shape_of-args-then-r : goal.statements-shape_of-args-then-r
-statements-shape_of-args-then-r t c = c.statement-r.ensures.kept.args_long ∙ c.loop-r.invariant.kept.args_long
+statements-shape_of-args-then-r t c = c.statement-r.ensures.kept.args_long ∙ c.loop-frame.invariant.kept.args_long
 
 pub statements-shape_of-shown-then-r : goal.statements-shape_of-shown-then-r
-statements-shape_of-shown-then-r t c = c.statement-r.ensures.long.pins_long ∙ c.loop-r.invariant.long.pins_long
+statements-shape_of-shown-then-r t c = c.statement-r.ensures.long.pins_long ∙ c.loop-frame.invariant.long.pins_long
 
 pub statements-shape_of-marks-then-r : goal.statements-shape_of-marks-then-r
-statements-shape_of-marks-then-r t c = c.statement-r.ensures.long.marks_long ∙ c.loop-r.invariant.long.marks_long
+statements-shape_of-marks-then-r t c = c.statement-r.ensures.long.marks_long ∙ c.loop-frame.invariant.long.marks_long
 
 pub statements-returns-then-r : goal.statements-returns-then-r
 statements-returns-then-r t c =
-    let inv = c.loop-r.invariant in
+    let inv = c.loop-frame.invariant in
     let step = c.statement-r.ensures in
     record {
       kept = kept_then inv.kept step.kept;
@@ -419,15 +419,15 @@ statements-returns-then-r t c =
       plays = λ E b us s st runs. (let o = inv.onward E b us s st runs in gone o (step.steps E o.rest us o.state o.standing runs) c.if-r.true);
     }
 
-pub statements-loop-r-smaller : goal.statements-loop-r-smaller
-statements-loop-r-smaller t c =
+pub statements-loop-frame-smaller : goal.statements-loop-frame-smaller
+statements-loop-frame-smaller t c =
     let stood = c.requires.1 in
-    let o = c.loop-r.invariant.onward stood.env stood.body stood.rest stood.state stood.standing stood.timed in
+    let o = c.loop-frame.invariant.onward stood.env stood.body stood.rest stood.state stood.standing stood.timed in
     fewer o (c.statement-r.ensures.steps stood.env o.rest stood.rest o.state o.standing stood.timed) c.if-r.false
 
-pub statements-loop-r-preserved : goal.statements-loop-r-preserved
-statements-loop-r-preserved t c =
-    let inv = c.loop-r.invariant in
+pub statements-loop-frame-preserved : goal.statements-loop-frame-preserved
+statements-loop-frame-preserved t c =
+    let inv = c.loop-frame.invariant in
     let step = c.statement-r.ensures in
     record {
       kept = kept_then inv.kept step.kept;

@@ -25,8 +25,8 @@ use Rattle.plays.proofs.Recalling.{recalled_told, recalled_tracked, invoked_usin
 use Rattle.plays.proofs.Entering.{kind_macro, kind_procedure, kept_below, kept_returned, sized_left, macro_standing, procedure_standing, macro_told, procedure_told, served_fed, part_within, part_begins}
 use Rattle.plays.proofs.+body_of_looped_needed_turns_play_body_statement_statements_used_uses.Goals as goal
 
-pub body_of-overflow_sub-text : goal.body_of-overflow_sub-text
-body_of-overflow_sub-text t c =
+pub body_of-overflow_sub-ground : goal.body_of-overflow_sub-ground
+body_of-overflow_sub-ground t c =
     let pre' = c.requires in
     omega (arith, pre'.0)
 
@@ -685,8 +685,8 @@ statement-returns-in-Uses t c =
           v.2.learnt E d.body d.after d.arguments s (called_invoking st.holding d st.shows) m);
     }
 
-pub statements-loop-r-init : goal.statements-loop-r-init
-statements-loop-r-init t c =
+pub statements-loop-frame-init : goal.statements-loop-frame-init
+statements-loop-frame-init t c =
     let start = c.requires in
     record {
       kept = kept_none;
@@ -701,7 +701,7 @@ statements-loop-r-init t c =
 pub statements-statement-r-requires : goal.statements-statement-r-requires
 statements-statement-r-requires t c =
     let pre' = c.requires in
-    let loop' = c.loop-r in
+    let loop' = c.loop-frame in
     let stood = pre'.1 in
     let inv = loop'.invariant in
     let o = inv.resumes stood.env stood.body stood.rest stood.state stood.standing pre'.2 in (
@@ -722,7 +722,7 @@ statements-statement-r-requires t c =
 
 pub statements-returns-then-r : goal.statements-returns-then-r
 statements-returns-then-r t c =
-    let inv = c.loop-r.invariant in
+    let inv = c.loop-frame.invariant in
     let step = c.statement-r.ensures in
     record {
       kept = kept_then inv.kept step.kept;
@@ -738,10 +738,10 @@ statements-returns-then-r t c =
           let o = inv.onward E b us s st m in gone_tracked inv.memo_long o (step.steps E o.rest us o.state o.standing (inv.learnt E b us s st m)) c.if-r.true e);
     }
 
-pub statements-loop-r-smaller : goal.statements-loop-r-smaller
-statements-loop-r-smaller t c =
+pub statements-loop-frame-smaller : goal.statements-loop-frame-smaller
+statements-loop-frame-smaller t c =
     let pre' = c.requires in
-    let loop' = c.loop-r in
+    let loop' = c.loop-frame in
     let statement' = c.statement-r in
     let if1' = c.if-r in
     let stood = pre'.1 in
@@ -749,9 +749,9 @@ statements-loop-r-smaller t c =
     let heads = loop'.invariant.heads stood.env stood.body stood.rest stood.state stood.standing pre'.2 in
     resumed_less o (statement'.ensures.moves stood.env o.rest stood.rest _ (resumed_standing o _ stood.standing.holding) heads) if1'.false
 
-pub statements-loop-r-preserved : goal.statements-loop-r-preserved
-statements-loop-r-preserved t c =
-    let inv = c.loop-r.invariant in
+pub statements-loop-frame-preserved : goal.statements-loop-frame-preserved
+statements-loop-frame-preserved t c =
+    let inv = c.loop-frame.invariant in
     let step = c.statement-r.ensures in
     let left' = c.if-r.false in
     record {

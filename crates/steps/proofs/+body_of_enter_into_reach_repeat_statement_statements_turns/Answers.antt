@@ -27,8 +27,8 @@ use Rattle.steps.proofs.Entering.{used_small, used_few, used_size, used_cycles, 
 use Rattle.steps.proofs.+body_of_enter_into_reach_repeat_statement_statements_turns.Goals as goal
 use Rattle.steps.proofs.+body_of_enter_into_reach_repeat_statement_statements_turns.Goals.{reach-Joined-j-gt0, reach-then-j-gt0, reach-else-j-gt0}
 
-pub body_of-overflow_sub-text : goal.body_of-overflow_sub-text
-body_of-overflow_sub-text t c =
+pub body_of-overflow_sub-ground : goal.body_of-overflow_sub-ground
+body_of-overflow_sub-ground t c =
     let pre' = c.requires in
     omega (arith, pre'.0)
 
@@ -684,15 +684,15 @@ statement-returns-in-Uses t c =
           (v.tells E d.body d.after d.arguments s (called_use d used (called_measured d st pre'.0 m is) ready)));
     })
 
-pub statements-loop-r-init : goal.statements-loop-r-init
-statements-loop-r-init t c =
+pub statements-loop-frame-init : goal.statements-loop-frame-init
+statements-loop-frame-init t c =
     let pre' = c.requires in
     record { kept = kept_none; long = refl; going = pre'.1.going; onward = λ E b us s st ready. starts pre'.0 st ready }
 
 pub statements-statement-r-requires : goal.statements-statement-r-requires
 statements-statement-r-requires t c =
     let pre' = c.requires in
-    let loop' = c.loop-r in
+    let loop' = c.loop-frame in
     let stood = pre'.1 in
     let inv = loop'.invariant in
     let o = inv.onward stood.env stood.body stood.rest stood.state stood.standing stood.ready in (
@@ -714,7 +714,7 @@ statements-statement-r-requires t c =
 
 pub statements-returns-then-r-over : goal.statements-returns-then-r-over
 statements-returns-then-r-over t c =
-    let loop' = c.loop-r in
+    let loop' = c.loop-frame in
     let statement' = c.statement-r in
     let over' = c.over in
     let inv = loop'.invariant in
@@ -726,10 +726,10 @@ statements-returns-then-r-over t c =
           gone o (step.steps E o.rest us o.state o.standing o.ready) (rw over'.ensures at c.if-r-over.true));
     }
 
-pub statements-loop-r-smaller : goal.statements-loop-r-smaller
-statements-loop-r-smaller t c =
+pub statements-loop-frame-smaller : goal.statements-loop-frame-smaller
+statements-loop-frame-smaller t c =
     let pre' = c.requires in
-    let loop' = c.loop-r in
+    let loop' = c.loop-frame in
     let statement' = c.statement-r in
     let over' = c.over in
     let if1' = c.if-r-over in
@@ -737,10 +737,10 @@ statements-loop-r-smaller t c =
     let o = loop'.invariant.onward stood.env stood.body stood.rest stood.state stood.standing stood.ready in
     fewer o (statement'.ensures.steps stood.env o.rest stood.rest o.state o.standing o.ready) (rw over'.ensures at if1'.false)
 
-pub statements-loop-r-preserved : goal.statements-loop-r-preserved
-statements-loop-r-preserved t c =
+pub statements-loop-frame-preserved : goal.statements-loop-frame-preserved
+statements-loop-frame-preserved t c =
     let pre' = c.requires in
-    let loop' = c.loop-r in
+    let loop' = c.loop-frame in
     let statement' = c.statement-r in
     let over' = c.over in
     let if1' = c.if-r-over in

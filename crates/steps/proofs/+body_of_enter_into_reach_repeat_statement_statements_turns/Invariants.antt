@@ -31,13 +31,13 @@ decreases-statements l = 6 * l.frame.depth + 4
 abbrev pub decreases-turns : goal.decreases-turns
 decreases-turns l = 6 * l.frame.depth
 
-abbrev pub invariant-statements-loop-r : goal.invariant-statements-loop-r
-invariant-statements-loop-r l =
+abbrev pub invariant-statements-loop-frame : goal.invariant-statements-loop-frame
+invariant-statements-loop-frame l =
     Underway (ground_of l.ground) l.frame.depth l.frame.level l.frame.turns l.initial.cursor l.initial.chosen (arrays l.initial.values l.initial.feeds l.initial.args) l.initial.w l.initial.buffer
     l.cursor l.chosen (arrays l.values l.feeds l.args) l.w l.buffer
 
-abbrev pub decreases-statements-loop-r : goal.decreases-statements-loop-r
-decreases-statements-loop-r l =
+abbrev pub decreases-statements-loop-frame : goal.decreases-statements-loop-frame
+decreases-statements-loop-frame l =
     left (stream l.ground.declared.text.now l.cursor)
 
 abbrev pub invariant-turns-loop-i : goal.invariant-turns-loop-i
