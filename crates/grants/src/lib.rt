@@ -15,7 +15,7 @@ ghost use Rattle.meaning.specs.Document.{Read};
 ghost use Rattle.held.specs.Held.{All};
 ghost use Rattle.texts.specs.declared.Parts.{Parts};
 ghost use Rattle.plays.specs.Plays.{ground_of, Summed};
-ghost use Rattle.plays.specs.Run.{SomeRunOn, RunsOn};
+ghost use Rattle.plays.specs.Run.{Runs, RunsOn, SomeRunOn};
 ghost use Rattle.timing.specs.Marks.{table_size};
 ghost use Rattle.measures.specs.Uses.{Given};
 ghost use Rattle.measures.specs.Book.{book_length};

@@ -12,9 +12,9 @@ decreases-measure l = 2 * l.depth + 1
 abbrev pub decreases-statement : goal.decreases-statement
 decreases-statement l = 2 * l.depth
 
-abbrev pub invariant-measure-loop-r : goal.invariant-measure-loop-r
-invariant-measure-loop-r l =
+abbrev pub invariant-measure-loop-behind : goal.invariant-measure-loop-behind
+invariant-measure-loop-behind l =
     Going (tables_of l.ground) l.depth l.initial.cursor l.cursor l.sum l.args
 
-abbrev pub decreases-measure-loop-r : goal.decreases-measure-loop-r
-decreases-measure-loop-r l = left (stream l.ground.declared.text.now l.cursor)
+abbrev pub decreases-measure-loop-behind : goal.decreases-measure-loop-behind
+decreases-measure-loop-behind l = left (stream l.ground.declared.text.now l.cursor)
