@@ -570,7 +570,7 @@ fn recall(memo: &[u16], waves: &[u8], u: Use, table: usize, values: &[u8], signa
 fn used<'a>(
     ground: &'a Ground<'a>,
     c: Cursor,
-    behind: Cursor,
+    past: Cursor,
     marks: &'a [u8],
     sums: &'a [u8],
     frame: Frame,
@@ -583,7 +583,7 @@ fn used<'a>(
     args: &mut [usize],
     memo: &mut [u16],
 ) -> Played
-    requires { (h : SomeInvoked (ground_of ground.now) c i t frame.depth frame.level table given.now (arrays values.old feeds.old args.old)) × Heads (ground_of ground.now) memo.old h.env × Behind (ground_of ground.now) c behind }
+    requires { (h : SomeInvoked (ground_of ground.now) c i t frame.depth frame.level table given.now (arrays values.old feeds.old args.old)) × Heads (ground_of ground.now) memo.old h.env × Behind (ground_of ground.now) c past }
     ensures { Served (ground_of ground.now) marks.now sums.now memo.old memo.new c i t frame.depth frame.level table given.now (arrays values.old feeds.old args.old) (arrays values.new feeds.new args.new) frame.seconds result }
 {
     let within = DEPTH - (frame.depth - 1);
@@ -599,7 +599,7 @@ fn used<'a>(
     memos::remember(
         memo,
         u,
-        behind,
+        past,
         within,
         table,
         left.table,
