@@ -70,9 +70,6 @@ pub record Asking (text waves given args pins : List ℕ) (r table s : ℕ) (sum
   pub each : (xs : Args) → Supplied text xs given args → (i : ℕ) → i < s → OnPin waves r i (get_or pins i 0) (arg_of i xs) (table_of table) sums (get_or left i 0)
 
 module _ {text waves given args pins : List ℕ} {r table : ℕ} {sums left : List ℕ} where
-  pub asking_none : length left ≡ signals_most → Asking text waves given args pins r table 0 sums left
-  asking_none l = record { long = l; each = λ xs u i h. absurd (omega arith) }
-
   module _ {s : ℕ} (y : Asking text waves given args pins r table s sums left) where
     pub asking_next : {v : ℕ} → s < signals_most → ((xs : Args) → Supplied text xs given args → OnPin waves r s (get_or pins s 0) (arg_of s xs) (table_of table) sums v)
         → Asking text waves given args pins r table (s + 1) sums (set left s v)

@@ -1,7 +1,7 @@
 // Sums of bodies, a row of bytes each: what a body asks of the state in which it begins, so that no cycle of it fails, and what it leaves.
 #![tactic(auto)]
 
-ghost use Rattle.std.specs.Prelude.{◌≡◌, true, false, not, ◌||◌, ◌&&◌, eqb, List, ℕ, ◌+◌, ◌*◌, ◌<◌, ◌≤◌, length};
+ghost use Rattle.std.specs.Prelude.{◌≡◌, true, false, not, ◌||◌, ◌&&◌, eqb, List, ℕ, ◌+◌, ◌*◌, ◌<◌, ◌≤◌, length, IfSome};
 ghost use Rattle.std.proofs.Math.Option.{none, some};
 ghost use Rattle.meaning.specs.Bounds.{signals_most, tables_most};
 ghost use Rattle.meaning.specs.Timing.{Tables};
@@ -43,13 +43,6 @@ pub const SUMMED: u8 = 1;
 
 pub const SHIFTED: u8 = 2;
 
-// A signal as a body entered from a state leaves it, if its pin and its argument could be shown wherever the body shows them.
-#[derive(Clone, Copy)]
-struct On {
-    fits: bool,
-    pin: u8,
-}
-
 // Is it known of a body with that mark what it asks, with its Shift played t times?
 pub fn usable(mark: u8, t: usize) -> bool
     ensures { result ≡ (eqb mark is_summed || (eqb mark is_shifted && not (eqb t 0))) }
@@ -79,10 +72,8 @@ fn any_table(sums: &[u8], r: usize, place: usize) -> bool
     ensures { result ≡ false → (k : ℕ) → k < tables_most → byte_at sums.now r (place + k) ≡ 0 }
 {
     let mut any = false;
-    let mut k = 0;
-    while k < timing::TABLES {
-        any = any | (byte(sums, r, place + k) != 0);
-        k += 1;
+    for k in 0..timing::TABLES {
+        any |= byte(sums, r, place + k) != 0;
     }
     any
 }
@@ -94,17 +85,10 @@ pub fn clear(sums: &mut [u8], r: usize)
     requires { r * row_size + row_size ≤ length sums.old }
     ensures { Only r sums.old sums.new × ((n : ℕ) → Nothing n (sum_at sums.new r)) }
 {
-    let mut i = 0;
-    while i < ROW {
-        store(sums, r, i, 0);
-        i += 1;
-    }
-    let mut k = 0;
-    while k < timing::TABLES {
-        store(sums, r, FINE + k, 1);
-        k += 1;
-    }
-    store(sums, r, TABLE, timing::TABLES as u8);
+    let row = &mut sums[r * ROW..r * ROW + ROW];
+    row.fill(0);
+    row[FINE..FINE + timing::TABLES].fill(1);
+    row[TABLE] = timing::TABLES as u8;
 }
 
 // Assignments: each signal has its character, or the next of its argument.
@@ -112,12 +96,10 @@ pub fn assign(sums: &mut [u8], r: usize, given: &[u8])
     requires { (r * row_size + row_size ≤ length sums.old) × (length given.now ≡ signals_most) }
     ensures { Only r sums.old sums.new × ((n : ℕ) (a : Assigns) → Given a given.now → Assigned n a (sum_at sums.old r) (sum_at sums.new r)) }
 {
-    let mut s = 0;
-    while s < sets::MOST {
-        if given[s] != 0 {
-            store(sums, r, PINS + s, given[s]);
+    for (s, &c) in given.iter().enumerate() {
+        if c != 0 {
+            store(sums, r, PINS + s, c);
         }
-        s += 1;
     }
 }
 
@@ -163,12 +145,10 @@ fn show_before(sums: &mut [u8], r: usize, waves: &[u8], s: usize, x: u8)
     ensures { More r sums.old sums.new × ((tabs : Tables) → Marked waves.now tabs → Inherits tabs s x (sum_at sums.new r)) }
 {
     store(sums, r, NEEDS, 1);
-    let mut k = 0;
-    while k < timing::TABLES {
+    for k in 0..timing::TABLES {
         if !has(waves, k, s, x) {
             store(sums, r, FINE + k, 0);
         }
-        k += 1;
     }
 }
 
@@ -224,11 +204,9 @@ pub fn cycle(sums: &mut [u8], r: usize, waves: &[u8], signals: usize)
     ensures { Only r sums.old sums.new × ((tabs : Tables) → Marked waves.now tabs → Cycled tabs signals (sum_at sums.old r) (sum_at sums.new r)) }
 {
     let t = need_table(sums, r);
-    let mut s = 0;
-    while s < signals {
+    for s in 0..signals {
         let x = byte(sums, r, PINS + s);
         show(sums, r, waves, s, x, t);
-        s += 1;
     }
 }
 
@@ -239,12 +217,10 @@ fn narrow(sums: &mut [u8], to: usize, from: usize)
     requires { (to * row_size + row_size ≤ length sums.old) × (from * row_size + row_size ≤ length sums.old) × (from ≡ to → ⊥) }
     ensures { More to sums.old sums.new × ((k : ℕ) → (sum_at sums.new to).fine k ≡ true → (sum_at sums.old from).fine k ≡ true) }
 {
-    let mut k = 0;
-    while k < timing::TABLES {
+    for k in 0..timing::TABLES {
         if byte(sums, from, FINE + k) == 0 {
             store(sums, to, FINE + k, 0);
         }
-        k += 1;
     }
 }
 
@@ -289,12 +265,10 @@ fn show_tables(sums: &mut [u8], to: usize, from: usize, place: usize, waves: &[u
     requires { (to * row_size + row_size ≤ length sums.old) × (from * row_size + row_size ≤ length sums.old) × (from ≡ to → ⊥) × (place + slots ≤ row_size) × (length waves.now ≡ tables_most * table_size) × (s < signals_most) }
     ensures { More to sums.old sums.new × ((tabs : Tables) → Marked waves.now tabs → (k : ℕ) → k < tables_most → flag_at sums.old from (place + k) ≡ true → Shows tabs s (shown_of x) (some k) (sum_at sums.new to)) }
 {
-    let mut t = 0;
-    while t < timing::TABLES {
+    for t in 0..timing::TABLES {
         if byte(sums, from, place + t) != 0 {
             show(sums, to, waves, s, x, t);
         }
-        t += 1;
     }
 }
 
@@ -346,14 +320,12 @@ fn feed_word(
     ensures { (result ≡ last_of w.now before) × More to sums.old sums.new × SeenWord w.now seen.old seen.new (ShownFed waves.now to from s sums.old sums.new) }
 {
     let mut last = before;
-    let mut i = 0;
-    while i < w.len() {
-        last = w[i];
-        if seen[last as usize] == 0 {
-            show_where(sums, to, from, GIVEN + s * SLOTS, waves, s, last);
-            seen[last as usize] = 1;
+    for &c in w {
+        last = c;
+        if seen[c as usize] == 0 {
+            show_where(sums, to, from, GIVEN + s * SLOTS, waves, s, c);
+            seen[c as usize] = 1;
         }
-        i += 1;
     }
     last
 }
@@ -472,10 +444,8 @@ pub fn in_place(
     ensures { Only to sums.old sums.new × ((sum_at sums.old to).bad ≡ true → (sum_at sums.new to).bad ≡ true) × ((xs : Args) → Supplied text.now xs given.now args.now → (tabs : Tables) → Marked waves.now tabs → (sum_at sums.new to).bad ≡ false → InPlace tabs signals (sum_at sums.old to) (sum_at sums.old from) (λ i. arg_of i xs) (sum_at sums.new to)) }
 {
     ask(sums, to, from);
-    let mut s = 0;
-    while s < signals {
+    for s in 0..signals {
         enter(text, sums, to, from, waves, s, given, args);
-        s += 1;
     }
     retable(sums, to, from);
 }
@@ -507,11 +477,9 @@ pub fn called(
     ensures { More to sums.old sums.new × ((xs : Args) → Supplied text.now xs given.now args.now → (tabs : Tables) → Marked waves.now tabs → Called tabs signals (sum_at sums.old to) (sum_at sums.old from) (λ i. arg_of i xs) (sum_at sums.new to)) }
 {
     ask(sums, to, from);
-    let mut s = 0;
-    while s < signals {
+    for s in 0..signals {
         show_unassigned(sums, to, from, s);
         feed_signal(text, sums, to, from, waves, s, given, args);
-        s += 1;
     }
 }
 
@@ -528,12 +496,10 @@ pub fn grants(sums: &[u8], r: usize, signals: usize) -> bool
     if byte(sums, r, NEEDS) != 0 {
         return false;
     }
-    let mut s = 0;
-    while s < signals {
+    for s in 0..signals {
         if byte(sums, r, s * SLOTS + timing::TABLES) != 0 {
             return false;
         }
-        s += 1;
     }
     true
 }
@@ -596,12 +562,10 @@ fn fits_where(
     requires { (r * row_size + row_size ≤ length sums.now) × (place + slots ≤ row_size) × (length waves.now ≡ tables_most * table_size) × (s < signals_most) }
     ensures { result ≡ true → (tabs : Tables) → Marked waves.now tabs → FitsWhere tabs r place s x (table_of table) sums.now }
 {
-    let mut t = 0;
-    while t < timing::TABLES {
+    for t in 0..timing::TABLES {
         if !fits_slot(sums, r, place + t, waves, t, s, x) {
             return false;
         }
-        t += 1;
     }
     fits_slot(sums, r, place + timing::TABLES, waves, table, s, x)
 }
@@ -625,7 +589,7 @@ fn fits_pin(
     fits_slot(sums, r, place + timing::TABLES, waves, table, s, x)
 }
 
-// So each byte of a word of an argument that was not seen yet; the pin is the last one, without any `before`.
+// So each byte of a word of an argument that was not seen yet? Then the last one is the pin, without any `before`.
 fn fits_word(
     word: &[u8],
     seen: &mut [u8],
@@ -635,32 +599,24 @@ fn fits_word(
     s: usize,
     before: u8,
     table: usize,
-) -> On
+) -> Option<u8>
     requires { (length seen.old ≡ bytes) × (r * row_size + row_size ≤ length sums.now) × (length waves.now ≡ tables_most * table_size) × (s < signals_most) }
-    ensures { result.fits ≡ true → (result.pin ≡ last_of word.now before) × SeenWord word.now seen.old seen.new (FitsFed waves.now r s (table_of table) sums.now) }
+    ensures { IfSome result (λ pin. (pin ≡ last_of word.now before) × SeenWord word.now seen.old seen.new (FitsFed waves.now r s (table_of table) sums.now)) }
 {
     let mut last = before;
-    let mut i = 0;
-    while i < word.len() {
-        last = word[i];
-        if seen[last as usize] == 0 {
-            if !fits_where(sums, r, GIVEN + s * SLOTS, waves, s, last, table) {
-                return On {
-                    fits: false,
-                    pin: last,
-                };
+    for &c in word {
+        last = c;
+        if seen[c as usize] == 0 {
+            if !fits_where(sums, r, GIVEN + s * SLOTS, waves, s, c, table) {
+                return None;
             }
-            seen[last as usize] = 1;
+            seen[c as usize] = 1;
         }
-        i += 1;
     }
-    On {
-        fits: true,
-        pin: last,
-    }
+    Some(last)
 }
 
-// So each character of an argument, word by word; the pin is the last of them, 0 for none. Each is looked at once.
+// So each character of an argument, word by word? Then the last of them is the pin, 0 for none. Each is looked at once.
 fn fed_fits(
     text: &[u8],
     sums: &[u8],
@@ -669,9 +625,9 @@ fn fed_fits(
     s: usize,
     place: usize,
     table: usize,
-) -> On
+) -> Option<u8>
     requires { (r * row_size + row_size ≤ length sums.now) × (length waves.now ≡ tables_most * table_size) × (s < signals_most) }
-    ensures { (cs : List ℕ) → DataAt text.now place cs → result.fits ≡ true → (result.pin ≡ last_of cs 0) × ((tabs : Tables) → Marked waves.now tabs → FedFits tabs r s cs (table_of table) sums.now) }
+    ensures { IfSome result (λ pin. (cs : List ℕ) → DataAt text.now place cs → (pin ≡ last_of cs 0) × ((tabs : Tables) → Marked waves.now tabs → FedFits tabs r s cs (table_of table) sums.now)) }
 {
     let mut seen = [0u8; BYTES];
     let mut at = place;
@@ -679,17 +635,10 @@ fn fed_fits(
     loop {
         let word = feeds::next_word(text, at);
         if word.end <= word.at {
-            return On {
-                fits: true,
-                pin: last,
-            };
+            return Some(last);
         }
         let w = words::bytes_of(text, word.at, word.end);
-        let o = fits_word(w, &mut seen, sums, r, waves, s, last, table);
-        if !o.fits {
-            return o;
-        }
-        last = o.pin;
+        last = fits_word(w, &mut seen, sums, r, waves, s, last, table)?;
         at = word.end;
     }
 }
@@ -704,17 +653,17 @@ fn signal_fits(
     given: &[u8],
     args: &[usize],
     table: usize,
-) -> On
+) -> Option<u8>
     requires { (r * row_size + row_size ≤ length sums.now) × (length waves.now ≡ tables_most * table_size) × (s < signals_most) × (length given.now ≡ signals_most) × (length args.now ≡ signals_most * 2) }
-    ensures { (xs : Args) → Supplied text.now xs given.now args.now → result.fits ≡ true → (result.pin ≡ last_of (arg_of s xs) 0) × ((tabs : Tables) → Marked waves.now tabs → FedFits tabs r s (arg_of s xs) (table_of table) sums.now) }
+    ensures { IfSome result (λ pin. (xs : Args) → Supplied text.now xs given.now args.now → (pin ≡ last_of (arg_of s xs) 0) × ((tabs : Tables) → Marked waves.now tabs → FedFits tabs r s (arg_of s xs) (table_of table) sums.now)) }
 {
     if given[s] == 0 {
-        return On { fits: true, pin: 0 };
+        return Some(0);
     }
     fed_fits(text, sums, r, waves, s, args[sets::MOST + s], table)
 }
 
-// A signal with the character x before: its argument too, and what the row leaves on it.
+// A signal with the character x before, if that and its argument can be shown wherever the row shows them: the pin that the row leaves on it.
 fn on_signal(
     text: &[u8],
     sums: &[u8],
@@ -725,31 +674,22 @@ fn on_signal(
     given: &[u8],
     args: &[usize],
     table: usize,
-) -> On
+) -> Option<u8>
     requires { (r * row_size + row_size ≤ length sums.now) × (length waves.now ≡ tables_most * table_size) × (s < signals_most) × (length given.now ≡ signals_most) × (length args.now ≡ signals_most * 2) }
-    ensures { result.fits ≡ true → (xs : Args) → Supplied text.now xs given.now args.now → OnPin waves.now r s x (arg_of s xs) (table_of table) sums.now result.pin }
+    ensures { IfSome result (λ pin. (xs : Args) → Supplied text.now xs given.now args.now → OnPin waves.now r s x (arg_of s xs) (table_of table) sums.now pin) }
 {
     if !fits_pin(sums, r, s * SLOTS, waves, s, x, table) {
-        return On {
-            fits: false,
-            pin: x,
-        };
+        return None;
     }
-    let o = signal_fits(text, sums, r, waves, s, given, args, table);
+    let last = signal_fits(text, sums, r, waves, s, given, args, table)?;
     let u = byte(sums, r, PINS + s);
     if u == 0 {
-        return On {
-            fits: o.fits,
-            pin: x,
-        };
+        return Some(x);
     }
     if u == MARK {
-        return o;
+        return Some(last);
     }
-    On {
-        fits: o.fits,
-        pin: u,
-    }
+    Some(u)
 }
 
 // Is the table in force one that the row asks for?
@@ -788,14 +728,11 @@ pub fn asks(
     if !suits(sums, r, table) {
         return false;
     }
-    let mut s = 0;
-    while s < signals {
-        let o = on_signal(text, sums, r, waves, s, pins[s], given, args, table);
-        if !o.fits {
+    for s in 0..signals {
+        let Some(pin) = on_signal(text, sums, r, waves, s, pins[s], given, args, table) else {
             return false;
-        }
-        left[s] = o.pin;
-        s += 1;
+        };
+        left[s] = pin;
     }
     true
 }

@@ -6,15 +6,10 @@ use borrow.Author.Tests.{eqb-true, not-false}
 use Rattle.tokens.proofs.Bools.{neither}
 use Rattle.tallies.proofs.any_table.Goals as goal
 
-pub loop-k-init : goal.loop-k-init
-loop-k-init c = (omega arith, λ e j h. absurd (omega arith))
-
 pub loop-k-preserved : goal.loop-k-preserved
-loop-k-preserved c = (
-  omega arith,
-  λ e. let n = neither _ _ e in
-      below_more _ _ (c.loop-k.invariant.1 n.0) (sym c.byte.ensures ∙ eqb-true _ 0 (not-false _ n.1)),
-)
+loop-k-preserved c =
+    λ e. let n = neither _ _ e in
+    below_more _ _ (c.loop-k.invariant n.0) (sym c.byte.ensures ∙ eqb-true _ 0 (not-false _ n.1))
 
 pub returns : goal.returns
-returns c = λ e k h. c.loop-k.invariant.1 e k (omega arith)
+returns c = λ e k h. c.loop-k.invariant e k (omega arith)

@@ -4,14 +4,8 @@ use Rattle.tallies.proofs.Grown.{more_none}
 use Rattle.tallies.proofs.Showing.{shown_all_lem, shown_tables}
 use Rattle.tallies.proofs.show_pin.Goals as goal
 
-pub shape_of-sums-then-any_table : goal.shape_of-sums-then-any_table
-shape_of-sums-then-any_table c = c.show_where.ensures.0.only.long
-
 pub returns-then-any_table : goal.returns-then-any_table
 returns-then-any_table c = c.show_where.ensures
-
-pub shape_of-sums-then-byte-ne0 : goal.shape_of-sums-then-byte-ne0
-shape_of-sums-then-byte-ne0 c = c.show_in_force.ensures.0.only.long
 
 pub returns-then-byte-ne0 : goal.returns-then-byte-ne0
 returns-then-byte-ne0 c =
