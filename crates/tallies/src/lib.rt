@@ -1,7 +1,7 @@
 // Sums of bodies, a row of bytes each: what a body asks of the state in which it begins, so that no cycle of it fails, and what it leaves.
 #![tactic(auto)]
 
-ghost use Rattle.std.specs.Prelude.{◌≡◌, true, false, not, ◌||◌, ◌&&◌, eqb, List, ℕ, ◌+◌, ◌*◌, ◌<◌, ◌≤◌, length, IfSome};
+ghost use Rattle.std.specs.Prelude.{◌≡◌, true, false, not, ◌||◌, ◌&&◌, eqb, List, ℕ, ◌+◌, ◌*◌, ◌<◌, ◌≤◌, length, get_or, IfSome};
 ghost use Rattle.std.proofs.Math.Option.{none, some};
 ghost use Rattle.meaning.specs.Bounds.{signals_most, tables_most};
 ghost use Rattle.meaning.specs.Timing.{Tables};
@@ -15,7 +15,7 @@ ghost use Rattle.arguments.specs.Supplied.{Supplied, DataAt};
 ghost use Rattle.sums.specs.Parts.{Nothing, Assigned, Chosen, Shows, Cycled, InPlace, Called, Alone, last_of, behind};
 ghost use Rattle.pins.specs.Shown.{table_of};
 ghost use Rattle.sums.specs.Sums.{before, ok_at, or_table};
-ghost use Rattle.tallies.specs.Rows.{slots, row_size, byte_at, flag_at, shown_of, sum_at, Only, Stored, More, Marked, Inherits, Needed, Tabled, Asked, ShownWhere, FedWhere, Passed, OnSignal, Retabled, is_summed, is_shifted, Grants, Holds, FitsWhere, FedFits, OnPin, Suits, bytes, SeenWord, ShownFed, FitsFed};
+ghost use Rattle.tallies.specs.Rows.{slots, row_size, byte_at, flag_at, flag_in, shown_of, sum_at, Only, Stored, More, Marked, Inherits, Needed, Tabled, Asked, ShownWhere, FedWhere, Passed, OnSignal, Retabled, is_summed, is_shifted, Grants, Holds, FitsWhere, FedFits, OnPin, Suits, bytes, SeenWord, ShownFed, FitsFed};
 
 use measures::MARK;
 use timing::CHARS;
@@ -66,14 +66,13 @@ fn store(sums: &mut [u8], r: usize, p: usize, b: u8)
     sums[r * ROW + p] = b;
 }
 
-// Is any table's slot marked, from a place of the row on? No branch for each, so that they are looked at together.
-fn any_table(sums: &[u8], r: usize, place: usize) -> bool
-    requires { (r * row_size + row_size ≤ length sums.now) × (place + slots ≤ row_size) }
-    ensures { result ≡ false → (k : ℕ) → k < tables_most → byte_at sums.now r (place + k) ≡ 0 }
+// Is any of these slots marked? No branch for each, so that they are looked at together.
+fn any_marked(slots: &[u8]) -> bool
+    ensures { result ≡ false → (k : ℕ) → k < length slots.now → get_or slots.now k 0 ≡ 0 }
 {
     let mut any = false;
-    for k in 0..timing::TABLES {
-        any |= byte(sums, r, place + k) != 0;
+    for &b in slots {
+        any |= b != 0;
     }
     any
 }
@@ -296,7 +295,8 @@ fn show_pin(sums: &mut [u8], to: usize, from: usize, place: usize, waves: &[u8],
     requires { (to * row_size + row_size ≤ length sums.old) × (from * row_size + row_size ≤ length sums.old) × (from ≡ to → ⊥) × (place + slots ≤ row_size) × (length waves.now ≡ tables_most * table_size) × (s < signals_most) }
     ensures { More to sums.old sums.new × ((tabs : Tables) → Marked waves.now tabs → ShownWhere tabs to from place s (shown_of x) sums.old sums.new) }
 {
-    if any_table(sums, from, place) {
+    let first = from * ROW + place;
+    if any_marked(&sums[first..first + timing::TABLES]) {
         show_where(sums, to, from, place, waves, s, x);
         return;
     }
@@ -522,7 +522,7 @@ pub fn assigns(sums: &[u8], r: usize, s: usize) -> bool
     byte(sums, r, PINS + s) != 0
 }
 
-// ---- a body entered from a state
+// ---- a body entered from a state: its row is lent by itself
 
 // Can the character be shown on a signal under the table of a slot? An unassigned signal can under every table; without one nothing can.
 pub fn fits(waves: &[u8], t: usize, s: usize, x: u8) -> bool
@@ -539,75 +539,58 @@ pub fn fits(waves: &[u8], t: usize, s: usize, x: u8) -> bool
 }
 
 // Can it where the byte at a place of the row marks that slot?
-fn fits_slot(sums: &[u8], r: usize, p: usize, waves: &[u8], t: usize, s: usize, x: u8) -> bool
-    requires { (r * row_size + row_size ≤ length sums.now) × (p < row_size) × (length waves.now ≡ tables_most * table_size) × (s < signals_most) }
-    ensures { result ≡ true → (tabs : Tables) → Marked waves.now tabs → flag_at sums.now r p ≡ true → ok_at tabs (table_of t) s x ≡ true }
+fn fits_slot(row: &[u8], p: usize, waves: &[u8], t: usize, s: usize, x: u8) -> bool
+    requires { (length row.now ≡ row_size) × (p < row_size) × (length waves.now ≡ tables_most * table_size) × (s < signals_most) }
+    ensures { result ≡ true → (tabs : Tables) → Marked waves.now tabs → flag_in row.now p ≡ true → ok_at tabs (table_of t) s x ≡ true }
 {
-    if byte(sums, r, p) == 0 {
+    if row[p] == 0 {
         return true;
     }
     fits(waves, t, s, x)
 }
 
 // Can it wherever the row shows what stood on the signal before, or its argument? `place` is where the slots of that stand.
-fn fits_where(
-    sums: &[u8],
-    r: usize,
-    place: usize,
-    waves: &[u8],
-    s: usize,
-    x: u8,
-    table: usize,
-) -> bool
-    requires { (r * row_size + row_size ≤ length sums.now) × (place + slots ≤ row_size) × (length waves.now ≡ tables_most * table_size) × (s < signals_most) }
-    ensures { result ≡ true → (tabs : Tables) → Marked waves.now tabs → FitsWhere tabs r place s x (table_of table) sums.now }
+fn fits_where(row: &[u8], place: usize, waves: &[u8], s: usize, x: u8, table: usize) -> bool
+    requires { (length row.now ≡ row_size) × (place + slots ≤ row_size) × (length waves.now ≡ tables_most * table_size) × (s < signals_most) }
+    ensures { result ≡ true → (tabs : Tables) → Marked waves.now tabs → FitsWhere tabs place s x (table_of table) row.now }
 {
     for t in 0..timing::TABLES {
-        if !fits_slot(sums, r, place + t, waves, t, s, x) {
+        if !fits_slot(row, place + t, waves, t, s, x) {
             return false;
         }
     }
-    fits_slot(sums, r, place + timing::TABLES, waves, table, s, x)
+    fits_slot(row, place + timing::TABLES, waves, table, s, x)
 }
 
 // The same for what stands on a signal: most have no table's slot marked, which one look tells.
-fn fits_pin(
-    sums: &[u8],
-    r: usize,
-    place: usize,
-    waves: &[u8],
-    s: usize,
-    x: u8,
-    table: usize,
-) -> bool
-    requires { (r * row_size + row_size ≤ length sums.now) × (place + slots ≤ row_size) × (length waves.now ≡ tables_most * table_size) × (s < signals_most) }
-    ensures { result ≡ true → (tabs : Tables) → Marked waves.now tabs → FitsWhere tabs r place s x (table_of table) sums.now }
+fn fits_pin(row: &[u8], place: usize, waves: &[u8], s: usize, x: u8, table: usize) -> bool
+    requires { (length row.now ≡ row_size) × (place + slots ≤ row_size) × (length waves.now ≡ tables_most * table_size) × (s < signals_most) }
+    ensures { result ≡ true → (tabs : Tables) → Marked waves.now tabs → FitsWhere tabs place s x (table_of table) row.now }
 {
-    if any_table(sums, r, place) {
-        return fits_where(sums, r, place, waves, s, x, table);
+    if any_marked(&row[place..place + timing::TABLES]) {
+        return fits_where(row, place, waves, s, x, table);
     }
-    fits_slot(sums, r, place + timing::TABLES, waves, table, s, x)
+    fits_slot(row, place + timing::TABLES, waves, table, s, x)
 }
 
 // So each byte of a word of an argument that was not seen yet? Then the last one is the pin, without any `before`.
 fn fits_word(
     word: &[u8],
     seen: &mut [u8],
-    sums: &[u8],
-    r: usize,
+    row: &[u8],
     waves: &[u8],
     s: usize,
     before: u8,
     table: usize,
 ) -> Option<u8>
-    requires { (length seen.old ≡ bytes) × (r * row_size + row_size ≤ length sums.now) × (length waves.now ≡ tables_most * table_size) × (s < signals_most) }
-    ensures { IfSome result (λ pin. (pin ≡ last_of word.now before) × SeenWord word.now seen.old seen.new (FitsFed waves.now r s (table_of table) sums.now)) }
+    requires { (length seen.old ≡ bytes) × (length row.now ≡ row_size) × (length waves.now ≡ tables_most * table_size) × (s < signals_most) }
+    ensures { IfSome result (λ pin. (pin ≡ last_of word.now before) × SeenWord word.now seen.old seen.new (FitsFed waves.now s (table_of table) row.now)) }
 {
     let mut last = before;
     for &c in word {
         last = c;
         if seen[c as usize] == 0 {
-            if !fits_where(sums, r, GIVEN + s * SLOTS, waves, s, c, table) {
+            if !fits_where(row, GIVEN + s * SLOTS, waves, s, c, table) {
                 return None;
             }
             seen[c as usize] = 1;
@@ -619,15 +602,14 @@ fn fits_word(
 // So each character of an argument, word by word? Then the last of them is the pin, 0 for none. Each is looked at once.
 fn fed_fits(
     text: &[u8],
-    sums: &[u8],
-    r: usize,
+    row: &[u8],
     waves: &[u8],
     s: usize,
     place: usize,
     table: usize,
 ) -> Option<u8>
-    requires { (r * row_size + row_size ≤ length sums.now) × (length waves.now ≡ tables_most * table_size) × (s < signals_most) }
-    ensures { IfSome result (λ pin. (cs : List ℕ) → DataAt text.now place cs → (pin ≡ last_of cs 0) × ((tabs : Tables) → Marked waves.now tabs → FedFits tabs r s cs (table_of table) sums.now)) }
+    requires { (length row.now ≡ row_size) × (length waves.now ≡ tables_most * table_size) × (s < signals_most) }
+    ensures { IfSome result (λ pin. (cs : List ℕ) → DataAt text.now place cs → (pin ≡ last_of cs 0) × ((tabs : Tables) → Marked waves.now tabs → FedFits tabs s cs (table_of table) row.now)) }
 {
     let mut seen = [0u8; BYTES];
     let mut at = place;
@@ -638,7 +620,7 @@ fn fed_fits(
             return Some(last);
         }
         let w = words::bytes_of(text, word.at, word.end);
-        last = fits_word(w, &mut seen, sums, r, waves, s, last, table)?;
+        last = fits_word(w, &mut seen, row, waves, s, last, table)?;
         at = word.end;
     }
 }
@@ -646,28 +628,26 @@ fn fed_fits(
 // The same, where the signal has one.
 fn signal_fits(
     text: &[u8],
-    sums: &[u8],
-    r: usize,
+    row: &[u8],
     waves: &[u8],
     s: usize,
     given: &[u8],
     args: &[usize],
     table: usize,
 ) -> Option<u8>
-    requires { (r * row_size + row_size ≤ length sums.now) × (length waves.now ≡ tables_most * table_size) × (s < signals_most) × (length given.now ≡ signals_most) × (length args.now ≡ signals_most * 2) }
-    ensures { IfSome result (λ pin. (xs : Args) → Supplied text.now xs given.now args.now → (pin ≡ last_of (arg_of s xs) 0) × ((tabs : Tables) → Marked waves.now tabs → FedFits tabs r s (arg_of s xs) (table_of table) sums.now)) }
+    requires { (length row.now ≡ row_size) × (length waves.now ≡ tables_most * table_size) × (s < signals_most) × (length given.now ≡ signals_most) × (length args.now ≡ signals_most * 2) }
+    ensures { IfSome result (λ pin. (xs : Args) → Supplied text.now xs given.now args.now → (pin ≡ last_of (arg_of s xs) 0) × ((tabs : Tables) → Marked waves.now tabs → FedFits tabs s (arg_of s xs) (table_of table) row.now)) }
 {
     if given[s] == 0 {
         return Some(0);
     }
-    fed_fits(text, sums, r, waves, s, args[sets::MOST + s], table)
+    fed_fits(text, row, waves, s, args[sets::MOST + s], table)
 }
 
 // A signal with the character x before, if that and its argument can be shown wherever the row shows them: the pin that the row leaves on it.
 fn on_signal(
     text: &[u8],
-    sums: &[u8],
-    r: usize,
+    row: &[u8],
     waves: &[u8],
     s: usize,
     x: u8,
@@ -675,14 +655,14 @@ fn on_signal(
     args: &[usize],
     table: usize,
 ) -> Option<u8>
-    requires { (r * row_size + row_size ≤ length sums.now) × (length waves.now ≡ tables_most * table_size) × (s < signals_most) × (length given.now ≡ signals_most) × (length args.now ≡ signals_most * 2) }
-    ensures { IfSome result (λ pin. (xs : Args) → Supplied text.now xs given.now args.now → OnPin waves.now r s x (arg_of s xs) (table_of table) sums.now pin) }
+    requires { (length row.now ≡ row_size) × (length waves.now ≡ tables_most * table_size) × (s < signals_most) × (length given.now ≡ signals_most) × (length args.now ≡ signals_most * 2) }
+    ensures { IfSome result (λ pin. (xs : Args) → Supplied text.now xs given.now args.now → OnPin waves.now s x (arg_of s xs) (table_of table) row.now pin) }
 {
-    if !fits_pin(sums, r, s * SLOTS, waves, s, x, table) {
+    if !fits_pin(row, s * SLOTS, waves, s, x, table) {
         return None;
     }
-    let last = signal_fits(text, sums, r, waves, s, given, args, table)?;
-    let u = byte(sums, r, PINS + s);
+    let last = signal_fits(text, row, waves, s, given, args, table)?;
+    let u = row[PINS + s];
     if u == 0 {
         return Some(x);
     }
@@ -728,8 +708,9 @@ pub fn asks(
     if !suits(sums, r, table) {
         return false;
     }
+    let row = &sums[r * ROW..r * ROW + ROW];
     for s in 0..signals {
-        let Some(pin) = on_signal(text, sums, r, waves, s, pins[s], given, args, table) else {
+        let Some(pin) = on_signal(text, row, waves, s, pins[s], given, args, table) else {
             return false;
         };
         left[s] = pin;

@@ -2,6 +2,7 @@
 use native.Mathlib.Omega.{arith}
 use mathlib.Core.Path.{sym}
 use mathlib.Core.Bool.{true≢false}
+use Rattle.tallies.proofs.Stored.{lent}
 use Rattle.tallies.proofs.Fitting.{asking_next, asking_all}
 use Rattle.tallies.proofs.asks.Goals as goal
 
@@ -12,4 +13,4 @@ pub loop-s-preserved : goal.loop-s-preserved
 loop-s-preserved c = asking_next c.loop-s.invariant (omega (arith, c.requires.2)) c.in-Some.ensures
 
 pub returns : goal.returns
-returns c = (c.loop-s.invariant.long, λ e. asking_all c.loop-s.invariant _ (omega arith) (c.suits.ensures c.if-not-suits.false))
+returns c = (c.loop-s.invariant.long, λ e. asking_all c.loop-s.invariant c.args.sums.now c.args.r (λ p h. lent _ _ _ p (omega arith)) _ (omega arith) c.requires.2 (c.suits.ensures c.if-not-suits.false))

@@ -7,4 +7,4 @@ use Rattle.tallies.specs.Rows.{SeenWord, FitsFed}
 use Rattle.tallies.proofs.fits_word.Given as goal
 
 abbrev pub invariant-loop-c : goal.invariant-loop-c
-invariant-loop-c l = (l.last ≡ last_of (take l.c-index l.word) l.before) × SeenWord (take l.c-index l.word) l.initial.seen l.seen (FitsFed l.waves l.r l.s (table_of l.table) l.sums)
+invariant-loop-c l = (l.last ≡ last_of (take l.c-index l.word) l.before) × SeenWord (take l.c-index l.word) l.initial.seen l.seen (FitsFed l.waves l.s (table_of l.table) l.row)
