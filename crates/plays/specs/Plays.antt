@@ -30,7 +30,6 @@ use Rattle.plays.specs.declared.Ground.{Ground as Ours}
 use Rattle.plays.specs.declared.Played.{Played}
 use Rattle.plays.specs.declared.Passed.{Passed}
 use Rattle.memos.specs.declared.Use.{Use}
-use Rattle.memos.specs.declared.Found.{Found}
 use Rattle.memos.specs.Tracks.{is_marked, assigned_mark, tracks_length, marks_from, marks_at, Granted, Tracked, Tracking}
 use Rattle.memos.specs.Memo.{before_at, AtLevel, telling, Row, Finds}
 
@@ -140,10 +139,10 @@ pub record Heads (g : Ground) (memo : List ℕ) (E : Env) : Type 0 where
   pub each : (j k : ℕ) (c b : Cursor) (table : ℕ) (m : ℕ → ℕ) (table' : ℕ) (pins : ℕ → ℕ)
       → Row memo g.signals j (telling (use_at k c) b table m table' pins) → Passes g E c b
 
--- the row that is found is for the use u, and holds for these pins
-pub record Recalls (waves memo : List ℕ) (n : ℕ) (u : Use) (table : ℕ) (values : List ℕ) (r : Found) : Type 0 where
-  pub finds : Finds memo u table r
-  pub granted : r.is ≡ true → (tabs : Tables) → Marked waves tabs → (i : ℕ) → i < n → Granted tabs (marks_from memo (r.at + before_at + 1) i) i (get_or values i 0)
+-- the row at this place is for the use u, and holds for these pins
+pub record Recalls (waves memo : List ℕ) (n : ℕ) (u : Use) (table : ℕ) (values : List ℕ) (at : ℕ) : Type 0 where
+  pub finds : Finds memo u table at
+  pub granted : (tabs : Tables) → Marked waves tabs → (i : ℕ) → i < n → Granted tabs (marks_from memo (at + before_at + 1) i) i (get_or values i 0)
 
 -- how deep a body stands in the nest of Loops and uses, in which bodies may stand `more` deep: so deep is tracked what it shows and assigns
 abbrev pub nest_of : ℕ → ℕ

@@ -4,7 +4,7 @@
 // is; it plays its first turn, which is tracked so too, and its second where fewer than two second turns are open and the first would not play as well from what it left.
 #![tactic(auto)]
 
-ghost use Rattle.std.specs.Prelude.{◌≡◌, true, false, List, ℕ, ◌+◌, ◌-◌, ◌*◌, ◌%◌, ◌<◌, ◌≤◌, length, get_or};
+ghost use Rattle.std.specs.Prelude.{◌≡◌, true, false, List, ℕ, ◌+◌, ◌-◌, ◌*◌, ◌%◌, ◌<◌, ◌≤◌, length, get_or, IfSome};
 ghost use Rattle.pins.specs.Shown.{table_of};
 ghost use Rattle.sums.specs.Sums.{ok_at};
 ghost use Rattle.tokens.specs.Tokens.{toks};
@@ -29,7 +29,7 @@ ghost use Rattle.memos.specs.Memo.{memo_row, before_at, AtLevel, Brings};
 
 use heads::Declared;
 use measures::DEPTH;
-use memos::{Found, Use};
+use memos::Use;
 use words::Cursor;
 
 // Second turns that may be open at once: a failing cycle is decided by one pin and the table.
@@ -551,17 +551,22 @@ fn begins_again(
 }
 
 // The row of a statement from this table, if it is remembered and holds for these pins.
-fn recall(memo: &[u16], waves: &[u8], u: Use, table: usize, values: &[u8], signals: usize) -> Found
+fn recall(
+    memo: &[u16],
+    waves: &[u8],
+    u: Use,
+    table: usize,
+    values: &[u8],
+    signals: usize,
+) -> Option<usize>
     requires { (length waves.now ≡ tables_most * table_size) × (signals ≤ signals_most) × (signals ≤ length values.now) }
-    ensures { Recalls waves.now memo.now signals u table values.now result }
+    ensures { IfSome result (λ at. Recalls waves.now memo.now signals u table values.now at) }
 {
-    let f = memos::find(memo, u, table);
-    if !f.is {
-        return f;
+    let at = memos::find(memo, u, table)?;
+    if !pins_granted(memo, at + memos::MARKED, waves, values, signals) {
+        return None;
     }
-    let at = f.at;
-    let is = pins_granted(memo, at + memos::MARKED, waves, values, signals);
-    Found { is, at }
+    Some(at)
 }
 
 // Macro or Call at the cursor c, with another behind it, of the body of number i: it is played, and remembered where no cycle fails; what it shows and
@@ -678,9 +683,8 @@ fn statement<'a>(
     ensures { Stepped (ground_of ground.now) marks.now sums.now memo.old memo.new (stream ground.now.declared.text.now c) frame.depth frame.level table (arrays values.old feeds.old args.old) (arrays values.new feeds.new args.new) frame.seconds frame.turns result }
 {
     let u = use_at(frame.seconds, c);
-    let f = recall(memo, ground.waves, u, table, values, ground.signals);
-    if f.is {
-        return repeated(memo, DEPTH - frame.depth, f.at, values, ground.signals);
+    if let Some(at) = recall(memo, ground.waves, u, table, values, ground.signals) {
+        return repeated(memo, DEPTH - frame.depth, at, values, ground.signals);
     }
     let mut given = [0; sets::MOST];
     let h = heads::head(&ground.declared, c, true, DEPTH, false, &mut given, args);

@@ -408,8 +408,8 @@ play_body-returns t c =
           (rw (kind_procedure _ c.if-i-lt-PROCEDURES.false) at (told.sound e))));
     }
 
-pub statement-recall-f-requires : goal.statement-recall-f-requires
-statement-recall-f-requires t c =
+pub statement-recall-requires : goal.statement-recall-requires
+statement-recall-requires t c =
     let sized = c.requires.1.sized in
     (sized.waves_long, sized.roomy.few, roomy_values sized.roomy.few sized.roomy.values_long refl)
 
@@ -419,21 +419,20 @@ statement-overflow_sub-frame t c = omega (arith, c.requires.1.standing.fits.leve
 pub statement-repeated-requires : goal.statement-repeated-requires
 statement-repeated-requires t c =
     let roomy = c.requires.1.sized.roomy in
-    let f = c.recall-f.ensures.finds in
-    (nest_fits _, roomy.few, roomy_values roomy.few roomy.values_long refl, omega (arith, (f.row c.if-f.true).1), f.room c.if-f.true)
+    let f = c.in-Some.ensures.finds in
+    (nest_fits _, roomy.few, roomy_values roomy.few roomy.values_long refl, omega (arith, f.row.1), f.room)
 
-pub statement-returns-then-f : goal.statement-returns-then-f
-statement-returns-then-f t c =
+pub statement-returns-in-Some : goal.statement-returns-in-Some
+statement-returns-in-Some t c =
     let start = c.requires in
     let depth = c.args.frame.depth in
-    let f = rw c.use_at-u.ensures at c.recall-f.ensures in
-    let taken = c.if-f.true in
+    let f = rw c.use_at-u.ensures at c.in-Some.ensures in
     let v = c.repeated.ensures in
     let q = v.2 in
     let sized = start.1.sized in
     let roomy = sized.roomy in
     let wide = roomy_values roomy.few roomy.values_long refl in
-    let row = recalled_row f.finds taken q in
+    let row = recalled_row f.finds q in
     let on = eq-eqb _ 0 q.pointed.on in
     record {
       kept = kept_passed sized sized.args_long q.restores.long (λ i h. q.restores.rows i (omega (arith, roomy.few)));
@@ -443,7 +442,7 @@ statement-returns-then-f t c =
           let u = reused st on behind in
           let held = reused_holds st on behind in
           let o = m.remembers.each row.0 _ _ _ _ _ _ _ row.1 in
-          let granted = f.granted taken E.tables (_, _, _, st.holding.held) in
+          let granted = f.granted E.tables (_, _, _, st.holding.held) in
           reused_step st on behind c.repeated.result _ _ refl v.1
           (rw v.0 (recalled_told _ _ u.way u.body u.rest us o held st.shows wide granted q.restores.long q.restores.put q.restores.kept))
           (λ e. tracking_joined (λ some room. (recalled_tracked _ _ u.way u.body u.rest us o held st.shows wide granted, v.4 some))));
