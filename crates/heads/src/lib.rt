@@ -182,10 +182,10 @@ fn used<'a>(
     let g = arguments::arguments(text, b, places, lists, names, row, given, args);
     let e = g.cursor;
     let f = arguments::fitted(row, given, args);
-    let cursor = words::refuse_if(e, !f.fits, BAD_ARGUMENT, g.last);
+    let cursor = words::refuse_if(e, f.is_none(), BAD_ARGUMENT, g.last);
     Headed {
         cursor,
-        what: What::Uses(i, f.turns),
+        what: What::Uses(i, f.unwrap_or(0)),
     }
 }
 
