@@ -8,4 +8,6 @@ use Rattle.feeds.proofs.Ahead.{times_read}
 use Rattle.feeds.proofs.times.Goals as goal
 
 pub returns : goal.returns
-returns c = times_read _ c.number.result (c.number.ensures ∙ ap (λ (w : List ℕ). capped (number w)) c.bytes_of.ensures)
+returns c =
+    rw (c.saturating_sub.ensures, c.unwrap_or-n.ensures)
+    (times_read _ c.number.result (c.number.ensures ∙ ap (λ (w : List ℕ). capped (number w)) c.bytes_of.ensures))
