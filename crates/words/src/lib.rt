@@ -84,13 +84,13 @@ pub fn cursor_at(text: &[u8], at: usize) -> Cursor
     ensures { Stands text.now at result }
 {
     match tokens::first_from(text, at) {
-        tokens::Step::Token(p, l) => Cursor {
+        Ok(Some(token)) => Cursor {
             no: 0,
             fault: 0,
-            at: p,
-            end: p + l,
+            at: token.at,
+            end: token.at + token.length,
         },
-        tokens::Step::Nothing => {
+        Ok(None) => {
             let e = if at < text.len() { text.len() } else { at };
             Cursor {
                 no: 0,
@@ -99,10 +99,10 @@ pub fn cursor_at(text: &[u8], at: usize) -> Cursor
                 end: 0,
             }
         }
-        tokens::Step::Refused(n, p) => Cursor {
+        Err(fault) => Cursor {
             no: 0,
-            fault: n,
-            at: p,
+            fault: fault.no,
+            at: fault.place,
             end: 0,
         },
     }
