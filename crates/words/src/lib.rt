@@ -537,14 +537,14 @@ fn longer_up_to(n: u64, digit: u64, most: u64) -> Option<u64>
 }
 
 // The number that decimal digits stand for, if it is at most `most`.
-pub fn number_up_to(w: &[u8], most: u64) -> Option<u64>
-    ensures { value_of result ≡ up_to most (number_of w.now) }
+pub fn number_up_to(word: &[u8], most: u64) -> Option<u64>
+    ensures { value_of result ≡ up_to most (number_of word.now) }
 {
-    if w.is_empty() {
+    if word.is_empty() {
         return None;
     }
     let mut n = 0;
-    for b in w {
+    for b in word {
         if !is_digit(*b) {
             return None;
         }
