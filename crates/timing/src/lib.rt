@@ -314,13 +314,6 @@ pub struct Watch {
     pub char: u8,
 }
 
-// Is it found, and at which place: where the CHARS of the entry that gives it stand.
-#[derive(Clone, Copy)]
-struct Sight {
-    found: bool,
-    place: usize,
-}
-
 // Is the signal s one of these?
 fn lists_signal(sigs: &[u16], s: usize) -> bool
     ensures { result ≡ has s sigs.now }
@@ -328,29 +321,31 @@ fn lists_signal(sigs: &[u16], s: usize) -> bool
     sigs.iter().any(|x| *x as usize == s)
 }
 
-// The entry at a place has these characters, for these signals. The first that gives the waveform stays.
-fn look(watch: Watch, sight: Sight, sigs: &[u16], w: &[u8], place: usize) -> Sight
+// Where the waveform is: the place of the CHARS of the entry that gives it. The entry at a place has these characters, for these signals; the first that gives
+// the waveform stays.
+fn look(
+    watch: Watch,
+    sight: Option<usize>,
+    sigs: &[u16],
+    w: &[u8],
+    place: usize,
+) -> Option<usize>
     ensures { result ≡ looked watch sight sigs.now w.now place }
 {
-    if sight.found {
+    if sight.is_some() {
         return sight;
     }
-    let found = words::holds(w, watch.char) & lists_signal(sigs, watch.signal);
-    Sight { found, place }
-}
-
-// Of two sights, the one that counts.
-fn either(test: bool, yes: Sight, no: Sight) -> Sight
-    ensures { result ≡ cond test yes no }
-{
-    if test { yes } else { no }
+    if words::holds(w, watch.char) & lists_signal(sigs, watch.signal) {
+        return Some(place);
+    }
+    None
 }
 
 // Where reading stands, and what was seen up to there.
 #[derive(Clone, Copy)]
 struct Seen {
     cursor: words::Cursor,
-    sight: Sight,
+    sight: Option<usize>,
 }
 
 // ---- entries
@@ -484,7 +479,7 @@ fn head(text: &[u8], c: words::Cursor) -> words::Numbered
     words::Numbered { cursor, n: t.n }
 }
 
-// A table behind the first k. Where another one is watched, nothing is looked for in it.
+// A table behind the first k.
 fn table<'a>(
     text: &'a [u8],
     x: Seen,
@@ -498,7 +493,7 @@ fn table<'a>(
 ) -> Seen
     requires tplaces_len { (length tplaces.old ≡ tables_most * 2) × (length waves.old ≡ tables_most * table_size) × (Sized places.now lists.now × Chained text.now places.now names) × AllBelow (names_of text.now places.now lists.now names) }
     requires held { (tabs : TablesOf) × Held text.now tplaces.old waves.old k tabs }
-    ensures { (tabs : TablesOf) → Kept text.now tplaces.old waves.old k watch x.sight.found x.sight.place tabs → Makes text.now x.cursor (table_of (names_of text.now places.now lists.now names) tabs) result.cursor (Kept text.now tplaces.new waves.new (k + 1) watch result.sight.found result.sight.place) }
+    ensures { (tabs : TablesOf) → Kept text.now tplaces.old waves.old k watch x.sight tabs → Makes text.now x.cursor (table_of (names_of text.now places.now lists.now names) tabs) result.cursor (Kept text.now tplaces.new waves.new (k + 1) watch result.sight) }
 {
     let c = x.cursor;
     let sight = x.sight;
@@ -515,8 +510,8 @@ fn table<'a>(
     let first = k * TABLE;
     let end = first + TABLE;
     let here = k == watch.table;
-    let found = !here;
-    let unseen = Sight { found, place: 0 };
+    // Where another table is watched nothing is looked for in this one: a sight stays.
+    let unseen = if here { None } else { Some(0) };
     let y = Seen {
         cursor: e,
         sight: unseen,
@@ -524,17 +519,16 @@ fn table<'a>(
     let marks = &mut waves[first..end];
     let z = block(text, y, places, lists, names, marks, watch);
     let cursor = words::due(text, z.cursor, b"}");
-    let sight = either(here, z.sight, sight);
+    let sight = if here { z.sight } else { sight };
     Seen { cursor, sight }
 }
 
-// How many tables were read, is the watched waveform found and at which place its entry stands, and the cursor behind them.
+// How many tables were read, at which place the entry of the watched waveform stands, and the cursor behind them.
 #[derive(Clone, Copy)]
 pub struct Tables {
     pub cursor: words::Cursor,
     pub count: usize,
-    pub found: bool,
-    pub place: usize,
+    pub sight: Option<usize>,
 }
 
 // Timing: at least one table. The names of the tables go to `tplaces`, and a mark for each signal and character with a waveform to `waves`.
@@ -551,25 +545,20 @@ pub fn timing<'a>(
     requires tplaces_len { (length tplaces.old ≡ tables_most * 2) × (length waves.old ≡ tables_most * table_size) × Sized places.now lists.now }
     requires by_index { (i : ℕ) → get_or waves.old i 0 ≡ 0 }
     requires all_below { alive c ≡ true → AllBelow (names_of text.now places.now lists.now names) × Chained text.now places.now names }
-    ensures { Makes text.now c (timing_of (names_of text.now places.now lists.now names)) result.cursor (Kept text.now tplaces.new waves.new result.count watch result.found result.place) }
+    ensures { Makes text.now c (timing_of (names_of text.now places.now lists.now names)) result.cursor (Kept text.now tplaces.new waves.new result.count watch result.sight) }
 {
     if c.no != 0 {
         return Tables {
             cursor: c,
             count: 0,
-            found: false,
-            place: 0,
+            sight: None,
         };
     }
     let a = words::due(text, c, b"Timing");
     let b = words::due(text, a, b"{");
-    let unseen = Sight {
-        found: false,
-        place: 0,
-    };
     let y = Seen {
         cursor: b,
-        sight: unseen,
+        sight: None,
     };
     let mut x = table(text, y, places, lists, names, tplaces, 0, waves, watch);
     let mut count = 1;
@@ -582,7 +571,6 @@ pub fn timing<'a>(
     Tables {
         cursor,
         count,
-        found: sight.found,
-        place: sight.place,
+        sight,
     }
 }
