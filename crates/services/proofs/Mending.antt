@@ -9,6 +9,8 @@ use lib.Dec.{eqb, ltb}
 use lib.ListN.{length, take, drop, length-take, drop_of_length-le}
 use lib.Seq.{take_at}
 use borrow.Author.Tests.{eqb-true, eqb-false, ltb-true, ltb-false, not-true, not-false}
+use Rattle.std.specs.Prelude.{Ok, Err}
+use Rattle.tokens.specs.declared.Refusal.{Refusal}
 use Rattle.tokens.specs.Refusals.{text_most, too_long}
 use Rattle.tokens.proofs.Bools.{neither}
 use Rattle.meaning.specs.Refusals.{no_room}
@@ -30,7 +32,6 @@ use Rattle.verdicts.specs.Buffers.{afterwards, spared}
 use Rattle.services.specs.Saves.{SomeCopy, Saves}
 use Rattle.verdicts.specs.declared.Wanted.{Wanted}
 use Rattle.verdicts.specs.declared.Judged.{Judged}
-use Rattle.services.specs.declared.Saved.TheVariants.{Spans, Refused}
 use Rattle.verdicts.proofs.Sparing.{spared_all}
 
 -- ---- a turn
@@ -97,11 +98,11 @@ handed_back {text} {text'} {spans} {spans'} {copy} {log} {bytes} {count} h k b p
 -- ---- as the service answers it
 
 module _ {a : Answer Restored} {text spans : List ℕ} where
-  saves_refused : {n p : ℕ} → a ≡ refused n p → Saves a text text spans spans (Refused n p)
+  saves_refused : {x : Refusal} → a ≡ refused x.no x.place → Saves a text text spans spans (Err x)
   unfolding afterwards
   saves_refused e = rw e (record { answers = refl; text_is = refl; spans_are = refl })
 
-  saves_given : {n : ℕ} {text' spans' : List ℕ} → a ≡ given (record { count = n; text = text'; spans = spans' }) → Saves a text text' spans spans' (Spans n)
+  saves_given : {n : ℕ} {text' spans' : List ℕ} → a ≡ given (record { count = n; text = text'; spans = spans' }) → Saves a text text' spans spans' (Ok n)
   unfolding afterwards
   saves_given e = rw e (record { answers = refl; text_is = refl; spans_are = refl })
 
@@ -115,11 +116,11 @@ unfolding answering
 spared_given e = rw e
 
 module _ (text spans : List ℕ) (spare : Bool) where
-  pub save_too_long : text_most < length text → Saves (spared spare (save text spans)) text text spans spans (Refused too_long 0)
+  pub save_too_long : text_most < length text → Saves (spared spare (save text spans)) text text spans spans (Err (record { no = too_long; place = 0 }))
   save_too_long h = saves_refused (spared_refused spare (save_refused text spans (too_long_saving text h)))
 
   module _ (copy : List ℕ) {log log' : List ℕ} {m : Mended} (h : Mends text (take (length text) copy) log log' m) where
-    pub save_beyond : (m.no ≡ 0 → ⊥) → Saves (spared spare (save text spans)) text text spans spans (Refused m.no m.place)
+    pub save_beyond : (m.no ≡ 0 → ⊥) → Saves (spared spare (save text spans)) text text spans spans (Err (record { no = m.no; place = m.place }))
     save_beyond z = saves_refused (spared_refused spare (save_refused text spans (mends_refused h z)))
 
     module _ (on : m.no ≡ 0) where
@@ -129,7 +130,7 @@ module _ (text spans : List ℕ) (spare : Bool) where
       saves_it : saving text ≡ given it
       saves_it = mends_saved h on
 
-      pub save_roomless : (not spare || ltb (length spans / 2) m.count) ≡ true → Saves (spared spare (save text spans)) text text spans spans (Refused no_room 0)
+      pub save_roomless : (not spare || ltb (length spans / 2) m.count) ≡ true → Saves (spared spare (save text spans)) text text spans spans (Err (record { no = no_room; place = 0 }))
       save_roomless e = saves_refused (by spare (ltb (length spans / 2) m.count) refl e)
         where
           by : (s : Bool) (l : Bool) → ltb (length spans / 2) m.count ≡ l → (not s || l) ≡ true → spared s (save text spans) ≡ refused no_room 0
@@ -145,7 +146,7 @@ module _ (text spans : List ℕ) (spare : Bool) where
         some_copy s = record { saved = it; saves = saves_it; short = s; copied = refl; blank = log; logged = h.noted; counted = h.counted; roomy = enough }
 
         pub save_told : {text' spans' : List ℕ} → ((x : SavedText) → saving text ≡ given x → (text' ≡ x.text) × (spans' ≡ noted_all x.spans spans))
-            → Saves (spared spare (save text spans)) text text' spans spans' (Spans m.count)
+            → Saves (spared spare (save text spans)) text text' spans spans' (Ok m.count)
         save_told {text'} {spans'} f =
             let w = f it saves_it in
             saves_given (ap (λ (b : Bool). spared b (save text spans)) (not-false spare (neither (not spare) (ltb (length spans / 2) m.count) e).0) ∙ spared_all (save text spans)
