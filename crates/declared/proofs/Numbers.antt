@@ -1,11 +1,10 @@
 -- What is told of the declarations, from what reading them promises: a refusal as it is, or where the next token stands and how many there are.
 use Prim.Native.Nat.{ℕ, ◌+◌, ◌*◌, ◌≤◌, ◌<◌}
-use native.Mathlib.Omega.{arith}
 use mathlib.Core.Path.{◌≡◌, refl, sym, ap, ◌∙◌}
 use mathlib.Core.Bool.{Bool, true, false}
 use mathlib.Core.Option.{none, some}
-use mathlib.Core.List.{List, [], ◌∷◌}
-use lib.ListN.{length, get_or, replicate, set, drop}
+use mathlib.Core.List.{List, ◌++◌}
+use lib.ListN.{length, get_or, replicate, drop}
 use lib.Dec.{ltb}
 use borrow.Author.Tests.{eq-eqb, ne_eqb, le-leb, lt-leb}
 use Rattle.std.proofs.Common.{Option as Maybe, Result, Ok, Err}

@@ -253,17 +253,16 @@ module _ {n t : ℕ} {es : List ℕ} {s : Events} {i : ℕ} {least : List ℕ} (
 -- all characters have it
 pub upto_all : {n t count count' : ℕ} {es : List ℕ} {s : Events} {i : ℕ} {least least' : List ℕ} → Timed n count least s → length es ≡ n
     → Upto n t es s i least' → i ≡ n → count' ≡ min entry_most (count + 1) → Adding n t es s (Some (record { count = count'; least = least' }))
-upto_all {n} {t} {count} {count'} {es} {s} {i} {least} {least'} a l u q m =
-    (
-      added (length s.0) t es s.0,
-      add_some t es s.0 (omega (arith, a.chars)) (λ j g. u.rose j (omega (arith, a.chars))),
-      record {
-        sized = u.sized;
-        chars = added_length (length s.0) t es s.0 ∙ a.chars;
-        events = omega (arith, a.events);
-        each = rw a.chars (subst (λ (x : ℕ). (j f w : ℕ) → j < n → is_event f ≡ true → rises w f (get_or (added x t es s.0) j []) ≡ leb (get_or least' (slot f j) 0) w) q u.each);
-      },
-    )
+upto_all {n} {t} {count} {count'} {es} {s} {i} {least} {least'} a l u q m = (
+  added (length s.0) t es s.0,
+  add_some t es s.0 (omega (arith, a.chars)) (λ j g. u.rose j (omega (arith, a.chars))),
+  record {
+    sized = u.sized;
+    chars = added_length (length s.0) t es s.0 ∙ a.chars;
+    events = omega (arith, a.events);
+    each = rw a.chars (subst (λ (x : ℕ). (j f w : ℕ) → j < n → is_event f ≡ true → rises w f (get_or (added x t es s.0) j []) ≡ leb (get_or least' (slot f j) 0) w) q u.each);
+  },
+)
 
 -- ---- a turn of the code's loop
 

@@ -243,9 +243,7 @@ fn events(text: &[u8], c: words::Cursor, n: usize) -> words::Cursor
 fn repeats(w: &[u8]) -> bool
     ensures { result ≡ repeats_of w.now }
 {
-    w.iter()
-        .enumerate()
-        .any(|(i, b)| w[i + 1..].contains(b))
+    w.iter().enumerate().any(|(i, b)| w[i + 1..].contains(b))
 }
 
 // ---- marks
@@ -323,13 +321,7 @@ fn lists_signal(sigs: &[u16], s: usize) -> bool
 
 // Where the waveform is: the place of the CHARS of the entry that gives it. The entry at a place has these characters, for these signals; the first that gives
 // the waveform stays.
-fn look(
-    watch: Watch,
-    sight: Option<usize>,
-    sigs: &[u16],
-    w: &[u8],
-    place: usize,
-) -> Option<usize>
+fn look(watch: Watch, sight: Option<usize>, sigs: &[u16], w: &[u8], place: usize) -> Option<usize>
     ensures { result ≡ looked watch sight sigs.now w.now place }
 {
     if sight.is_some() {

@@ -1,5 +1,5 @@
 -- `read_all` meets its contract: arrays of zeros are blank, and what reading them full promises is told.
-use mathlib.Core.Path.{refl, ◌∙◌}
+use mathlib.Core.Path.{refl}
 use Rattle.declared.proofs.Numbers.{blank_chains, blank_waves, told_refused, told_read}
 use Rattle.declared.proofs.read_all.Goals as goal
 

@@ -10,4 +10,3 @@ use Rattle.timing.proofs.add.Given as goal
 
 abbrev pub invariant-loop-i : goal.invariant-loop-i
 invariant-loop-i l = (s : Events) (es : List ℕ) → Timed l.n l.times.count l.times.least s → Lettered l.a.n l.a.l es → (not (eqb l.a.n 1) && not (eqb l.a.n l.n)) ≡ false → all_events es ≡ true → Upto l.n l.t (spread l.n es) s l.i l.least
-

@@ -6,4 +6,3 @@ use Rattle.timing.proofs.mark_chars.Given as goal
 
 abbrev pub invariant-loop-b : goal.invariant-loop-b
 invariant-loop-b l = Marked l.initial.table (l.s ∷ []) (take l.b-index l.w) l.table
-
