@@ -40,7 +40,7 @@ const TOO_LARGE: u8 = 16;
 
 const NO_ROOM: usize = words::NO_ROOM as usize;
 
-// The blocks of a text: the cursor behind them, how many there are of what they declare, and where the watched waveform is found.
+// The blocks of a text: the cursor behind them, how many there are of what they declare, and where the watched waveform is.
 #[derive(Clone, Copy)]
 pub struct Parts {
     pub cursor: Cursor,
@@ -48,8 +48,7 @@ pub struct Parts {
     pub known: Known,
     pub listed: usize,
     pub patterns: usize,
-    pub found: bool,
-    pub place: usize,
+    pub sight: Option<usize>,
 }
 
 // How many patterns were read, and the cursor behind them.
@@ -199,8 +198,7 @@ fn stopped(cursor: Cursor, known: Known) -> Parts
         known,
         listed: 0,
         patterns: 0,
-        found: false,
-        place: 0,
+        sight: None,
     }
 }
 
@@ -250,8 +248,7 @@ pub fn document(
         known: inside,
         listed: e.listed,
         patterns: e.patterns,
-        found: d.found,
-        place: d.place,
+        sight: d.sight,
     }
 }
 
