@@ -16,6 +16,7 @@ ghost use Rattle.saving.specs.Mends.{Turns, Mends};
 ghost use Rattle.verdicts.specs.Judged.{which_of};
 ghost use Rattle.verdicts.specs.Found.{SomeFound};
 ghost use Rattle.verdicts.specs.Buffers.{spared};
+ghost use Rattle.services.specs.declared.Undrawn.TheVariants.{Refused};
 ghost use Rattle.services.specs.Answers.{checked_of, located_of};
 ghost use Rattle.services.specs.Waveforms.{Outlines, Shapes};
 ghost use Rattle.services.specs.Charts.{Plots};
