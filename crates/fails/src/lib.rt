@@ -432,8 +432,8 @@ fn refer<'a>(
     let names = &book[measures::PATTERNS * 2..];
     let i = words::find(text, name, names, patterns);
     let start = measures::start_at(book, measures::PATTERNS + i);
-    let all = labels::gather(text, start, b"", labels, chains, nexts);
-    let count = all.count;
+    // No label of a text that was accepted is used twice.
+    let count = labels::gather(text, start, b"", labels, chains, nexts).unwrap_or(0);
     let c = words::cursor_at(text, start);
     let mut args = [0usize; measures::ROW];
     references::fill(

@@ -14,7 +14,7 @@ declarations-d-requires c = record {
 
 pub returns-then-behind-ne0 : goal.returns-then-behind-ne0
 returns-then-behind-ne0 c =
-    c.refused.ensures ∙ told_refused c.cursor_at-c.ensures c.declarations-d.ensures c.if-behind-ne0.true
+    told_refused c.cursor_at-c.ensures c.declarations-d.ensures c.if-behind-ne0.true
 
 pub returns : goal.returns
 returns c =
