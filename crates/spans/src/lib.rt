@@ -166,10 +166,8 @@ fn read(text: &[u8], place: usize, char: u8) -> Both
     let mut letters = [0u8; waves::EVENTS];
     let n = waves::read(text, place, char, &mut times, &mut letters);
     let mut x = nothing();
-    let mut i = 0;
-    while i < n {
+    for i in 0..n {
         x = event(x, times[i], letters[i]);
-        i += 1;
     }
     x
 }
@@ -285,10 +283,8 @@ fn table_times(text: &[u8], spots: &[usize], j: usize, firsts: &mut [u32], lasts
     ensures { (ws : List Wave) → Spots text.now spots.now ws → Fit ws → Clear j firsts.old → Clear j lasts.old → Upto first_time j ws table_wide firsts.old firsts.new × Upto last_time j ws table_wide lasts.old lasts.new }
 {
     let mut owners = [0usize; OWNERS];
-    let mut i = 0;
-    while i < TABLE {
+    for i in 0..TABLE {
         put_slot(text, spots, j, i, firsts, lasts, &mut owners);
-        i += 1;
     }
 }
 

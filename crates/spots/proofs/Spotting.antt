@@ -6,8 +6,8 @@ use mathlib.Core.Bool.{Bool, true, false, cond, not, ◌&&◌, ◌||◌}
 use mathlib.Core.Option.{Option, some}
 use mathlib.Core.List.{List, [], ◌∷◌, ◌++◌}
 use lib.Dec.{eqb, leb}
-use lib.ListN.{length, get_or, replicate, take, set, length-take}
-use lib.Seq.{get_or-set_same, get_or-set_other, get_or-take, take_all}
+use lib.ListN.{length, get_or, replicate, take, set}
+use lib.Seq.{get_or-set_same, get_or-set_other, take_all}
 use borrow.Author.Tests.{eqb-true, eqb-false, ne_eqb, leb-true, leb-false}
 use Rattle.tokens.specs.Tokens.{Toks, toks}
 use Rattle.meaning.specs.Bounds.{entry_most, signals_most}
@@ -101,13 +101,15 @@ take_fewer n l h = by (leb n signals_most) refl
         let q : min n signals_most ≡ signals_most = omega (arith, leb-false n signals_most e) in
         rw q (take_all signals_most l (omega arith) ∙ sym (take_all n l (omega (arith, leb-false n signals_most e))))
 
-pub stored_all : {t₀ t w : List ℕ} {v i : ℕ} (n : ℕ) (l : List ℕ) → length l ≡ signals_most → i ≡ min n signals_most → Stored t₀ (take i l) w v t → Stored t₀ (take n l) w v t
-stored_all n l h e a = rw (ap (λ (k : ℕ). take k l) e ∙ take_fewer n l h) at a
+pub set_front : {most : ℕ} (n : ℕ) (l : List ℕ) → length l ≡ signals_most → most ≡ min n signals_most → take most l ≡ take n l
+set_front n l h e = ap (λ (k : ℕ). take k l) e ∙ take_fewer n l h
+
+pub stored_set : {t₀ t w : List ℕ} {v i : ℕ} (sigs : List ℕ) {l : List ℕ} → l ≡ sigs → length l ≤ i → Stored t₀ (take i l) w v t → Stored t₀ sigs w v t
+stored_set {i = i} sigs {l} e h a = rw (take_all i l h ∙ e) at a
 
 -- a signal of a row lies below the bound
-pub below_at : (n i : ℕ) (l : List ℕ) → length l ≡ signals_most → Below (take n l) → i < min n signals_most → get_or l i 0 < signals_most
-below_at n i l h b k =
-    rw (get_or-take n l i 0 (omega arith)) at (b i (omega (arith, length-take n l)))
+pub below_at : (sigs : List ℕ) {l : List ℕ} → l ≡ sigs → Below sigs → (i : ℕ) → i < length l → get_or l i 0 < signals_most
+below_at sigs e b i h = rw e (b i (rw e at h))
 
 -- ---- an entry more
 
