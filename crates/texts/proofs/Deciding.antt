@@ -50,7 +50,7 @@ module _ {text places lists tplaces waves book rows list : List ℕ} {w : Watch}
   Held =
       (d : Read)
       × (length text ≤ text_most → ReadAs text book list r d)
-      × (length text ≤ text_most → r.cursor.no ≡ 0 → Tabled text places lists tplaces waves book rows list r d × Watched text w r.found r.place (table_at d.tables w.table))
+      × (length text ≤ text_most → r.cursor.no ≡ 0 → Tabled text places lists tplaces waves book rows list r d × Watched text w r.sight (table_at d.tables w.table))
 
   nothing : Read
   nothing = record { signals = []; tables = []; listed = []; patterns = [] }

@@ -47,7 +47,7 @@ whole_from {text} {c} s g = g.same ∙ from_on text c blocks (eq-eqb c.no 0 s.on
 pub reads_from : {text places lists tplaces waves book rows list : List ℕ} {w : Watch} {c : Cursor} {r : Parts} {d : Read} → Stands text 0 c
     → Goes text c blocks r.cursor d
     → (alive r.cursor ≡ true → Tabled text places lists tplaces waves book rows list r d
-    × Watched text w r.found r.place (table_at d.tables w.table))
+    × Watched text w r.sight (table_at d.tables w.table))
     → Reads text w places lists tplaces waves book rows list r
 unfolding give
 reads_from {text} {r = r} {d = d} s g h =

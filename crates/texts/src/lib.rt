@@ -48,8 +48,7 @@ pub struct Parts {
     pub known: Known,
     pub listed: usize,
     pub patterns: usize,
-    pub found: bool,
-    pub place: usize,
+    pub sight: Option<usize>,
 }
 
 // How many patterns were read, and the cursor behind them.
@@ -199,8 +198,7 @@ fn stopped(cursor: Cursor, known: Known) -> Parts
         known,
         listed: 0,
         patterns: 0,
-        found: false,
-        place: 0,
+        sight: None,
     }
 }
 
@@ -250,8 +248,7 @@ pub fn document(
         known: inside,
         listed: e.listed,
         patterns: e.patterns,
-        found: d.found,
-        place: d.place,
+        sight: d.sight,
     }
 }
 
