@@ -74,49 +74,49 @@ unfolding holds taken answering
 holds_refused bytes cycle e = sym (rw (e, taken, holds))
 
 module _ {text page : List ℕ} {cycle : ℕ} {r : Rebuilt} (h : Rebuilds text cycle (Ok r) page) where
-    abbrev it : Meaning
-    it = h.0
+  abbrev it : Meaning
+  it = h.0
 
-    abbrev stands : Stands text cycle r page it
-    stands = h.2
+  abbrev stands : Stands text cycle r page it
+  stands = h.2
 
-    module _ (spare : Bool) (buffer : List ℕ) {y : Bool} (e : (not spare || ltb (length buffer) r.length) ≡ y) where
-      enough : (spare && leb (length (written (index_of text it))) (length buffer)) ≡ not y
-      enough = ap (λ (n : ℕ). spare && leb n (length buffer)) (sym stands.length_is) ∙ room spare r.length (length buffer) ∙ ap not e
+  module _ (spare : Bool) (buffer : List ℕ) {y : Bool} (e : (not spare || ltb (length buffer) r.length) ≡ y) where
+    enough : (spare && leb (length (written (index_of text it))) (length buffer)) ≡ not y
+    enough = ap (λ (n : ℕ). spare && leb n (length buffer)) (sym stands.length_is) ∙ room spare r.length (length buffer) ∙ ap not e
 
-      answered : spared spare (index text buffer) ≡ elim (not y) [
-        | false ↦ refused no_room 0
-        | true ↦ given (record { size = length (written (index_of text it)); buffer = written (index_of text it) ++ drop (length (written (index_of text it))) buffer })
-      ]
-      unfolding index answering rebuilt_in
-      answered =
-          ap (λ (x : Answer Meaning). spared spare (answering x (λ m. rebuilt_in (written (index_of text m)) buffer))) h.1
-          ∙ spared_room spare (leb (length (written (index_of text it))) (length buffer)) _
-          ∙ rw enough
+    answered : spared spare (index text buffer) ≡ elim (not y) [
+      | false ↦ refused no_room 0
+      | true ↦ given (record { size = length (written (index_of text it)); buffer = written (index_of text it) ++ drop (length (written (index_of text it))) buffer })
+    ]
+    unfolding index answering rebuilt_in
+    answered =
+        ap (λ (x : Answer Meaning). spared spare (answering x (λ m. rebuilt_in (written (index_of text m)) buffer))) h.1
+        ∙ spared_room spare (leb (length (written (index_of text it))) (length buffer)) _
+        ∙ rw enough
 
-      pub index_full : y ≡ true → Indexes (spared spare (index text buffer)) buffer buffer (Err (record { no = no_room; place = 0 }))
-      index_full z = indexes_refused (rw z at answered)
+    pub index_full : y ≡ true → Indexes (spared spare (index text buffer)) buffer buffer (Err (record { no = no_room; place = 0 }))
+    index_full z = indexes_refused (rw z at answered)
 
-      pub index_given : {bytes after : List ℕ} {s : ℕ} → y ≡ false → bytes ≡ take r.length page → Puts buffer 0 bytes s after → Indexes (spared spare (index text buffer)) buffer after (Ok r.length)
-      index_given {bytes} {after} z b p =
-          let xs = written (index_of text it) in
-          let q : bytes ≡ xs = b ∙ stands.front_is in
-          let is : after ≡ xs ++ drop (length xs) buffer = p.page ∙ (rw (q, zero-add (length xs))) in
-          indexes_given ((rw z at answered) ∙ rw (← is, ← stands.length_is))
+    pub index_given : {bytes after : List ℕ} {s : ℕ} → y ≡ false → bytes ≡ take r.length page → Puts buffer 0 bytes s after → Indexes (spared spare (index text buffer)) buffer after (Ok r.length)
+    index_given {bytes} {after} z b p =
+        let xs = written (index_of text it) in
+        let q : bytes ≡ xs = b ∙ stands.front_is in
+        let is : after ≡ xs ++ drop (length xs) buffer = p.page ∙ (rw (q, zero-add (length xs))) in
+        indexes_given ((rw z at answered) ∙ rw (← is, ← stands.length_is))
 
-    -- ---- and of bytes that are lent as an index
+  -- ---- and of bytes that are lent as an index
 
-    module _ (bytes : List ℕ) {page-front : List ℕ} (front : page-front ≡ take r.length page) {y : Bool} (e : y ≡ same page-front bytes) where
-      tested : same (written (index_of text it)) bytes ≡ y
-      tested = sym (e ∙ ap (λ (l : List ℕ). same l bytes) (front ∙ stands.front_is))
+  module _ (bytes : List ℕ) {page-front : List ℕ} (front : page-front ≡ take r.length page) {y : Bool} (e : y ≡ same page-front bytes) where
+    tested : same (written (index_of text it)) bytes ≡ y
+    tested = sym (e ∙ ap (λ (l : List ℕ). same l bytes) (front ∙ stands.front_is))
 
-      pub holds_other : not y ≡ true → refused not_the_index 0 ≡ holds text bytes cycle
-      unfolding holds taken taken_as answering
-      holds_other z = sym (rw (h.1, taken, holds) (rw (tested ∙ not-true y z, taken_as)))
+    pub holds_other : not y ≡ true → refused not_the_index 0 ≡ holds text bytes cycle
+    unfolding holds taken taken_as answering
+    holds_other z = sym (rw (h.1, taken, holds) (rw (tested ∙ not-true y z, taken_as)))
 
-      pub holds_told : not y ≡ false → given (held_of r.holder) ≡ holds text bytes cycle
-      unfolding holds taken taken_as answering
-      holds_told z = sym (rw (h.1, taken, holds) (rw (tested ∙ not-false y z, taken_as) (ap given (sym stands.holder_is))))
+    pub holds_told : not y ≡ false → given (held_of r.holder) ≡ holds text bytes cycle
+    unfolding holds taken taken_as answering
+    holds_told z = sym (rw (h.1, taken, holds) (rw (tested ∙ not-false y z, taken_as) (ap given (sym stands.holder_is))))
 
 -- ---- belonging
 

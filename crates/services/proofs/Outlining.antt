@@ -2,8 +2,7 @@
 use Prim.Native.Nat.{ℕ}
 use native.Mathlib.Omega.{arith}
 use mathlib.Core.Path.{◌≡◌, refl, sym, ◌∙◌}
-use Rattle.std.specs.Prelude.{Ok, Err}
-use mathlib.Core.Bool.{true, false}
+use Rattle.std.specs.Prelude.{Some, None, Ok, Err}
 use mathlib.Core.Option.{Option, none, some}
 use mathlib.Core.List.{List}
 use lib.ListN.{length}
@@ -49,18 +48,18 @@ module _ {text : List ℕ} {w : Wanted} {r : Judged} (j : Judges text w (Ok r)) 
   unfolding events_of
   seen e = answer_given j _ ∙ rw e
 
-  pub outline_none : r.found ≡ false → events_of text w.watch.table w.watch.signal w.watch.char ≡ refused no_such 0
+  pub outline_none : r.sight ≡ None → events_of text w.watch.table w.watch.signal w.watch.char ≡ refused no_such 0
   outline_none e = seen (j.2.watched.no e)
 
-  module _ (e : r.found ≡ true) where
-    abbrev pub entry : (es : List Event) × EntryAt text r.entry w.watch.char es
-    entry = let f = j.2.watched.yes e in (_, entry_found f f.wave)
+  module _ {at : ℕ} (e : r.sight ≡ Some at) where
+    abbrev pub entry : (es : List Event) × EntryAt text at w.watch.char es
+    entry = let f = j.2.watched.yes at e in (_, entry_found f f.wave)
 
     pub outline_read : {n : ℕ} {ts ts' ls ls' : List ℕ} → length ts ≡ entry_most → length ls ≡ entry_most → Reads entry.0 n ts ts' ls ls'
         → Outlines text w.watch.table w.watch.signal w.watch.char ts' ls' (Ok n)
     outline_read p q d = (
       entry.0,
-      seen (j.2.watched.yes e).wave,
+      seen (j.2.watched.yes at e).wave,
       record {
         count_is = d.count;
         few = omega (arith, d.count, d.few);

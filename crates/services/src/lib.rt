@@ -16,6 +16,7 @@ ghost use Rattle.saving.specs.Mends.{Turns, Mends};
 ghost use Rattle.verdicts.specs.Judged.{which_of};
 ghost use Rattle.verdicts.specs.Found.{SomeFound};
 ghost use Rattle.verdicts.specs.Buffers.{spared};
+ghost use Rattle.services.specs.declared.Undrawn.TheVariants.{Refused};
 ghost use Rattle.services.specs.Answers.{checked_of, located_of};
 ghost use Rattle.services.specs.Waveforms.{Outlines, Shapes};
 ghost use Rattle.services.specs.Charts.{Plots};
@@ -23,8 +24,7 @@ ghost use Rattle.services.specs.Indexes.{Rebuilds, belonging_of, holding_of, Ind
 ghost use Rattle.services.specs.Saves.{SomeCopy, Saves};
 
 use charts::NO_SUCH;
-use index::Held;
-use saving::{Hurt, Mended, Turn};
+use saving::Hurt;
 use texts::{Counts, Verdict};
 use timing::Watch;
 use tokens::{Refusal, TEXT_MOST, TOO_LONG};
@@ -41,7 +41,7 @@ const NOT_THE_INDEX: u8 = 21;
 #[derive(Clone, Copy)]
 struct Rebuilt {
     length: usize,
-    holder: Held,
+    holder: Option<usize>,
 }
 
 // Why not all waveforms of a list are served.
@@ -126,13 +126,13 @@ pub fn events(
             watch,
         },
     )?;
-    if j.found {
-        return Ok(waves::read(text, j.entry, char, ts, ls));
-    }
-    Err(Refusal {
-        no: NO_SUCH,
-        place: 0,
-    })
+    let Some(entry) = j.sight else {
+        return Err(Refusal {
+            no: NO_SUCH,
+            place: 0,
+        });
+    };
+    Ok(waves::read(text, entry, char, ts, ls))
 }
 
 // The waveform of a table, signal and character: its events' times in ps, each the 64 bits of a signed number, and their letters, to the front of both buffers.
@@ -320,11 +320,7 @@ pub fn holds(text: &[u8], bytes: &[u8], cycle: usize) -> Result<Option<usize>, R
             place: 0,
         });
     }
-    let holder = x.holder;
-    if holder.held {
-        return Ok(Some(holder.number));
-    }
-    Ok(None)
+    Ok(x.holder)
 }
 
 // Does an index belong to a text: is it byte for byte what a rebuild writes?
@@ -338,66 +334,37 @@ pub fn belongs(text: &[u8], bytes: &[u8]) -> Result<(), Refusal>
 // ---- hurt texts
 
 // The check, and the overwriting of what it refuses, if that helps.
-fn mend_once(text: &mut [u8]) -> Turn
+fn mend_once(text: &mut [u8]) -> Result<Option<Hurt>, Refusal>
     ensures { Turns text.old text.new result }
 {
     let watch = verdicts::nowhere();
-    let j = verdicts::judge(
+    let Err(refusal) = verdicts::judge(
         text,
         Wanted {
             table: false,
             number: 0,
             watch,
         },
-    );
-    let hurt = saving::hurt_span(text, j.no, j.place);
-    if !hurt.found {
-        return Turn {
-            hurt,
-            no: j.no,
-            place: j.place,
-        };
-    }
+    ) else {
+        return Ok(None);
+    };
+    let Some(hurt) = saving::hurt_span(text, refusal) else {
+        return Err(refusal);
+    };
     saving::overwrite(text, hurt.first, hurt.behind);
-    Turn {
-        hurt,
-        no: j.no,
-        place: j.place,
-    }
+    Ok(Some(hurt))
 }
 
-// Before the first turn.
-fn unseen() -> Turn
-    ensures { result.hurt.found ≡ true }
-{
-    Turn {
-        hurt: Hurt {
-            found: true,
-            first: 0,
-            behind: 0,
-        },
-        no: 0,
-        place: 0,
-    }
-}
-
-// Turn after turn; the spans to the front of the numbers, as far as there is room.
-fn mend(text: &mut [u8], spans: &mut [u64]) -> Mended
+// Turn after turn; the spans to the front of the numbers, as far as there is room; how many they are.
+fn mend(text: &mut [u8], spans: &mut [u64]) -> Result<usize, Refusal>
     requires { length text.old ≤ text_most }
     ensures { Mends text.old text.new spans.old spans.new result }
 {
-    let mut t = unseen();
     let mut count = 0;
-    while t.hurt.found {
-        t = mend_once(text);
-        let hurt = t.hurt;
+    while let Some(hurt) = mend_once(text)? {
         count = saving::note(spans, count, hurt);
     }
-    Mended {
-        no: t.no,
-        place: t.place,
-        count,
-    }
+    Ok(count)
 }
 
 // Room for a text; made here alone, so that a caller's proof sees its length and no zeros.
@@ -408,7 +375,7 @@ fn room() -> [u8; TEXT_MOST]
 }
 
 // A copy of a text, mended; its spans to a log, as far as that has room.
-fn mend_copy(text: &[u8], copy: &mut [u8], log: &mut [u64]) -> Mended
+fn mend_copy(text: &[u8], copy: &mut [u8], log: &mut [u64]) -> Result<usize, Refusal>
     requires { (length text.now ≤ text_most) × (text_most ≤ length copy.old) }
     ensures { Mends text.now (take (length text.now) copy.new) log.old log.new result }
 {
@@ -423,7 +390,7 @@ fn hand_back(text: &mut [u8], spans: &mut [u64], copy: &[u8], log: &[u64], count
     ensures { (x : SavedText) → saving text.old ≡ given x → (text.new ≡ x.text) × (spans.new ≡ noted_all x.spans spans.old) }
 {
     if log.len() / 2 < count {
-        mend(text, spans);
+        let _ = mend(text, spans);
         return;
     }
     let n = text.len();
@@ -443,14 +410,7 @@ pub fn save_text(text: &mut [u8], spare: bool, spans: &mut [u64]) -> Result<usiz
     }
     let mut copy = room();
     let mut log = [0u64; LOG];
-    let m = mend_copy(text, &mut copy, &mut log);
-    if m.no != 0 {
-        return Err(Refusal {
-            no: m.no,
-            place: m.place,
-        });
-    }
-    let count = m.count;
+    let count = mend_copy(text, &mut copy, &mut log)?;
     if !spare | (spans.len() / 2 < count) {
         return Err(Refusal {
             no: NO_ROOM,

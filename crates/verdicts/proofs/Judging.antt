@@ -22,6 +22,6 @@ played_judged w f e c = (
   record {
     counts_are = counts_met f ∙ sym c.counts_are;
     name_is = ap (λ l. name_at l w.number) (names_are f w.table) ∙ c.name_is;
-    watched = rw (c.found_is, c.entry_is) f.watched;
+    watched = rw c.sight_is f.watched;
   },
 )

@@ -31,7 +31,7 @@ numbered false text places tplaces signals tables = firsts (names text places si
 pub record Tells (text : List ℕ) (w : Wanted) (r : Judged) (m : Meaning) : Type 0 where
   pub counts_are : counts m ≡ counts_in r.counts
   pub name_is : name_at (names_of (which_of w.table) m) w.number ≡ named_of r.name
-  pub watched : Watched text w.watch r.found r.entry (table_at m.tables w.watch.table)
+  pub watched : Watched text w.watch r.sight (table_at m.tables w.watch.table)
 
 abbrev pub Judges : List ℕ → Wanted → Result Judged Refusal → Type 0
 Judges text w (Ok j) = (m : Meaning) × (meaning text ≡ given m) × Tells text w j m
@@ -48,5 +48,4 @@ pub record Copies (text places tplaces : List ℕ) (v : Verdict) (w : Wanted) (r
     size = v.total.size;
   }
   pub name_is : name_at (numbered w.table text places tplaces v.parts.signals v.parts.known.tables) w.number ≡ named_of r.name
-  pub found_is : r.found ≡ v.parts.found
-  pub entry_is : r.entry ≡ v.parts.place
+  pub sight_is : r.sight ≡ v.parts.sight

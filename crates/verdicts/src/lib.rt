@@ -36,14 +36,12 @@ pub struct Name {
     pub length: usize,
 }
 
-// What is told of a text that is not refused: the counts, the name that is wanted, if there is one, and where the waveform's entry stands (`found`: there is
-// one).
+// What is told of a text that is not refused: the counts, the name that is wanted and where the waveform's entry stands, if they are there.
 #[derive(Clone, Copy)]
 pub struct Judged {
     pub counts: Counts,
     pub name: Option<Name>,
-    pub found: bool,
-    pub entry: usize,
+    pub sight: Option<usize>,
 }
 
 // ---- a name by its number
@@ -119,8 +117,7 @@ fn told<'a>(
     Judged {
         counts,
         name,
-        found: parts.found,
-        entry: parts.place,
+        sight: parts.sight,
     }
 }
 

@@ -131,7 +131,13 @@ pub fn viewed(
 }
 
 // The rows of so many cycles from the cycle `first` on, as far as there are so many, to the front of the buffer; the mark stands for an unassigned pin.
-pub fn window(text: &[u8], first: usize, wanted: usize, mark: u8, buffer: &mut [u8]) -> Result<Rows, Refusal>
+pub fn window(
+    text: &[u8],
+    first: usize,
+    wanted: usize,
+    mark: u8,
+    buffer: &mut [u8],
+) -> Result<Rows, Refusal>
     ensures { Views (window_of text.now first wanted mark buffer.old) buffer.old buffer.new result }
 {
     viewed(text, first, wanted, mark, true, buffer)
