@@ -453,11 +453,13 @@ pub extern "C" fn lutemeteor_sound(text: &[u8], numbers: &mut [usize]) -> usize
             if numbers.len() < 5 {
                 return NO_ROOM;
             }
-            numbers[0] = counts.signals;
-            numbers[1] = counts.tables;
-            numbers[2] = counts.listed;
-            numbers[3] = counts.cycles;
-            numbers[4] = counts.size;
+            numbers[..5].copy_from_slice(&[
+                counts.signals,
+                counts.tables,
+                counts.listed,
+                counts.cycles,
+                counts.size,
+            ]);
             0
         }
     }
