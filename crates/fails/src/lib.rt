@@ -23,7 +23,7 @@ ghost use Rattle.fails.specs.Written.{PutsOne, WritesOffsets, WritesRecord, Writ
 ghost use Rattle.fails.specs.Referred.{SomePattern, Blank, Refers};
 ghost use Rattle.fails.specs.Service.{rows_of, spared_told, Reports, Answering};
 
-use heads::Known;
+use heads::{Declared, Known};
 use measures::DEPTH;
 use references::Before;
 use tokens::Refusal;
@@ -430,9 +430,17 @@ fn refer<'a>(
     let count = labels::gather(text, start, b"", labels, chains, nexts).unwrap_or(0);
     let c = words::cursor_at(text, start);
     let mut args = [0usize; measures::ROW];
+    let declared = Declared {
+        text,
+        places,
+        lists,
+        tplaces,
+        book,
+        rows,
+        known,
+    };
     references::fill(
-        text, c, places, lists, tplaces, book, rows, known, labels, chains, nexts, count, DEPTH, 0,
-        &mut args, table,
+        &declared, c, labels, chains, nexts, count, DEPTH, 0, &mut args, table,
     );
     count
 }
