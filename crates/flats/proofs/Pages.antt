@@ -9,6 +9,7 @@ use lib.ListN.{length, take, drop, length-append}
 use lib.Seq.{take_at}
 use borrow.Author.Tests.{le-leb, lt-leb, leb-true, leb-false}
 use Rattle.std.specs.Prelude.{Option, Some, None, Result, Ok, Err}
+use Rattle.std.specs.Option.{ok_or}
 use Rattle.std.proofs.lemmas.Option.{none-some, same_Some}
 use Rattle.tokens.specs.declared.Refusal.{Refusal}
 use Rattle.tokens.specs.Refusals.{text_most}
@@ -28,7 +29,7 @@ use Rattle.flats.proofs.Whole.{body_of, whole_is}
 
 -- nothing stands on a page yet
 pub holds_none : (page : List ℕ) → Holds page [] (record { at = Some 0 }) page
-holds_none page = record { kept = refl; some = λ h. (refl, refl, refl); none = λ h. absurd (omega arith) }
+holds_none page = record { kept = refl; some = λ h. (refl, refl); none = λ h. absurd (omega arith) }
 
 -- a pen that stands nowhere had no room for all, and one that stands somewhere had
 full_long : {before front page : List ℕ} {p : Pen} → Holds before front p page → p.at ≡ None → length before < length front
@@ -66,13 +67,15 @@ module _ {entry other : List ℕ} {pen q : Pen} where
         let z : n - 0 ≡ n = omega arith in
         subst (λ (l : List ℕ). Holds before (front ++ l) p exit) (b ∙ ap (λ (n : ℕ). take n other) z ∙ front_is k e) (w.on before front h)
 
-    pub joins_both : {r : Result ℕ Refusal} → MatchOption p.at (r ≡ Err (record { no = no_room; place = 0 })) (λ n. r ≡ Ok n) → Joins entry pen other q exit r
-    joins_both {r} m = by p.at refl m
-    joins_both None f = record { fits = λ front back before blank h l k m. (refl, omega (arith, l, full_long (moved front back before blank h k) f)) }
-    joins_both (Some n) f = record {
+    by_pen : (o : Option ℕ) → p.at ≡ o → Joins entry pen other q exit (ok_or o (record { no = no_room; place = 0 }))
+    by_pen None f = record { fits = λ front back before blank h l k m. (refl, omega (arith, l, full_long (moved front back before blank h k) f)) }
+    by_pen (Some i) f = record {
       fits = λ front back before blank h l k m. (
           let all = moved front back before blank h k in (omega (arith, l, roomy all f), front_is all f, stands_at all f));
     }
+
+    pub joins_both : {r : Result ℕ Refusal} → r ≡ ok_or p.at (record { no = no_room; place = 0 }) → Joins entry pen other q exit r
+    joins_both e = rw e (by_pen p.at refl)
 
 -- ---- an accepted text
 
