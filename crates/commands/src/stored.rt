@@ -1,6 +1,5 @@
 // intake FILE
 use crate::{answers, asked, files};
-use intake::Progress;
 use streams::System;
 
 // What the intake stores of a raw text.
@@ -8,19 +7,16 @@ fn answer(rt: &impl System, raw: &[u8]) {
     let mut store = streams::room();
     let taken = intake::take(intake::begin(), raw, &mut store);
     match intake::close(taken, &mut store) {
-        Progress::Closed(n) => {
+        Ok(n) => {
             streams::write(rt, &store, n);
         }
-        Progress::Refused(no, place) => answers::refused(rt, raw, no, place),
-        Progress::Open(_) => streams::broken(rt, b"the intake is not closed\n"),
+        Err(refusal) => answers::refused(rt, raw, refusal),
     }
 }
 
 fn file(rt: &impl System) {
     let mut raw = streams::raw();
-    let t = files::text(rt, 2, &mut raw);
-    if t.read {
-        let n = t.length;
+    if let Some(n) = files::text(rt, 2, &mut raw) {
         answer(rt, &raw[..n]);
     }
 }

@@ -1,7 +1,7 @@
 // The service for fail reports: a text and a report to the run's cycle, the signal's number and the letter of each offset.
 #![tactic(auto)]
 
-ghost use Rattle.std.specs.Prelude.{◌≡◌, true, false, List, ◌∷◌, [], ℕ, ◌+◌, ◌-◌, ◌≤◌, min, length};
+ghost use Rattle.std.specs.Prelude.{◌≡◌, true, false, List, ◌∷◌, [], ℕ, ◌+◌, ◌-◌, ◌≤◌, length};
 ghost use Rattle.meaning.specs.Bounds.{cycles_most};
 ghost use Rattle.meaning.specs.Body.{Body};
 ghost use Rattle.meaning.specs.Statements.{Decls};
@@ -15,6 +15,7 @@ ghost use Rattle.references.specs.References.{past_by};
 ghost use Rattle.references.specs.Filled.{noted};
 ghost use Rattle.reports.specs.Report.{Fail};
 ghost use Rattle.verdicts.specs.Found.{SomeFound};
+ghost use Rattle.fails.specs.declared.Unanswered.TheVariants.{Text};
 ghost use Rattle.fails.specs.Fails.{lines_named, fails as fails_of};
 ghost use Rattle.fails.specs.Once.{Often, More};
 ghost use Rattle.fails.specs.Judged.{JudgesRecord, Judges, Roomed};
@@ -25,6 +26,7 @@ ghost use Rattle.fails.specs.Service.{rows_of, spared_told, Reports, Answering};
 use heads::Known;
 use measures::DEPTH;
 use references::Before;
+use tokens::Refusal;
 use words::{Cursor, NO_ROOM};
 
 const NOT_IN_PATTERN: u8 = 24;
@@ -39,12 +41,11 @@ struct Times {
     cycles: usize,
 }
 
-// A record: the cursor behind it; does it have a 24, and where; or else how many answers are due to it.
+// A record: the cursor behind it; the place of its 24, if it has one; or else how many answers are due to it.
 #[derive(Clone, Copy)]
 struct Judged {
     cursor: Cursor,
-    outside: bool,
-    place: usize,
+    outside: Option<usize>,
     count: usize,
 }
 
@@ -55,11 +56,10 @@ struct Room {
     full: bool,
 }
 
-// All records: is there a 24, and where is the first; or else are there more answers than have room?
+// All records: the place of the first 24, if there is one; or else are there more answers than have room?
 #[derive(Clone, Copy)]
 struct Verdict {
-    outside: bool,
-    place: usize,
+    outside: Option<usize>,
     full: bool,
 }
 
@@ -70,14 +70,19 @@ struct Wrote {
     at: usize,
 }
 
+// What is refused: the text, or for want of room; or the report, with the place in it.
 #[derive(Clone, Copy)]
-pub enum Failures {
-    // how many answers were written
-    Answers(usize),
-    // the number of the refusal, and the place: the text's, or 19
-    Refused(u8, usize),
-    // the report's, with its place in the report
-    ReportRefused(u8, usize),
+pub enum Unanswered {
+    Text(Refusal),
+    Report(Refusal),
+}
+
+impl From<Refusal> for Unanswered {
+    ghost from_gives = { λ x r. r ≡ Text x };
+
+    fn from(refusal: Refusal) -> Unanswered {
+        Unanswered::Text(refusal)
+    }
 }
 
 // ---- the pattern that a report names
@@ -148,7 +153,7 @@ fn left_behind(cycles: usize, b: Before) -> u64
 fn or_one(n: usize) -> usize
     ensures { (n ≡ 0 → result ≡ 1) × ((n ≡ 0 → ⊥) → result ≡ n) }
 {
-    if n == 0 { 1 } else { n }
+    n.max(1)
 }
 
 // The record at the cursor: its 24, if it has one, where the pattern of this name has so many cycles.
@@ -188,15 +193,13 @@ fn judge_record<'a>(
     if !b.known | ((p.count == 0) & (left == 0)) {
         return Judged {
             cursor,
-            outside: true,
-            place: at,
+            outside: Some(at),
             count: 0,
         };
     }
     Judged {
         cursor,
         outside: p.outside,
-        place: p.place,
         count: or_one(p.count),
     }
 }
@@ -246,10 +249,9 @@ fn judge<'a>(
             report, cursor, text, places, signals, name, labels, chains, nexts, count, table,
             cycles,
         );
-        if j.outside {
+        if let Some(place) = j.outside {
             return Verdict {
-                outside: true,
-                place: j.place,
+                outside: Some(place),
                 full: false,
             };
         }
@@ -257,8 +259,7 @@ fn judge<'a>(
         cursor = j.cursor;
     }
     Verdict {
-        outside: false,
-        place: 0,
+        outside: None,
         full: x.full,
     }
 }
@@ -425,8 +426,8 @@ fn refer<'a>(
     let names = &book[measures::PATTERNS * 2..];
     let i = words::find(text, name, names, patterns);
     let start = measures::start_at(book, measures::PATTERNS + i);
-    let all = labels::gather(text, start, b"", labels, chains, nexts);
-    let count = all.count;
+    // No label of a text that was accepted is used twice.
+    let count = labels::gather(text, start, b"", labels, chains, nexts).unwrap_or(0);
     let c = words::cursor_at(text, start);
     let mut args = [0usize; measures::ROW];
     references::fill(
@@ -437,13 +438,6 @@ fn refer<'a>(
 }
 
 // ---- the service
-
-// The lesser of two numbers.
-fn lesser(a: usize, b: usize) -> usize
-    ensures { result ≡ min a b }
-{
-    if a <= b { a } else { b }
-}
 
 // A sound report, whose pattern is listed once: 24, 19, or its answers.
 fn answer<'a>(
@@ -466,7 +460,7 @@ fn answer<'a>(
     cycles: &mut [u64],
     signals: &mut [u64],
     letters: &mut [u8],
-) -> Failures
+) -> Result<usize, Unanswered>
     requires { SomePattern text.now places.now lists.now tplaces.now book.now rows.now known patterns (span report.now at «end») }
     ensures { Answering text.now places.now lists.now tplaces.now book.now rows.now known declared patterns report.now at «end» «from» first count spare cycles.old cycles.new signals.old signals.new letters.old letters.new result }
 {
@@ -490,7 +484,7 @@ fn answer<'a>(
         &mut nexts,
         &mut table,
     );
-    let room = lesser(cycles.len(), lesser(signals.len(), letters.len()));
+    let room = cycles.len().min(signals.len().min(letters.len()));
     let v = judge(
         report,
         from,
@@ -506,11 +500,17 @@ fn answer<'a>(
         count,
         room,
     );
-    if v.outside {
-        return Failures::ReportRefused(NOT_IN_PATTERN, v.place);
+    if let Some(place) = v.outside {
+        return Err(Unanswered::Report(Refusal {
+            no: NOT_IN_PATTERN,
+            place,
+        }));
     }
     if v.full | !spare {
-        return Failures::Refused(NO_ROOM, 0);
+        return Err(Unanswered::Text(Refusal {
+            no: NO_ROOM,
+            place: 0,
+        }));
     }
     let n = write(
         report,
@@ -529,7 +529,7 @@ fn answer<'a>(
         signals,
         letters,
     );
-    Failures::Answers(n)
+    Ok(n)
 }
 
 // A text that 1 to 16 leave: 17, the report's own faults, 24, 19, or the answers.
@@ -549,48 +549,47 @@ fn answer_found<'a>(
     cycles: &mut [u64],
     signals: &mut [u64],
     letters: &mut [u8],
-) -> Failures
+) -> Result<usize, Unanswered>
     requires { SomeFound text.now places.now lists.now tplaces.now waves.now book.now rows.now list.now used.now v }
     ensures { Reports (spared_told spare (fails_of text.now report.now (rows_of cycles.old signals.old letters.old))) cycles.old cycles.new signals.old signals.new letters.old letters.new result }
 {
     let parts = v.parts;
-    let f = verdicts::failing(
+    verdicts::failing(
         text, places, lists, tplaces, waves, book, rows, list, used, v,
-    );
-    if f.no != 0 {
-        return Failures::Refused(f.no, f.place);
+    )?;
+    let sound = match reports::reported(report, text, places, parts.signals) {
+        Ok(sound) => sound,
+        Err(refusal) => return Err(Unanswered::Report(refusal)),
+    };
+    let name = words::bytes_of(report, sound.at, sound.end);
+    let t = times_listed(text, book, list, parts.listed, parts.patterns, name);
+    if t.times != 1 {
+        return Err(Unanswered::Report(Refusal {
+            no: NOT_IN_PATTERN,
+            place: sound.at,
+        }));
     }
-    match reports::reported(report, text, places, parts.signals) {
-        reports::Finding::Refused(n, p) => Failures::ReportRefused(n, p),
-        reports::Finding::Sound(at, end, from) => {
-            let name = words::bytes_of(report, at, end);
-            let t = times_listed(text, book, list, parts.listed, parts.patterns, name);
-            if t.times != 1 {
-                return Failures::ReportRefused(NOT_IN_PATTERN, at);
-            }
-            answer(
-                text,
-                places,
-                lists,
-                tplaces,
-                book,
-                rows,
-                parts.known,
-                parts.signals,
-                parts.patterns,
-                report,
-                at,
-                end,
-                from,
-                t.first,
-                t.cycles,
-                spare,
-                cycles,
-                signals,
-                letters,
-            )
-        }
-    }
+    answer(
+        text,
+        places,
+        lists,
+        tplaces,
+        book,
+        rows,
+        parts.known,
+        parts.signals,
+        parts.patterns,
+        report,
+        sound.at,
+        sound.end,
+        sound.records,
+        t.first,
+        t.cycles,
+        spare,
+        cycles,
+        signals,
+        letters,
+    )
 }
 
 // There is room for what else is handed out (`spare`), or that is 19 too.
@@ -601,7 +600,7 @@ pub fn answer_report<'a>(
     cycles: &mut [u64],
     signals: &mut [u64],
     letters: &mut [u8],
-) -> Failures
+) -> Result<usize, Unanswered>
     ensures { Reports (spared_told spare (fails_of text.now report.now (rows_of cycles.old signals.old letters.old))) cycles.old cycles.new signals.old signals.new letters.old letters.new result }
 {
     let mut places = [0usize; signals::PLACES];
@@ -623,10 +622,7 @@ pub fn answer_report<'a>(
         &mut list,
         verdicts::nowhere(),
         &mut used,
-    );
-    if v.no != 0 {
-        return Failures::Refused(v.no, v.place);
-    }
+    )?;
     answer_found(
         text, &places, &lists, &tplaces, &waves, &book, &rows, &list, &used, v, report, spare,
         cycles, signals, letters,
@@ -640,7 +636,7 @@ pub fn report<'a>(
     cycles: &mut [u64],
     signals: &mut [u64],
     letters: &mut [u8],
-) -> Failures
+) -> Result<usize, Unanswered>
     ensures { Reports (fails_of text.now report.now (rows_of cycles.old signals.old letters.old)) cycles.old cycles.new signals.old signals.new letters.old letters.new result }
 {
     answer_report(text, report, true, cycles, signals, letters)

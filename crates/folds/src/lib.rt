@@ -45,10 +45,8 @@ pub fn signals<'a>(
     ensures { Writes page.old pen (laid (signals_put (directed text.now (firsts (names text.now places.now count))) [])) page.new result }
 {
     let mut p = pens::add(page, pen, b"Signals{");
-    let mut i = 0;
-    while i < count {
+    for i in 0..count {
         p = signal(page, p, text, places, i);
-        i += 1;
     }
     pens::add(page, p, b"}\n")
 }
@@ -67,10 +65,8 @@ pub fn burst(page: &mut [u8], pen: Pen, count: usize) -> Pen
     ensures { Writes page.old pen (laid (burst_put (names_from 0 count) [])) page.new result }
 {
     let mut p = pens::add(page, pen, b"PatternBurst b{PatList{");
-    let mut i = 0;
-    while i < count {
+    for i in 0..count {
         p = listed(page, p, i);
-        i += 1;
     }
     pens::add(page, p, b"}}\n")
 }

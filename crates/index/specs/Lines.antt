@@ -1,6 +1,6 @@
 -- What the code has of the listed patterns, and what its functions promise.
-use Rattle.std.specs.Prelude.{ℕ, suc, ◌+◌, ◌*◌, ◌≤◌, ◌<◌, ◌≡◌, List, ltb, length, drop}
-use Rattle.std.proofs.Math.Option.{Option, some}
+use Rattle.std.specs.Prelude.{ℕ, suc, ◌+◌, ◌*◌, ◌≤◌, ◌<◌, ◌≡◌, List, ltb, length, drop, Option as Maybe, Some, None}
+use Rattle.std.proofs.Math.Option.{Option, none, some}
 use Rattle.tokens.specs.Tokens.{Tok, toks}
 use Rattle.meaning.specs.Bounds.{name_most, tables_most, patterns_most, list_most, cycles_most}
 use Rattle.meaning.specs.Names.{find}
@@ -15,7 +15,6 @@ use Rattle.bursts.specs.Listed.{listed_in}
 use Rattle.sections.specs.Listing.{count_most, line_most, Short}
 use Rattle.index.specs.Index.{keywords, Block, blocks, lines_from, Index}
 use Rattle.index.specs.declared.Share.{Share}
-use Rattle.index.specs.declared.Held.{Held}
 
 -- ---- room, whatever the digits of the numbers
 
@@ -87,6 +86,7 @@ index_in text list tplaces listed tables ps = record {
   tables = firsts (names text tplaces tables);
 }
 
--- which one holds a cycle, if any
-abbrev pub held_of : Held → Option ℕ
-held_of r = told r.held r.number
+-- which one holds a cycle, if any, as the code tells it
+abbrev pub held_of : Maybe ℕ → Option ℕ
+held_of None = none
+held_of (Some k) = some k

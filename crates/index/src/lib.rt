@@ -35,13 +35,6 @@ pub struct Share {
     pub cycles: usize,
 }
 
-// The number in the list of the pattern that holds a cycle, if there is one (`held`).
-#[derive(Clone, Copy)]
-pub struct Held {
-    pub held: bool,
-    pub number: usize,
-}
-
 // ---- the Pattern keywords
 
 // The place of the token whose next one stands at p.
@@ -71,12 +64,10 @@ fn keywords<'a>(text: &'a [u8], names: &'a [usize], patterns: usize, keys: &mut 
     ensures { take patterns keys.new ≡ keywords_of (toks text.now 0) (firsts (names_of text.now names.now patterns)) }
 {
     let mut c = words::cursor_at(text, 0);
-    let mut i = 0;
-    while i < patterns {
+    for i in 0..patterns {
         let k = keyword_before(text, c, words::number_at(names, i * 2));
         keys[i] = k.at;
         c = k.cursor;
-        i += 1;
     }
 }
 
@@ -146,8 +137,7 @@ fn lines<'a>(
 {
     let mut end = at;
     let mut first = 0;
-    let mut k = 0;
-    while k < listed {
+    for k in 0..listed {
         let s = listed_at(text, book, list, patterns, k);
         let keyword = words::number_at(keys, s.number);
         end = line(
@@ -159,7 +149,6 @@ fn lines<'a>(
             keyword,
         );
         first += s.cycles;
-        k += 1;
     }
     end
 }
@@ -189,7 +178,7 @@ pub fn write<'a>(
 
 // ---- the pattern that holds a cycle
 
-// Past the end there is none.
+// The number in the list of the pattern that holds a cycle; past the end there is none.
 pub fn holder<'a>(
     text: &'a [u8],
     book: &'a [usize],
@@ -197,22 +186,17 @@ pub fn holder<'a>(
     listed: usize,
     patterns: usize,
     n: usize,
-) -> Held
+) -> Option<usize>
     requires { SomeLists text.now book.now list.now listed patterns }
     ensures { (ps : Decls) (run : Body) → Lists text.now book.now list.now listed patterns ps run → held_of result ≡ holder_of n 0 (lines_from 0 (blocks_in text.now ps) (listed_in text.now list.now listed)) }
 {
     let mut reached = 0;
-    let mut number = 0;
-    while number < listed {
+    for number in 0..listed {
         let s = listed_at(text, book, list, patterns, number);
         if n < reached + s.cycles {
-            return Held { held: true, number };
+            return Some(number);
         }
         reached += s.cycles;
-        number += 1;
     }
-    Held {
-        held: false,
-        number: 0,
-    }
+    None
 }

@@ -9,7 +9,8 @@ use lib.ListN.{length, take, drop, length-append}
 use borrow.Author.Tests.{leb-true, leb-false, lt-ltb, le-ltb, eq-eqb, ne_eqb}
 use lib.Seq.{take_at, length-take-le, drop-append-add, drop-drop}
 use Rattle.tokens.specs.Written.{bytes}
-use Rattle.tokens.proofs.Bools.{true_false}
+use Rattle.std.specs.Prelude.{Option, Some, None}
+use Rattle.std.proofs.lemmas.Option.{none-some, same_Some}
 use Rattle.pages.specs.Pages.{decimal, Puts}
 use Rattle.pages.proofs.Laws.{puts_length}
 use Rattle.folded.specs.Layout.{timed}
@@ -26,39 +27,26 @@ page_is front bytes before entry exit at a e p =
     ∙ ap₂ (λ (x y : List ℕ). x ++ (bytes ++ y)) (take_at front rest (length front) refl) (drop-append-add front rest (length bytes) ∙ drop-drop (length bytes) (length front) before)
     ∙ sym (append_assoc front bytes _) ∙ ap (λ (n : ℕ). (front ++ bytes) ++ drop n before) (sym (length-append front bytes))
 
+-- a pen that stands at some place stands behind what was written
+stands : {o : Option ℕ} {at n : ℕ} → o ≡ Some at → o ≡ Some n → at ≡ n
+stands e f = same_Some _ _ (sym e ∙ f)
+
 -- what is written already had room, and so have these
-overflows : (entry bytes : List ℕ) (pen : Pen) → pen.full ≡ false → pen.at + length bytes ≤ length entry → (before front : List ℕ) → Holds before front pen entry → (b : Bool)
-    → leb (length front) (length before) ≡ b → length before < length (front ++ bytes) → {c : Bool} → c ≡ true
-overflows entry bytes pen e f before front h true q l = absurd (omega (arith, (h.some (leb-true _ _ q)).1, h.kept, length-append front bytes))
-overflows entry bytes pen e f before front h false q l = true_false (h.none (leb-false _ _ q)) e
+overflows : (entry bytes : List ℕ) (pen : Pen) {at : ℕ} → pen.at ≡ Some at → at + length bytes ≤ length entry → (before front : List ℕ) → Holds before front pen entry → (b : Bool)
+    → leb (length front) (length before) ≡ b → length before < length (front ++ bytes) → {o : Option ℕ} → o ≡ None
+overflows entry bytes pen e f before front h true q l = absurd (omega (arith, stands e (h.some (leb-true _ _ q)).0, h.kept, length-append front bytes))
+overflows entry bytes pen e f before front h false q l = absurd (none-some _ (sym (h.none (leb-false _ _ q)) ∙ e))
 
 module _ {entry bytes : List ℕ} {pen : Pen} where
-  pub writes_full : pen.full ≡ true → Writes entry pen bytes entry pen
-  writes_full e = record {
-    kept = refl;
-    on = λ before front h. record {
-      kept = h.kept;
-      some = λ l. true_false e (h.some (omega (arith, length-append front bytes))).0;
-      none = λ l. e;
-    };
-  }
-
-  pub writes_none : {r : Pen} → r.full ≡ true → length entry < pen.at + length bytes → Writes entry pen bytes entry r
-  writes_none e f = record {
-    kept = refl;
-    on = λ before front h. record {
-      kept = h.kept;
-      some = λ l. (let s = h.some (omega (arith, length-append front bytes)) in absurd (omega (arith, s.1, h.kept, length-append front bytes)));
-      none = λ l. e;
-    };
-  }
-
-  pub writes_put : {exit : List ℕ} {r : Pen} → pen.full ≡ false → pen.at + length bytes ≤ length entry → r.full ≡ false → Puts entry pen.at bytes r.at exit → Writes entry pen bytes exit r
-  writes_put {exit} {r} e f g p = record {
+  pub writes_put : {exit : List ℕ} {r : Pen} {at end : ℕ} → pen.at ≡ Some at → at + length bytes ≤ length entry → r.at ≡ Some end → Puts entry at bytes end exit → Writes entry pen bytes exit r
+  writes_put {exit} {r} {at} e f g p = record {
     kept = puts_length p f;
     on = λ before front h. record {
       kept = puts_length p f ∙ h.kept;
-      some = λ l. (let s = h.some (omega (arith, length-append front bytes)) in (g, p.behind ∙ omega (arith, s.1, length-append front bytes), page_is front bytes before entry exit pen.at s.1 s.2 p.page));
+      some = λ l.
+          let s = h.some (omega (arith, length-append front bytes)) in
+          let a = stands e s.0 in
+          (g ∙ ap Some (p.behind ∙ omega (arith, a, length-append front bytes)), page_is front bytes before entry exit at a s.1 p.page);
       none = λ l. overflows entry bytes pen e f before front h (leb (length front) (length before)) refl l;
     };
   }

@@ -9,11 +9,10 @@ ghost use Rattle.pens.specs.Pens.{signed_timed, Writes};
 
 use words::START;
 
-// How many bytes stand in the page; or there was no room for all (`full`).
+// How many bytes stand in the page; none if there was no room for all.
 #[derive(Clone, Copy)]
 pub struct Pen {
-    pub at: usize,
-    pub full: bool,
+    pub at: Option<usize>,
 }
 
 // Picoseconds of a nanosecond.
@@ -23,22 +22,14 @@ const NANO: u64 = 1_000;
 pub fn add(page: &mut [u8], pen: Pen, bytes: &[u8]) -> Pen
     ensures { Writes page.old pen bytes.now page.new result }
 {
-    let at = pen.at;
-    let room = page.len();
-    if pen.full {
+    let Some(at) = pen.at else {
         return pen;
-    }
-    if room < at {
-        return Pen { at, full: true };
-    }
-    if room - at < bytes.len() {
-        return Pen { at, full: true };
+    };
+    if page.len() < at || page.len() - at < bytes.len() {
+        return Pen { at: None };
     }
     let end = pages::put(page, at, bytes);
-    Pen {
-        at: end,
-        full: false,
-    }
+    Pen { at: Some(end) }
 }
 
 // A number's digits.

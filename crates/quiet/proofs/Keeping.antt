@@ -1,20 +1,28 @@
--- What a look promises: nothing where it saw an event outside, and of a loop from what its turns keep.
+-- What a loop keeps: one more turn comes, and what holds before any.
 use Prim.Native.Nat.{ℕ}
-use native.Mathlib.Omega.{arith}
-use mathlib.Core.Path.{◌≡◌}
-use mathlib.Core.Bool.{Bool, true, false, not, ◌&&◌}
+use mathlib.Core.Path.{◌≡◌, refl}
+use mathlib.Core.Bool.{Bool, true, not, ◌&&◌}
 use mathlib.Core.List.{List, []}
+use Rattle.std.specs.Prelude.{Option, Some, None, IfSome}
+use Rattle.std.specs.Option.{is_some}
+use native.Mathlib.Omega.{arith}
 use Rattle.tokens.specs.Tokens.{Toks}
 use Rattle.meaning.specs.Reader.{Reader, ahead}
 use Rattle.held.proofs.Rest.{Moves}
 use Rattle.words.specs.Cursor.{alive, stream}
 use Rattle.words.specs.declared.Cursor.{Cursor}
 use Rattle.spots.proofs.Following.{Turns, turn}
-use Rattle.quiet.specs.Quiet.{Each, WavesIn, TablesIn, Coming, Keeps}
-use Rattle.quiet.specs.declared.Look.{Look}
+use Rattle.quiet.specs.Quiet.{Each, WavesIn, TablesIn, Coming}
 
-pub keeps_nothing : {S : Type 0} {text : List ℕ} {c : Cursor} {m : S → Reader S} {P : S → Type 0} {r : Look} → r.inside ≡ false → Keeps text c m P r
-keeps_nothing h = record { on = λ e. let z : ◌≡◌ {A = ℕ} 0 1 = cc in absurd (omega arith) }
+-- what holds wherever there is a value
+pub some_where : {A : Type 0} (r : Option A) {Q : A → Type 0} → ((x : A) → r ≡ Some x → Q x) → IfSome r Q
+some_where None f = tt
+some_where (Some x) f = f x refl
+
+-- what holds where there is one, whatever it is
+pub when_some : {A Q : Type 0} (r : Option A) → is_some r ≡ true → IfSome r (λ x. Q) → Q
+when_some None e q = let z : ◌≡◌ {A = ℕ} 0 1 = cc in absurd (omega arith)
+when_some (Some x) e q = q
 
 -- one more turn comes
 pub coming : {S : Type 0} {text : List ℕ} {step : S → Reader S} {P : S → Type 0} {c : Cursor} {a : S} {us : Toks} → ((s : S) → Moves (step s)) → Turns text step P c a us

@@ -1,12 +1,11 @@
 -- Events within their own cycle: from its start on, and before its end. The code reads again what was read before, and stops at the first one outside.
-use Rattle.std.specs.Prelude.{ℕ, ◌+◌, ◌≤◌, ◌<◌, ◌≡◌, true, List, [], ◌∷◌, length}
+use Rattle.std.specs.Prelude.{ℕ, ◌+◌, ◌≤◌, ◌<◌, ◌≡◌, List, [], ◌∷◌, length, Option, IfSome}
 use Rattle.tokens.specs.Tokens.{Tok, Toks}
 use Rattle.meaning.specs.Bounds.{time_most}
 use Rattle.meaning.specs.Reader.{Reader}
 use Rattle.meaning.specs.Timing.{Event, Events, Wave, Table, Tables}
 use Rattle.words.specs.declared.Cursor.{Cursor}
 use Rattle.spots.specs.Answers.{Answers, Behind}
-use Rattle.quiet.specs.declared.Look.{Look}
 
 -- the time of a cycle's start, as times are counted
 abbrev pub earliest : ℕ
@@ -45,5 +44,5 @@ pub record Coming {S : Type 0} (text : List ℕ) (c : Cursor) (m : S → Reader 
   pub read : Answers text c (m state) answer rest
 
 -- what m adds to a state with P has P too, if the code saw nothing outside; it then stands behind it
-pub record Keeps {S : Type 0} (text : List ℕ) (c : Cursor) (m : S → Reader S) (P : S → Type 0) (r : Look) : Type 0 where
-  pub on : r.inside ≡ true → (s a : S) (us : Toks) → P s → Answers text c (m s) a us → Behind text r.cursor us × P a
+abbrev pub Keeps : {S : Type 0} (text : List ℕ) (c : Cursor) (m : S → Reader S) (P : S → Type 0) → Option Cursor → Type 0
+Keeps {S} text c m P r = IfSome r (λ d. (s a : S) (us : Toks) → P s → Answers text c (m s) a us → Behind text d us × P a)

@@ -2,7 +2,7 @@
 // read before are read once more; no name is looked up.
 #![tactic(auto)]
 
-ghost use Rattle.std.specs.Prelude.{◌≡◌, true, List, ℕ, ◌≤◌, ◌<◌};
+ghost use Rattle.std.specs.Prelude.{◌≡◌, true, List, ℕ, ◌≤◌, ◌<◌, IfSome};
 ghost use Rattle.std.proofs.Math.Option.{none};
 ghost use Rattle.tokens.specs.Tokens.{Toks, toks};
 ghost use Rattle.meaning.specs.Bounds.{entry_most};
@@ -21,85 +21,55 @@ use words::{Cursor, START};
 fn within(t: u64, start: u64, period: u64) -> bool
     ensures { result ≡ true → Inside start period t }
 {
-    if t < start {
-        return false;
-    }
-    if period <= t - start {
-        return false;
-    }
-    true
+    start <= t && t - start < period
 }
 
-// Do all events that were read lie within their cycles; where they do, the cursor stands behind them.
-#[derive(Clone, Copy)]
-struct Look {
-    cursor: Cursor,
-    inside: bool,
-}
+// The readers below give the cursor behind what they read if all its events lie within their cycles, and stop at the first event that does not.
 
 // Further events of an entry, up to its closing brace.
-fn events(text: &[u8], c: Cursor, period: u64) -> Look
+fn events(text: &[u8], c: Cursor, period: u64) -> Option<Cursor>
     requires { (n : ℕ) × (0 < n) × (n ≤ entry_most) × Coming text.now c (until_of "}" (event_of n)) (Lined period n) }
     ensures { (n : ℕ) → 0 < n → n ≤ entry_most → Keeps text.now c (until_of "}" (event_of n)) (Lined period n) result }
 {
     let mut cursor = c;
     while words::until(text, cursor, b"}") {
         let e = waves::event(text, cursor, 0);
-        cursor = e.cursor;
         if !within(e.time, START, period) {
-            return Look {
-                cursor,
-                inside: false,
-            };
+            return None;
         }
+        cursor = e.cursor;
     }
-    let behind = words::due(text, cursor, b"}");
-    Look {
-        cursor: behind,
-        inside: true,
-    }
+    Some(words::due(text, cursor, b"}"))
 }
 
 // CHARS and their events.
-fn entry(text: &[u8], c: Cursor, period: u64) -> Look
+fn entry(text: &[u8], c: Cursor, period: u64) -> Option<Cursor>
     requires { (sigs : List ℕ) × Coming text.now c (entry_of sigs) (WavesIn period) }
     ensures { (sigs : List ℕ) → Keeps text.now c (entry_of sigs) (WavesIn period) result }
 {
     let d = words::word(text, c);
     let e = words::due(text, d, b"{");
     let first = waves::event(text, e, 0);
-    let cursor = first.cursor;
     if !within(first.time, START, period) {
-        return Look {
-            cursor,
-            inside: false,
-        };
+        return None;
     }
-    events(text, cursor, period)
+    events(text, first.cursor, period)
 }
 
 // All entries of a name, up to its closing brace.
-fn entries(text: &[u8], c: Cursor, period: u64) -> Look
+fn entries(text: &[u8], c: Cursor, period: u64) -> Option<Cursor>
     requires { (sigs : List ℕ) × Coming text.now c (until_of "}" (entry_of sigs)) (WavesIn period) }
     ensures { (sigs : List ℕ) → Keeps text.now c (until_of "}" (entry_of sigs)) (WavesIn period) result }
 {
     let mut cursor = c;
     while words::until(text, cursor, b"}") {
-        let x = entry(text, cursor, period);
-        if !x.inside {
-            return x;
-        }
-        cursor = x.cursor;
+        cursor = entry(text, cursor, period)?;
     }
-    let behind = words::due(text, cursor, b"}");
-    Look {
-        cursor: behind,
-        inside: true,
-    }
+    Some(words::due(text, cursor, b"}"))
 }
 
 // A name, whatever its signals are, and its entries.
-fn named(text: &[u8], c: Cursor, period: u64) -> Look
+fn named(text: &[u8], c: Cursor, period: u64) -> Option<Cursor>
     requires { (ns : Names) × Coming text.now c (waveforms_of ns) (WavesIn period) }
     ensures { (ns : Names) → Keeps text.now c (waveforms_of ns) (WavesIn period) result }
 {
@@ -109,77 +79,50 @@ fn named(text: &[u8], c: Cursor, period: u64) -> Look
 }
 
 // The waveforms of a table of this period, up to their closing brace.
-fn waveforms(text: &[u8], c: Cursor, period: u64) -> Look
+fn waveforms(text: &[u8], c: Cursor, period: u64) -> Option<Cursor>
     requires { (ns : Names) × Coming text.now c (until_of "}" (waveforms_of ns)) (WavesIn period) }
     ensures { (ns : Names) → Keeps text.now c (until_of "}" (waveforms_of ns)) (WavesIn period) result }
 {
     let mut cursor = c;
     while words::until(text, cursor, b"}") {
-        let x = named(text, cursor, period);
-        if !x.inside {
-            return x;
-        }
-        cursor = x.cursor;
+        cursor = named(text, cursor, period)?;
     }
-    let behind = words::due(text, cursor, b"}");
-    Look {
-        cursor: behind,
-        inside: true,
-    }
+    Some(words::due(text, cursor, b"}"))
 }
 
 // A table, from `WaveformTable` to its last brace.
-fn table(text: &[u8], c: Cursor) -> Look
+fn table(text: &[u8], c: Cursor) -> Option<Cursor>
     requires { (ns : Names) × Coming text.now c (table_of ns) TablesIn }
     ensures { (ns : Names) → Keeps text.now c (table_of ns) TablesIn result }
 {
     let a = words::due(text, c, b"WaveformTable");
     let d = words::name(text, a);
     let h = spots::head(text, d);
-    let x = waveforms(text, h.cursor, h.n);
-    if !x.inside {
-        return x;
-    }
-    let behind = words::due(text, x.cursor, b"}");
-    Look {
-        cursor: behind,
-        inside: true,
-    }
+    let e = waveforms(text, h.cursor, h.n)?;
+    Some(words::due(text, e, b"}"))
 }
 
 // Further tables, up to the last brace of Timing.
-fn others(text: &[u8], c: Cursor) -> Look
+fn others(text: &[u8], c: Cursor) -> Option<Cursor>
     requires { (ns : Names) × Coming text.now c (until_of "}" (table_of ns)) TablesIn }
     ensures { (ns : Names) → Keeps text.now c (until_of "}" (table_of ns)) TablesIn result }
 {
     let mut cursor = c;
     while words::until(text, cursor, b"}") {
-        let x = table(text, cursor);
-        if !x.inside {
-            return x;
-        }
-        cursor = x.cursor;
+        cursor = table(text, cursor)?;
     }
-    let behind = words::due(text, cursor, b"}");
-    Look {
-        cursor: behind,
-        inside: true,
-    }
+    Some(words::due(text, cursor, b"}"))
 }
 
 // Timing{ .. }: from the cursor that stands at it.
-fn tables(text: &[u8], c: Cursor) -> bool
+fn tables(text: &[u8], c: Cursor) -> Option<Cursor>
     requires { (ns : Names) × (it : Tables) × (us : Toks) × Answers text.now c (timing_of ns) it us }
-    ensures { result ≡ true → (ns : Names) (it : Tables) (us : Toks) → Answers text.now c (timing_of ns) it us → TablesIn it }
+    ensures { IfSome result (λ d. (ns : Names) (it : Tables) (us : Toks) → Answers text.now c (timing_of ns) it us → TablesIn it) }
 {
     let a = words::due(text, c, b"Timing");
     let b = words::due(text, a, b"{");
-    let x = table(text, b);
-    if !x.inside {
-        return false;
-    }
-    let y = others(text, x.cursor);
-    y.inside
+    let d = table(text, b)?;
+    others(text, d)
 }
 
 // Is every event of a text within its own cycle: then no pair of neighbouring cycles is out of order. Of false nothing is said.
@@ -191,5 +134,5 @@ pub fn is_quiet(text: &[u8]) -> bool
     let mut lists = [0u16; signals::LISTS];
     let c = spots::opening(text);
     let f = signals::front(text, c, &mut places, &mut lists);
-    tables(text, f.cursor)
+    tables(text, f.cursor).is_some()
 }

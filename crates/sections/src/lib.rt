@@ -101,11 +101,9 @@ pub fn lines<'a>(
     ensures { Adds page.old at (lines_of (firsts (names text.now places.now count))) (count * line_most) result page.new }
 {
     let mut end = at;
-    let mut i = 0;
-    while i < count {
+    for i in 0..count {
         end = pages::put(page, end, words::name_bytes(text, places, i));
         end = pages::put(page, end, b"\n");
-        i += 1;
     }
     end
 }

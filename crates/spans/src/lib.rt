@@ -13,7 +13,7 @@ ghost use Rattle.signals.specs.Names.{names_of};
 ghost use Rattle.timing.specs.Watch.{Watched};
 ghost use Rattle.waves.specs.Waves.{EntryAt};
 ghost use Rattle.spots.specs.Answers.{Answers, Behind};
-ghost use Rattle.spots.specs.Spots.{spots_most, spot_at, watch_of, Spots, Listed};
+ghost use Rattle.spots.specs.Spots.{spots_most, spot_at, watch_of, sight_of, Spots, Listed};
 ghost use Rattle.meaning.specs.Edges.{Category, belongs, first_time, last_time, before as before_of, follows, events_of, period_at};
 ghost use Rattle.spans.specs.Spans.{char_first, chars_wide, inside as inside_of, table_wide, times_most, slots_most, slot_of, coded as coded_of, Sized, Spans};
 ghost use Rattle.spans.specs.Parts.{times_below, Timely, Fit, Spanning, Spanned, Put, Filled, Clear, Upto, owners_most, Held};
@@ -166,18 +166,16 @@ fn read(text: &[u8], place: usize, char: u8) -> Both
     let mut letters = [0u8; waves::EVENTS];
     let n = waves::read(text, place, char, &mut times, &mut letters);
     let mut x = nothing();
-    let mut i = 0;
-    while i < n {
+    for i in 0..n {
         x = event(x, times[i], letters[i]);
-        i += 1;
     }
     x
 }
 
 // Those of a spot, which has none where it is 0.
 fn of_spot(text: &[u8], spot: usize, char: u8) -> Both
-    requires { (s : ℕ) × (ws : List Wave) × Watched text.now (watch_of s char) (not (eqb spot 0)) (spot - 1) ws }
-    ensures { (s : ℕ) (ws : List Wave) → Watched text.now (watch_of s char) (not (eqb spot 0)) (spot - 1) ws → Fit ws → inside_of char ≡ true → Spanned result (events_of s char ws) }
+    requires { (s : ℕ) × (ws : List Wave) × Watched text.now (watch_of s char) (sight_of spot) ws }
+    ensures { (s : ℕ) (ws : List Wave) → Watched text.now (watch_of s char) (sight_of spot) ws → Fit ws → inside_of char ≡ true → Spanned result (events_of s char ws) }
 {
     if spot == 0 {
         return nothing();
@@ -285,10 +283,8 @@ fn table_times(text: &[u8], spots: &[usize], j: usize, firsts: &mut [u32], lasts
     ensures { (ws : List Wave) → Spots text.now spots.now ws → Fit ws → Clear j firsts.old → Clear j lasts.old → Upto first_time j ws table_wide firsts.old firsts.new × Upto last_time j ws table_wide lasts.old lasts.new }
 {
     let mut owners = [0usize; OWNERS];
-    let mut i = 0;
-    while i < TABLE {
+    for i in 0..TABLE {
         put_slot(text, spots, j, i, firsts, lasts, &mut owners);
-        i += 1;
     }
 }
 

@@ -39,11 +39,8 @@ fn keep(spots: &mut [usize], s: u16, w: &[u8], v: usize)
     requires { (length spots.old ≡ spots_most) × (s < signals_most) }
     ensures { Stored spots.old (s ∷ []) w.now v spots.new }
 {
-    let mut i = 0;
-    while i < w.len() {
-        let at = s as usize * BYTES + w[i] as usize;
-        spots[at] = v;
-        i += 1;
+    for b in w {
+        spots[s as usize * BYTES + *b as usize] = v;
     }
 }
 
@@ -52,11 +49,9 @@ fn keep_all(spots: &mut [usize], set: Set, w: &[u8], v: usize)
     requires { (length spots.old ≡ spots_most) × Below (list_of set) }
     ensures { Stored spots.old (list_of set) w.now v spots.new }
 {
-    let most = sets::least(set.n, sets::MOST);
-    let mut i = 0;
-    while i < most {
-        keep(spots, set.v[i], w, v);
-        i += 1;
+    let most = set.n.min(sets::MOST);
+    for s in &set.v[..most] {
+        keep(spots, *s, w, v);
     }
 }
 

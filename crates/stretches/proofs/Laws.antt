@@ -6,8 +6,9 @@ use mathlib.Core.Path.{◌≡◌, refl, sym, ap, ap₂, ◌∙◌}
 use mathlib.Core.Bool.{Bool, true, false, not, ◌&&◌, ◌||◌}
 use mathlib.Core.List.{List, [], ◌∷◌, ◌++◌}
 use lib.Dec.{eqb}
-use lib.ListN.{length, get_or, take, drop, length-drop, drop_of_length-le}
-use lib.Seq.{drop-cons, length-take-le}
+use lib.ListN.{length, get_or, take, drop, length-drop}
+use lib.Seq.{length-take-le}
+use Rattle.std.specs.List.{list_any, zip}
 use Rattle.tokens.specs.Written.{same}
 use Rattle.meaning.specs.Meaning.{firsts}
 use Rattle.meaning.specs.Run.{unassigned}
@@ -19,20 +20,12 @@ use Rattle.stretches.specs.Rows.{row_in, rows_in, words_in}
 
 -- ---- pins that lose their value
 
-module _ (old new : List ℕ) (i : ℕ) (h : i < length old) (k : i < length new) where
-  loses_cut : loses (drop i old) (drop i new) ≡ (not (eqb (get_or old i 0) unassigned) && eqb (get_or new i 0) unassigned || loses (drop (i + 1) old) (drop (i + 1) new))
-  unfolding loses
-  loses_cut = rw (add-one i, drop-cons old i 0 h, drop-cons new i 0 k)
-
-  pub loses_here : (not (eqb (get_or old i 0) unassigned) && eqb (get_or new i 0) unassigned) ≡ true → loses (drop i old) (drop i new) ≡ true
-  loses_here e = loses_cut ∙ ap (λ (b : Bool). b || loses (drop (i + 1) old) (drop (i + 1) new)) e
-
-  pub loses_later : (not (eqb (get_or old i 0) unassigned) && eqb (get_or new i 0) unassigned) ≡ false → loses (drop i old) (drop i new) ≡ loses (drop (i + 1) old) (drop (i + 1) new)
-  loses_later e = loses_cut ∙ ap (λ (b : Bool). b || loses (drop (i + 1) old) (drop (i + 1) new)) e
-
-pub loses_none : (old new : List ℕ) (i : ℕ) → length old ≤ i → loses (drop i old) (drop i new) ≡ false
+-- as a test of the pairs
+pub loses_any : (old new : List ℕ) → list_any (λ (p : ℕ × ℕ). not (eqb p.0 unassigned) && eqb p.1 unassigned) (zip old new) ≡ loses old new
 unfolding loses
-loses_none old new i h = rw (drop_of_length-le old h)
+loses_any [] new = refl
+loses_any (c ∷ cs) [] = refl
+loses_any (c ∷ cs) (d ∷ ds) = ap (λ (b : Bool). not (eqb c unassigned) && eqb d unassigned || b) (loses_any cs ds)
 
 neither : (b : Bool) → (not b && b) ≡ false
 neither true = refl

@@ -7,7 +7,6 @@ use mathlib.Core.Bool.{Bool, true, false}
 use mathlib.Core.Option.{Option, none, some}
 use mathlib.Core.List.{List, [], ◌∷◌, ◌++◌, append_assoc}
 use lib.ListN.{length, drop, length-append}
-use Rattle.words.specs.Values.{told}
 use Rattle.pages.specs.Pages.{Puts}
 use Rattle.pages.proofs.Laws.{puts_length}
 use Rattle.folded.specs.Pieces.{Piece, laid}
@@ -17,14 +16,14 @@ use Rattle.folded.proofs.Stretches.{row_is, self_loses}
 use Rattle.pens.specs.Pens.{Writes}
 use Rattle.pens.specs.declared.Pen.{Pen}
 use Rattle.stretches.specs.Rows.{row_in}
-use Rattle.stretches.specs.Folding.{Onward, ahead, left_by, begins, Follows, Takes, Ends}
+use Rattle.stretches.specs.Folding.{in_force, Onward, ahead, left_by, begins, Follows, Takes, Ends}
 use Rattle.stretches.specs.declared.Folding.{Folding}
 use Rattle.stretches.proofs.Laws.{row_kept}
 use Rattle.stretches.proofs.Writing.{onward_none, onward_more, onward_both, onward_from, onward_pen, own_flush, own_opened, own_closed}
 
 -- the same but for how often the row in hand came
 abbrev pub counted : Folding → ℕ → Folding
-counted f n = record { pen = f.pen; pattern = f.pattern; chosen = f.chosen; table = f.table; times = n }
+counted f n = record { pen = f.pen; pattern = f.pattern; table = f.table; times = n }
 
 begins_some : (x : Row) (c : ℕ) (ys : List Row) → 1 ≤ c → begins x c ys ≡ begun x ys
 unfolding begins
@@ -67,7 +66,7 @@ module _ (signals tables : List (List ℕ)) where
   unfolding ahead begins
   follows_first entry f x y e = record {
     kept = refl;
-    on = λ more behind. onward_from (ap (λ (c : ℕ). laid (ahead signals tables f.pattern (told f.chosen f.table) x c (y ∷ more) behind)) e) refl (onward_none entry f.pen _);
+    on = λ more behind. onward_from (ap (λ (c : ℕ). laid (ahead signals tables f.pattern (in_force f.table) x c (y ∷ more) behind)) e) refl (onward_none entry f.pen _);
     counts = λ more. ap (λ (c : ℕ). f.pattern + begins x c (y ∷ more)) e;
     few_times = omega arith;
     few_patterns = omega arith;
@@ -80,7 +79,7 @@ module _ (signals tables : List (List ℕ)) where
       let same = row_is x y e in
       let kept : loses x.pins y.pins ≡ false = ap (λ (z : Row). loses x.pins z.pins) (sym same) ∙ self_loses x.pins in
       let i = f.pattern in
-      let t = told f.chosen f.table in
+      let t = in_force f.table in
       let c = f.times in
       record {
         kept = refl;
@@ -95,19 +94,19 @@ module _ (signals tables : List (List ℕ)) where
       }
 
   module _ {entry mid : List ℕ} {f : Folding} {x y : Row} {p : Pen} (h : 1 ≤ f.times) (e : same_row x y ≡ false)
-      (w : Writes entry f.pen (laid (flushed signals tables (told f.chosen f.table) x f.times [])) mid p) where
+      (w : Writes entry f.pen (laid (flushed signals tables (in_force f.table) x f.times [])) mid p) where
     -- a Pattern begins
     pub follows_lost : {exit : List ℕ} {r : Folding} → loses x.pins y.pins ≡ true → Writes mid p (laid (closed (opened (f.pattern + 1) []))) exit r.pen
-        → r.pattern ≡ f.pattern + 1 → told r.chosen r.table ≡ none → r.times ≡ 1 → Follows signals tables entry f x y exit r
+        → r.pattern ≡ f.pattern + 1 → in_force r.table ≡ none → r.times ≡ 1 → Follows signals tables entry f x y exit r
     follows_lost {exit} {r} l v n m o =
         let i = f.pattern in
-        let t = told f.chosen f.table in
+        let t = in_force f.table in
         let part : (k : List Piece) → laid (closed (opened (i + 1) k)) ≡ laid (closed (opened (i + 1) [])) ++ laid k =
         λ k. own_closed (opened (i + 1) k) ∙ ap (λ (z : List ℕ). 125 ∷ 10 ∷ z) (own_opened (i + 1) k) ∙ ap (λ (z : List ℕ). z ++ laid k) (sym (own_closed (opened (i + 1) []))) in
         record {
           kept = v.kept ∙ w.kept;
           on = λ more behind.
-              onward_from refl (sym (ap laid (ap₂ (λ (a : ℕ) (b : ℕ). ahead signals tables a (told r.chosen r.table) y b more behind) n o ∙ ap (λ (z : Option ℕ). ahead signals tables (i + 1) z y 1 more behind) m ∙ ahead_some (i + 1) none y 1 more behind (omega arith))))
+              onward_from refl (sym (ap laid (ap₂ (λ (a : ℕ) (b : ℕ). ahead signals tables a (in_force r.table) y b more behind) n o ∙ ap (λ (z : Option ℕ). ahead signals tables (i + 1) z y 1 more behind) m ∙ ahead_some (i + 1) none y 1 more behind (omega arith))))
               (onward_more (onward_more (onward_none entry f.pen _) w
               (ap laid (ahead_some i t x f.times (y ∷ more) behind h ∙ rest_by i t x y f.times more behind l e
               ∙ ap (λ (j : ℕ). flushed signals tables t x f.times (closed (opened j (rest signals tables j none y 1 more behind)))) (sym (add-one i)))
@@ -120,11 +119,11 @@ module _ (signals tables : List (List ℕ)) where
 
     -- none does
     pub follows_other : {r : Folding} → loses x.pins y.pins ≡ false → r.pen ≡ p
-        → r.pattern ≡ f.pattern → told r.chosen r.table ≡ some x.table → r.times ≡ 1 → Follows signals tables entry f x y mid r
-    follows_other {r} l q n m o = let i = f.pattern in let t = told f.chosen f.table in record {
+        → r.pattern ≡ f.pattern → in_force r.table ≡ some x.table → r.times ≡ 1 → Follows signals tables entry f x y mid r
+    follows_other {r} l q n m o = let i = f.pattern in let t = in_force f.table in record {
       kept = w.kept;
       on = λ more behind.
-          onward_from refl (sym (ap laid (ap₂ (λ (a : ℕ) (b : ℕ). ahead signals tables a (told r.chosen r.table) y b more behind) n o ∙ ap (λ (z : Option ℕ). ahead signals tables i z y 1 more behind) m ∙ ahead_some i (some x.table) y 1 more behind (omega arith))))
+          onward_from refl (sym (ap laid (ap₂ (λ (a : ℕ) (b : ℕ). ahead signals tables a (in_force r.table) y b more behind) n o ∙ ap (λ (z : Option ℕ). ahead signals tables i z y 1 more behind) m ∙ ahead_some i (some x.table) y 1 more behind (omega arith))))
           (onward_pen q
           (onward_more (onward_none entry f.pen _) w
           (ap laid (ahead_some i t x f.times (y ∷ more) behind h ∙ rest_by i t x y f.times more behind l e) ∙ own_flush signals tables t x f.times _)));
@@ -231,17 +230,17 @@ module _ (signals tables : List (List ℕ)) where
   ends_empty {n} {entry} {exit} {hand} {f} e w = record {
     kept = w.kept;
     on = λ behind. onward_more (onward_none entry f.pen _) w
-        (ap (λ (c : ℕ). laid (ahead signals tables f.pattern (told f.chosen f.table) (row_in n hand) c [] behind)) e ∙ own_closed (behind (suc f.pattern)));
+        (ap (λ (c : ℕ). laid (ahead signals tables f.pattern (in_force f.table) (row_in n hand) c [] behind)) e ∙ own_closed (behind (suc f.pattern)));
   }
 
   pub ends_row : {n : ℕ} {entry mid exit hand : List ℕ} {f : Folding} {p r : Pen} → 1 ≤ f.times
-      → Writes entry f.pen (laid (flushed signals tables (told f.chosen f.table) (row_in n hand) f.times [])) mid p → Writes mid p (125 ∷ 10 ∷ []) exit r → Ends signals tables n entry f hand exit r
+      → Writes entry f.pen (laid (flushed signals tables (in_force f.table) (row_in n hand) f.times [])) mid p → Writes mid p (125 ∷ 10 ∷ []) exit r → Ends signals tables n entry f hand exit r
   unfolding rest
   ends_row {n} {entry} {mid} {exit} {hand} {f} h w v = record {
     kept = v.kept ∙ w.kept;
     on = λ behind. onward_more
         (onward_more (onward_none entry f.pen _) w
-        (ap laid (ahead_some f.pattern (told f.chosen f.table) (row_in n hand) f.times [] behind h) ∙ own_flush signals tables (told f.chosen f.table) (row_in n hand) f.times _))
+        (ap laid (ahead_some f.pattern (in_force f.table) (row_in n hand) f.times [] behind h) ∙ own_flush signals tables (in_force f.table) (row_in n hand) f.times _))
         v (own_closed (behind (suc f.pattern)));
   }
 

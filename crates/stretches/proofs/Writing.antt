@@ -3,8 +3,10 @@ use Prim.Native.Nat.{ℕ, suc, ◌+◌, ◌≤◌, ◌<◌}
 use native.Mathlib.Omega.{arith}
 use native.Mathlib.Numerals.{add-one}
 use mathlib.Core.Path.{◌≡◌, refl, sym, ap, ◌∙◌}
-use mathlib.Core.Bool.{Bool, true, false, ◌&&◌}
+use mathlib.Core.Bool.{Bool, true, false}
 use mathlib.Core.Option.{Option}
+use Rattle.std.specs.Prelude.{Option as Maybe, Some, None}
+use Rattle.std.specs.Option.{option_eq}
 use mathlib.Core.List.{List, [], ◌∷◌, ◌++◌, append_assoc, append-nil}
 use lib.Dec.{eqb, leb}
 use lib.ListN.{length, get_or, drop, drop_of_length-le}
@@ -13,7 +15,6 @@ use borrow.Author.Tests.{le-leb, lt-leb, eq-eqb, ne_eqb}
 use Rattle.tokens.specs.Written.{bytes}
 use Rattle.meaning.specs.Body.{Assigns}
 use Rattle.meaning.specs.Run.{unassigned}
-use Rattle.words.specs.Values.{told}
 use Rattle.pages.specs.Pages.{decimal}
 use Rattle.folded.specs.Pieces.{Piece, word, only, laid, each, lf, closing}
 use Rattle.folded.specs.Flat.{Row, Line, chooses, repeats, valued, choosing}
@@ -24,7 +25,7 @@ use Rattle.pens.specs.declared.Pen.{Pen}
 use Rattle.pens.proofs.Laws.{writes_both, writes_same}
 use Rattle.folds.proofs.Laws.{laid_behind, writes_nothing}
 use Rattle.stretches.specs.Rows.{value_bytes}
-use Rattle.stretches.specs.Folding.{Onward}
+use Rattle.stretches.specs.Folding.{in_force, Onward}
 
 -- ---- what is written, and what is left
 
@@ -168,37 +169,31 @@ module _ (signals tables : List (List ℕ)) where
   unfolding line_put laid bytes
   chooses_is k = refl
 
-  module _ (chosen : Bool) (table c : ℕ) (x : Row) where
+  module _ (t : Maybe ℕ) (c : ℕ) (x : Row) where
     -- the table is in force
-    pub flush_same : (chosen && eqb table x.table) ≡ true → laid (line_put signals [] (repeats c (valued 0 x.pins)) []) ≡ laid (flushed signals tables (told chosen table) x c [])
+    pub flush_same : option_eq eqb t (Some x.table) ≡ true → laid (line_put signals [] (repeats c (valued 0 x.pins)) []) ≡ laid (flushed signals tables (in_force t) x c [])
     unfolding flushed each choosing line_put
-    flush_same e = by chosen (eqb table x.table) refl e
+    flush_same e = by t e
       where
-        by : (a b : Bool) → eqb table x.table ≡ b → (a && b) ≡ true → laid (line_put signals [] (repeats c (valued 0 x.pins)) [])
-            ≡ laid (each (line_put signals tables) (choosing (told a table) x.table (repeats c (valued 0 x.pins) ∷ [])) [])
-        by true true q e = rw (q, choosing)
-        by true false q e = absurd (let z : ◌≡◌ {A = ℕ} 0 1 = cc in omega arith)
-        by false b q e = absurd (let z : ◌≡◌ {A = ℕ} 0 1 = cc in omega arith)
+        by : (t : Maybe ℕ) → option_eq eqb t (Some x.table) ≡ true → laid (line_put signals [] (repeats c (valued 0 x.pins)) [])
+            ≡ laid (each (line_put signals tables) (choosing (in_force t) x.table (repeats c (valued 0 x.pins) ∷ [])) [])
+        by None e = absurd (let z : ◌≡◌ {A = ℕ} 0 1 = cc in omega arith)
+        by (Some k) e = rw (e, choosing)
 
     -- or is chosen first
-    pub flush_other : (chosen && eqb table x.table) ≡ false
-        → laid (line_put [] tables (chooses x.table) []) ++ laid (line_put signals [] (repeats c (valued 0 x.pins)) []) ≡ laid (flushed signals tables (told chosen table) x c [])
+    pub flush_other : option_eq eqb t (Some x.table) ≡ false
+        → laid (line_put [] tables (chooses x.table) []) ++ laid (line_put signals [] (repeats c (valued 0 x.pins)) []) ≡ laid (flushed signals tables (in_force t) x c [])
     unfolding flushed each choosing line_put
-    flush_other e = by chosen (eqb table x.table) refl e
+    flush_other e = by t e
       where
         first : laid (line_put [] tables (chooses x.table) []) ++ laid (line_put signals [] (repeats c (valued 0 x.pins)) [])
             ≡ laid (line_put signals tables (chooses x.table) (line_put signals tables (repeats c (valued 0 x.pins)) []))
         first = sym (own_line (chooses x.table) (line_put signals tables (repeats c (valued 0 x.pins)) []))
 
-        by : (a b : Bool) → eqb table x.table ≡ b → (a && b) ≡ false → laid (line_put [] tables (chooses x.table) []) ++ laid (line_put signals [] (repeats c (valued 0 x.pins)) [])
-            ≡ laid (each (line_put signals tables) (choosing (told a table) x.table (repeats c (valued 0 x.pins) ∷ [])) [])
-        by true true q e = absurd (let z : ◌≡◌ {A = ℕ} 0 1 = cc in omega arith)
-        by true false q e = rw (q, choosing) first
-        by false b q e = first
-
--- as the code tests it
-pub flush_as : (chosen : Bool) (table : ℕ) {k m : ℕ} {b : Bool} → k ≡ m → (chosen && eqb table k) ≡ b → (chosen && eqb table m) ≡ b
-flush_as chosen table e f = ap (λ (k : ℕ). chosen && eqb table k) (sym e) ∙ f
+        by : (t : Maybe ℕ) → option_eq eqb t (Some x.table) ≡ false → laid (line_put [] tables (chooses x.table) []) ++ laid (line_put signals [] (repeats c (valued 0 x.pins)) [])
+            ≡ laid (each (line_put signals tables) (choosing (in_force t) x.table (repeats c (valued 0 x.pins) ∷ [])) [])
+        by None e = first
+        by (Some k) e = rw (e, choosing) first
 
 -- ---- Patterns
 

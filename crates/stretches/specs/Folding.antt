@@ -1,8 +1,7 @@
 -- What is promised of rows that are folded one after the other: what was written, and what is then still to be written.
-use Rattle.std.specs.Prelude.{ℕ, zero, suc, ◌+◌, ◌≤◌, ◌<◌, ◌≡◌, List, [], ◌∷◌, ◌++◌, length}
-use Rattle.std.proofs.Math.Option.{Option, none}
+use Rattle.std.specs.Prelude.{ℕ, zero, suc, ◌+◌, ◌≤◌, ◌<◌, ◌≡◌, List, [], ◌∷◌, ◌++◌, length, Option as Maybe, Some, None}
+use Rattle.std.proofs.Math.Option.{Option, none, some}
 use Rattle.meaning.specs.Bounds.{cycles_most}
-use Rattle.words.specs.Values.{told}
 use Rattle.folded.specs.Pieces.{Piece, laid}
 use Rattle.folded.specs.Flat.{Row}
 use Rattle.folded.specs.Walk.{opened, closed, rest, begun}
@@ -10,6 +9,11 @@ use Rattle.pens.specs.Pens.{Writes}
 use Rattle.pens.specs.declared.Pen.{Pen}
 use Rattle.stretches.specs.Rows.{row_in}
 use Rattle.stretches.specs.declared.Folding.{Folding}
+
+-- the table in force, as the code holds it
+abbrev pub in_force : Maybe ℕ → Option ℕ
+in_force None = none
+in_force (Some k) = some k
 
 -- of all that is to be written some bytes were, and `left` is still to come
 pub record Onward (entry : List ℕ) (pen : Pen) (all exit : List ℕ) (r : Pen) (left : List ℕ) : Type 0 where
@@ -26,7 +30,7 @@ module _ (signals tables : List (List ℕ)) where
 
   -- what is left to write where the row x is in hand: of the rows ys, and then what stands behind
   abbrev pub left_by : Folding → Row → List Row → (ℕ → List Piece) → List ℕ
-  left_by f x ys behind = laid (ahead f.pattern (told f.chosen f.table) x f.times ys behind)
+  left_by f x ys behind = laid (ahead f.pattern (in_force f.table) x f.times ys behind)
 
 -- how many Patterns begin behind the row in hand, or behind the first row
 unfoldable pub begins : Row → ℕ → List Row → ℕ
@@ -69,5 +73,5 @@ module _ (signals tables : List (List ℕ)) where
 pub record Opens (entry : List ℕ) (pen : Pen) (i : ℕ) (exit : List ℕ) (r : Folding) : Type 0 where
   pub writes : Writes entry pen (laid (opened i [])) exit r.pen
   pub number : r.pattern ≡ i
-  pub no_table : told r.chosen r.table ≡ none
+  pub no_table : in_force r.table ≡ none
   pub no_row : r.times ≡ 0

@@ -5,14 +5,13 @@
 ghost use Rattle.std.specs.Prelude.{◌≡◌, [], ◌∷◌, ◌++◌, true, false, ◌+◌, ◌*◌, ◌-◌, ◌≤◌, ◌<◌, suc, length, get_or};
 ghost use Rattle.meaning.specs.Bounds.{cycles_most};
 ghost use Rattle.words.specs.Table.{name_of};
-ghost use Rattle.words.specs.Values.{told};
 ghost use Rattle.folded.specs.Pieces.{laid};
 ghost use Rattle.folded.specs.Flat.{loses as loses_of, same_row, chooses, repeats, valued};
 ghost use Rattle.folded.specs.Layout.{name_at, vector_put, line_put};
 ghost use Rattle.folded.specs.Walk.{opened, closed, flushed};
 ghost use Rattle.pens.specs.Pens.{Writes};
 ghost use Rattle.stretches.specs.Rows.{row_in, rows_in, words_in, value_bytes};
-ghost use Rattle.stretches.specs.Folding.{Taking, Follows, Takes, Opens, Ends};
+ghost use Rattle.stretches.specs.Folding.{in_force, Taking, Follows, Takes, Opens, Ends};
 
 use pens::Pen;
 
@@ -29,8 +28,7 @@ const ZERO: u8 = 48;
 pub struct Folding {
     pub pen: Pen,
     pub pattern: usize,
-    pub chosen: bool,
-    pub table: usize,
+    pub table: Option<usize>,
     pub times: usize,
 }
 
@@ -38,17 +36,11 @@ pub struct Folding {
 
 // Does some pin go from assigned to unassigned?
 fn loses(old: &[u8], new: &[u8]) -> bool
-    requires { length old.now ≡ length new.now }
     ensures { result ≡ loses_of old.now new.now }
 {
-    let mut i = 0;
-    while i < old.len() {
-        if (old[i] != UNASSIGNED) & (new[i] == UNASSIGNED) {
-            return true;
-        }
-        i += 1;
-    }
-    false
+    old.iter()
+        .zip(new)
+        .any(|(o, n)| (*o != UNASSIGNED) & (*n == UNASSIGNED))
 }
 
 // The number of a row's table.
@@ -91,10 +83,8 @@ fn vector<'a>(page: &mut [u8], pen: Pen, text: &'a [u8], places: &'a [usize], pi
     ensures { Writes page.old pen (laid (vector_put (words_in text.now places.now (length pins.now)) (valued 0 pins.now) [])) page.new result }
 {
     let mut p = pens::add(page, pen, b"V{");
-    let mut s = 0;
-    while s < pins.len() {
-        p = value(page, p, text, places, s, pins[s]);
-        s += 1;
+    for (s, c) in pins.iter().enumerate() {
+        p = value(page, p, text, places, s, *c);
     }
     pens::add(page, p, b"}")
 }
@@ -159,14 +149,14 @@ fn flush<'a>(
     hand: &[u8],
 ) -> Pen
     requires { signals < length hand.now }
-    ensures { Writes page.old f.pen (laid (flushed (words_in text.now places.now signals) (words_in text.now tplaces.now tables) (told f.chosen f.table) (row_in signals hand.now) f.times [])) page.new result }
+    ensures { Writes page.old f.pen (laid (flushed (words_in text.now places.now signals) (words_in text.now tplaces.now tables) (in_force f.table) (row_in signals hand.now) f.times [])) page.new result }
 {
     let pen = f.pen;
-    if pen.full {
+    if pen.at.is_none() {
         return pen;
     }
     let table = table_of(hand, signals);
-    if f.chosen & (f.table == table) {
+    if f.table == Some(table) {
         return repeat(page, pen, text, places, f.times, &hand[..signals]);
     }
     let p = choose(page, pen, text, tplaces, tables, table);
@@ -192,8 +182,7 @@ pub fn begin(page: &mut [u8], pen: Pen, i: usize) -> Folding
     Folding {
         pen: p,
         pattern: i,
-        chosen: false,
-        table: 0,
+        table: None,
         times: 0,
     }
 }
@@ -228,8 +217,7 @@ fn next<'a>(
         return Folding {
             pen: q,
             pattern: i,
-            chosen: false,
-            table: 0,
+            table: None,
             times: 1,
         };
     }
@@ -237,8 +225,7 @@ fn next<'a>(
     Folding {
         pen: p,
         pattern: f.pattern,
-        chosen: true,
-        table,
+        table: Some(table),
         times: 1,
     }
 }
@@ -258,23 +245,13 @@ fn step<'a>(
     requires { Taking signals f 1 hand.now × (length row.now ≡ signals + 2) }
     ensures { Follows (words_in text.now places.now signals) (words_in text.now tplaces.now tables) page.old f (row_in signals hand.now) (row_in signals row.now) page.new result }
 {
-    let pen = f.pen;
     if f.times == 0 {
-        return Folding {
-            pen,
-            pattern: f.pattern,
-            chosen: f.chosen,
-            table: f.table,
-            times: 1,
-        };
+        return Folding { times: 1, ..f };
     }
     if same_row(hand, row, signals) {
         return Folding {
-            pen,
-            pattern: f.pattern,
-            chosen: f.chosen,
-            table: f.table,
             times: f.times + 1,
+            ..f
         };
     }
     next(page, f, text, places, tplaces, tables, signals, hand, row)
@@ -320,8 +297,7 @@ pub fn rows<'a>(
     ensures { Takes (words_in text.now places.now signals) (words_in text.now tplaces.now tables) signals page.old f hand.old (rows_in signals buffer.now 0 count) page.new result hand.new }
 {
     let mut g = f;
-    let mut r = 0;
-    while r < count {
+    for r in 0..count {
         let at = r * (signals + TAIL);
         let end = at + (signals + TAIL);
         g = turn(
@@ -335,7 +311,6 @@ pub fn rows<'a>(
             hand,
             &buffer[at..end],
         );
-        r += 1;
     }
     g
 }

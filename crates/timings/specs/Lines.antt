@@ -1,14 +1,13 @@
 -- Lines of Timing as the code writes them.
-use Rattle.std.specs.Prelude.{ℕ, ◌≤◌, ◌<◌, ◌≡◌, List, [], ◌∷◌, ◌++◌, length, get_or, drop}
+use Rattle.std.specs.Prelude.{ℕ, ◌≡◌, List, [], ◌∷◌, ◌++◌}
 use Rattle.tokens.specs.Written.{bytes}
 use Rattle.tokens.specs.Tokens.{Tok}
-use Rattle.meaning.specs.Timing.{Wave, Table, Tables}
+use Rattle.meaning.specs.Timing.{Table, Tables}
 use Rattle.folded.specs.Pieces.{only, laid, each, lf, closing}
-use Rattle.folded.specs.Flat.{Chart, Sheet, entries_of, charts_from, sheets}
+use Rattle.folded.specs.Flat.{Chart, Sheet, charts_from, sheets}
 use Rattle.folded.specs.Layout.{timed, chart_put, sheet_put}
 use Rattle.pens.specs.Pens.{Writes}
 use Rattle.pens.specs.declared.Pen.{Pen}
-use Rattle.spots.specs.Spots.{spot_at, Spots}
 
 -- the first line of a table
 unfoldable pub titled : List ℕ → ℕ → List ℕ
@@ -33,10 +32,3 @@ pub record MoreSheets (before : List ℕ) (pen : Pen) (signals : List Tok) (tabs
   pub more : Tables
   pub is : it ≡ tabs ++ more
   pub writes : Writes before pen (laid (each sheet_put (sheets signals more) [])) after r
-
--- r is the number of the first character from number i on that has a spot
-pub record Next (spots chars : List ℕ) (s i r : ℕ) : Type 0 where
-  pub on : i ≤ r
-  pub within : r ≤ length chars
-  pub here : r < length chars → spot_at spots s (get_or chars r 0) ≡ 0 → ⊥
-  pub same : (text : List ℕ) (ws : List Wave) → Spots text spots ws → entries_of s ws (drop i chars) ≡ entries_of s ws (drop r chars)

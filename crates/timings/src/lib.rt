@@ -1,7 +1,8 @@
 // Timing of a folded text: the tables of an accepted text, read once more and written to a page, each signal's characters in the order of their bytes.
 #![tactic(auto)]
 
-ghost use Rattle.std.specs.Prelude.{◌≡◌, ◌≤◌, ◌<◌, List, [], length};
+ghost use Rattle.std.specs.Prelude.{◌≡◌, ◌≤◌, ◌<◌, List, [], length, eqb};
+ghost use Rattle.std.specs.List.{list_all};
 ghost use Rattle.tokens.specs.Tokens.{Toks};
 ghost use Rattle.meaning.specs.Bounds.{signals_most};
 ghost use Rattle.meaning.specs.Reader.{until as until_of};
@@ -14,8 +15,8 @@ ghost use Rattle.folded.specs.Flat.{characters, entries_of, chart as chart_of, c
 ghost use Rattle.folded.specs.Layout.{event_put, entry_put, chart_put, timing_put};
 ghost use Rattle.pens.specs.Pens.{Writes};
 ghost use Rattle.spots.specs.Answers.{Answers, Behind};
-ghost use Rattle.spots.specs.Spots.{bytes_most, spots_most, Spots, Listed, signals_in};
-ghost use Rattle.timings.specs.Lines.{titled, charted, OneSheet, MoreSheets, Next};
+ghost use Rattle.spots.specs.Spots.{bytes_most, spots_most, spot_at, Spots, Listed, signals_in};
+ghost use Rattle.timings.specs.Lines.{titled, charted, OneSheet, MoreSheets};
 
 use pens::Pen;
 use spots::BYTES;
@@ -43,27 +44,18 @@ fn entry(page: &mut [u8], pen: Pen, text: &[u8], place: usize, char: u8) -> Pen
     let n = waves::read(text, place, char, &mut times, &mut letters);
     let head = [char, b'{'];
     let mut p = pens::add(page, pen, &head);
-    let mut i = 0;
-    while i < n {
+    for i in 0..n {
         p = event(page, p, times[i], letters[i]);
-        i += 1;
     }
     pens::add(page, p, b"}")
 }
 
-// The number of the first character from number i on that has a spot.
-fn next(spots: &[usize], chars: &[u8], s: usize, i: usize) -> usize
-    requires { (length spots.now ≡ spots_most) × (s < signals_most) × (i ≤ length chars.now) }
-    ensures { Next spots.now chars.now s i result }
+// Has signal s no waveform for any of these characters?
+fn is_bare(spots: &[usize], chars: &[u8], s: usize) -> bool
+    requires { (length spots.now ≡ spots_most) × (s < signals_most) }
+    ensures { result ≡ list_all (λ c. eqb (spot_at spots.now s c) 0) chars.now }
 {
-    let mut i = i;
-    while i < chars.len() {
-        if spots[s * BYTES + chars[i] as usize] != 0 {
-            return i;
-        }
-        i += 1;
-    }
-    i
+    chars.iter().all(|c| spots[s * BYTES + *c as usize] == 0)
 }
 
 // NAME{CHARACTER{'T'E;..}..}: the line of signal s, nothing where it has no character.
@@ -80,17 +72,16 @@ fn chart<'a>(
     requires spots { (ws : List Wave) × Spots text.now spots.now ws }
     ensures { (ws : List Wave) → Spots text.now spots.now ws → Writes page.old pen (laid (each chart_put (chart_of name.now s (entries_of s ws chars.now) []) [])) page.new result }
 {
-    let first = next(spots, chars, s, 0);
-    if chars.len() <= first {
+    if is_bare(spots, chars, s) {
         return pen;
     }
     let q = pens::add(page, pen, name);
     let mut p = pens::add(page, q, b"{");
-    let mut i = first;
-    while i < chars.len() {
-        let char = chars[i];
-        p = entry(page, p, text, spots[s * BYTES + char as usize] - 1, char);
-        i = next(spots, chars, s, i + 1);
+    for char in chars {
+        let spot = spots[s * BYTES + *char as usize];
+        if spot != 0 {
+            p = entry(page, p, text, spot - 1, *char);
+        }
     }
     pens::add(page, p, b"}\n")
 }
@@ -110,11 +101,9 @@ fn charts<'a>(
     ensures { (ws : List Wave) → Spots text.now spots.now ws → Writes page.old pen (laid (each chart_put (charts_from 0 (signals_in text.now places.now count) ws) [])) page.new result }
 {
     let mut p = pen;
-    let mut i = 0;
-    while i < count {
+    for i in 0..count {
         let name = words::name_bytes(text, places, i);
         p = chart(page, p, text, name, chars, spots, i);
-        i += 1;
     }
     p
 }

@@ -25,12 +25,6 @@ overflow_add-reached-in-loop-number c =
     let h = c.requires.lists in
     record { fits = omega (arith, next_fits h c.loop-number-test.true (c.loop-number.invariant _ _ h).left c.listed_at-s.ensures) }
 
-pub overflow_add-number : goal.overflow_add-number
-overflow_add-number c = record { fits = omega (arith, c.loop-number-test.true, c.requires.lists.few_listed) }
-
-pub loop-number-smaller : goal.loop-number-smaller
-loop-number-smaller c = omega (arith, c.loop-number-test.true)
-
 pub loop-number-preserved : goal.loop-number-preserved
 loop-number-preserved c = λ ps run h. held_later h (c.loop-number.invariant ps run h) c.loop-number-test.true c.listed_at-s.ensures c.if-n-reached.false
 

@@ -1,4 +1,3 @@
-use Prim.Native.Nat.{◌-◌}
 use Rattle.meaning.specs.Body.{Body}
 use Rattle.meaning.specs.Statements.{Decls}
 use Rattle.index.specs.Lines.{Lists}
@@ -7,6 +6,3 @@ use Rattle.index.proofs.holder.Given as goal
 
 abbrev pub invariant-loop-number : goal.invariant-loop-number
 invariant-loop-number l = (ps : Decls) (run : Body) (h : Lists l.text l.book l.list l.listed l.patterns ps run) → Unheld h l.n l.reached l.number
-
-abbrev pub decreases-loop-number : goal.decreases-loop-number
-decreases-loop-number l = l.listed - l.number

@@ -1,13 +1,9 @@
 -- `entry` meets its contract: CHARS, the first event and the others, as the definition read them.
-use mathlib.Core.Path.{refl}
 use lib.ListN.{length}
 use Rattle.tokens.specs.Written.{bytes}
-use Rattle.quiet.proofs.Keeping.{keeps_nothing}
+use Rattle.quiet.proofs.Keeping.{some_where}
 use Rattle.quiet.proofs.Reading.{entry_reads, entry_keeps}
 use Rattle.quiet.proofs.entry.Goals as goal
-
-pub returns-then-not-within : goal.returns-then-not-within
-returns-then-not-within c = λ sigs. keeps_nothing refl
 
 pub events-requires : goal.events-requires
 unfolding bytes
@@ -18,9 +14,7 @@ events-requires c =
 pub returns : goal.returns
 unfolding bytes
 returns c =
-    λ sigs. record {
-      on = λ e ws a us h y.
-          let x = entry_reads (y) c.word-d.ensures c.due-e.ensures c.event-first.ensures (c.within.ensures c.if-not-within.false) in
-          let k = (c.events.ensures (length x.chars) x.some x.few).on e x.first x.events us x.lined x.rest in
-          (k.0, entry_keeps x h k.1);
-    }
+    λ sigs. some_where c.events.result (λ d e ws a us h y.
+    let x = entry_reads y c.word-d.ensures c.due-e.ensures c.event-first.ensures (c.within.ensures c.if-not-within.false) in
+    let k = (rw e at (c.events.ensures (length x.chars) x.some x.few)) x.first x.events us x.lined x.rest in
+    (k.0, entry_keeps x h k.1))

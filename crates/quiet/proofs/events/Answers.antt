@@ -1,17 +1,12 @@
 -- `events` meets its contract. The invariant: from here the definition reads on to the entry's end, and its events so far lie within the cycle.
-use mathlib.Core.Path.{refl}
 use Rattle.tokens.specs.Written.{bytes}
 use Rattle.spots.proofs.Following.{again, fewer, ended}
 use Rattle.held.proofs.Grammar.{moves_event}
-use Rattle.quiet.proofs.Keeping.{keeps_nothing}
 use Rattle.quiet.proofs.Reading.{event_keeps}
 use Rattle.quiet.proofs.events.Goals as goal
 
 pub loop-e-init : goal.loop-e-init
 loop-e-init c = λ n z k s es us h x. record { state = s; kept = h; rest = x }
-
-pub returns-then-not-within : goal.returns-then-not-within
-returns-then-not-within c = λ n z k. keeps_nothing refl
 
 pub loop-e-smaller : goal.loop-e-smaller
 unfolding bytes
@@ -26,4 +21,4 @@ loop-e-preserved c = λ n z k s es us h x. again (moves_event n) (c.loop-e.invar
 
 pub returns : goal.returns
 unfolding bytes
-returns c = λ n z k. record { on = λ e s es us h x. ended (moves_event n) (c.loop-e.invariant n z k s es us h x) c.until.ensures c.loop-e-test.false c.due-behind.ensures }
+returns c = λ n z k s es us h x. ended (moves_event n) (c.loop-e.invariant n z k s es us h x) c.until.ensures c.loop-e-test.false c.due.ensures

@@ -1,8 +1,9 @@
 -- `is_quiet` meets its contract: a text that was read is read again up to its Timing, and its tables have a border.
-use mathlib.Core.Path.{refl}
+use mathlib.Core.Path.{refl, sym, ◌∙◌}
 use Rattle.declared.proofs.Numbers.{blank_chains}
 use Rattle.spots.proofs.Accepting.{timing_read}
 use Rattle.quiet.proofs.Bordering.{inside_runs}
+use Rattle.quiet.proofs.Keeping.{when_some}
 use Rattle.quiet.proofs.is_quiet.Goals as goal
 
 pub front-f-requires : goal.front-f-requires
@@ -18,4 +19,4 @@ pub returns : goal.returns
 returns c =
     λ e d ts q n run.
     let t = timing_read d ts q c.opening-c.ensures c.front-f.ensures in
-    inside_runs d.tables (c.tables.ensures e _ d.tables t.rest t.answers) n run
+    inside_runs d.tables (when_some c.tables.result (sym c.is_some.ensures ∙ e) c.tables.ensures _ d.tables t.rest t.answers) n run

@@ -1,5 +1,6 @@
 -- `named` meets its contract: a name, and its entries.
 use Rattle.tokens.specs.Written.{bytes}
+use Rattle.quiet.proofs.Keeping.{some_where}
 use Rattle.quiet.proofs.Reading.{name_reads}
 use Rattle.quiet.proofs.named.Goals as goal
 
@@ -13,6 +14,5 @@ entries-requires c =
 pub returns : goal.returns
 unfolding bytes
 returns c =
-    λ ns. record {
-      on = λ e ws a us h y. let x = name_reads ns ws y c.name-d.ensures c.due-e.ensures in (c.entries.ensures x.0).on e ws a us h x.1;
-    }
+    λ ns. some_where c.entries.result (λ d e ws a us h y.
+    let x = name_reads ns ws y c.name-d.ensures c.due-e.ensures in (rw e at (c.entries.ensures x.0)) ws a us h x.1)

@@ -1,14 +1,14 @@
--- `lines` meets its contract. The invariant: the names up to number i have their lines, and there is room for a line for each other.
+-- `lines` meets its contract. The invariant: the names up to number i have their lines.
 use Prim.Native.Nat.{◌≤◌}
 use native.Mathlib.Omega.{arith}
-use mathlib.Core.Path.{◌≡◌, refl, ap}
+use mathlib.Core.Path.{◌≡◌, ap}
 use lib.ListN.{length}
 use Rattle.meaning.specs.Bounds.{name_most}
 use Rattle.sections.proofs.Laws.{no_lines, name_short, line_adds}
 use Rattle.sections.proofs.lines.Goals as goal
 
 pub loop-i-init : goal.loop-i-init
-loop-i-init c = (omega arith, refl, no_lines _ _ _ _)
+loop-i-init c = no_lines _ _ _ _
 
 pub put-end-requires : goal.put-end-requires
 put-end-requires c =
@@ -22,12 +22,6 @@ put-end-requires-in-loop-i c =
     let short = name_short a.text.now a.places.now c.loop-i.i c.requires.0 c.loop-i-test.true in
     omega (arith, ap length c.name_bytes.ensures, c.put-end, c.requires)
 
-pub overflow_add-i : goal.overflow_add-i
-overflow_add-i c = omega (arith, c.requires)
-
-pub loop-i-smaller : goal.loop-i-smaller
-loop-i-smaller c = omega arith
-
 pub loop-i-preserved : goal.loop-i-preserved
 loop-i-preserved c =
     let a = c.args in
@@ -35,13 +29,9 @@ loop-i-preserved c =
     let name = c.name_bytes in
     let short = name_short a.text.now a.places.now loop.i c.requires.0 c.loop-i-test.true in
     let fits : length name.result.now ≤ name_most = omega (arith, ap length name.ensures) in
-    let line = line_adds a.text.now a.places.now loop.i loop.invariant.2 name.ensures fits c.put-end.ensures c.put-end-in-loop-i.ensures in
-    (omega arith, omega (arith, c.put-end-in-loop-i.auto.page, c.put-end.auto.page), line)
-
-pub shape_of-page : goal.shape_of-page
-shape_of-page c = c.loop-i.invariant.1
+    line_adds a.text.now a.places.now loop.i loop.invariant name.ensures fits c.put-end.ensures c.put-end-in-loop-i.ensures
 
 pub returns : goal.returns
 returns c =
     let e : c.loop-i.i ≡ c.args.count = omega (arith, c.requires) in
-    rw (← e) c.loop-i.invariant.2
+    rw (← e) c.loop-i.invariant

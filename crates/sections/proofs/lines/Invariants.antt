@@ -1,12 +1,7 @@
-use Prim.Native.Nat.{◌*◌, ◌-◌, ◌≤◌}
-use mathlib.Core.Path.{◌≡◌}
-use lib.ListN.{length}
+use Prim.Native.Nat.{◌*◌}
 use Rattle.sections.specs.Listing.{line_most, Adds}
 use Rattle.sections.proofs.Laws.{lines_to}
 use Rattle.sections.proofs.lines.Given as goal
 
 abbrev pub invariant-loop-i : goal.invariant-loop-i
-invariant-loop-i l = (l.i ≤ l.count) × (length l.page ≡ length l.initial.page) × Adds l.initial.page l.at (lines_to l.text l.places l.i) (l.i * line_most) l.end l.page
-
-abbrev pub decreases-loop-i : goal.decreases-loop-i
-decreases-loop-i l = l.count - l.i
+invariant-loop-i l = Adds l.initial.page l.at (lines_to l.text l.places l.i) (l.i * line_most) l.end l.page

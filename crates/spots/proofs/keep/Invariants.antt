@@ -1,12 +1,7 @@
-use Prim.Native.Nat.{◌-◌}
-use mathlib.Core.Path.{◌≡◌}
 use mathlib.Core.List.{[], ◌∷◌}
-use lib.ListN.{length, take}
+use lib.ListN.{take}
 use Rattle.spots.specs.Spots.{Stored}
 use Rattle.spots.proofs.keep.Given as goal
 
-abbrev pub invariant-loop-i : goal.invariant-loop-i
-invariant-loop-i l = (length l.spots ≡ length l.initial.spots) × Stored l.initial.spots (l.s ∷ []) (take l.i l.w) l.v l.spots
-
-abbrev pub decreases-loop-i : goal.decreases-loop-i
-decreases-loop-i l = length l.w - l.i
+abbrev pub invariant-loop-b : goal.invariant-loop-b
+invariant-loop-b l = Stored l.initial.spots (l.s ∷ []) (take l.b-index l.w) l.v l.spots

@@ -1,30 +1,21 @@
--- `keep_all` meets its contract. The invariant: the signals before i have their spots, and no other spot is changed.
-use mathlib.Core.Path.{refl, ◌∙◌}
+-- `keep_all` meets its contract. The invariant: the signals so far have their spots, and no other spot is changed.
+use mathlib.Core.Path.{◌∙◌}
+use lib.ListN.{take}
 use Rattle.sets.proofs.Sets.{sized}
-use Rattle.spots.proofs.Spotting.{stored_no_signals, stored_signal, stored_all, below_at}
-use native.Mathlib.Omega.{arith}
+use Rattle.spots.proofs.Spotting.{stored_no_signals, stored_signal, stored_set, set_front, below_at}
 use Rattle.spots.proofs.keep_all.Goals as goal
 
-pub loop-i-init : goal.loop-i-init
-loop-i-init c = (omega arith, refl, stored_no_signals _ _ _)
-
-pub offset_bounds-set-i : goal.offset_bounds-set-i
-offset_bounds-set-i c = omega (arith, c.least-most.ensures)
-
-pub bounds-set-i : goal.bounds-set-i
-bounds-set-i c = omega (arith, c.least-most.ensures)
+pub loop-s-init : goal.loop-s-init
+loop-s-init c = stored_no_signals _ _ _
 
 pub keep-requires : goal.keep-requires
-keep-requires c = (c.loop-i.invariant.1 ∙ c.requires.0, below_at c.args.set.n c.loop-i.i c.args.set.v (sized c.args.set c.well_formed.1.0) c.requires.1 (omega (arith, c.least-most.ensures)))
+keep-requires c = (
+  c.loop-s.auto.spots ∙ c.requires.0,
+  below_at _ (set_front c.args.set.n c.args.set.v (sized c.args.set c.well_formed.1.0) c.min-most.ensures) c.requires.1 c.loop-s.s-index c.loop-s-test.true,
+)
 
-pub overflow_add-i : goal.overflow_add-i
-overflow_add-i c = omega (arith, c.least-most.ensures)
-
-pub loop-i-preserved : goal.loop-i-preserved
-loop-i-preserved c = (omega arith, c.keep.auto.spots ∙ c.loop-i.invariant.1, stored_signal c.args.set.v c.loop-i.i (omega (arith, c.least-most.ensures, sized c.args.set c.well_formed.1.0)) c.loop-i.invariant.2 c.keep.ensures)
-
-pub shape_of-spots : goal.shape_of-spots
-shape_of-spots c = c.loop-i.invariant.1
+pub loop-s-preserved : goal.loop-s-preserved
+loop-s-preserved c = stored_signal (take c.min-most.result c.args.set.v) c.loop-s.s-index c.loop-s-test.true c.loop-s.invariant c.keep.ensures
 
 pub returns : goal.returns
-returns c = stored_all {i = c.loop-i.i} c.args.set.n c.args.set.v (sized c.args.set c.well_formed.1.0) (omega (arith, c.least-most.ensures)) c.loop-i.invariant.2
+returns c = stored_set _ (set_front c.args.set.n c.args.set.v (sized c.args.set c.well_formed.1.0) c.min-most.ensures) c.loop-s-test.false c.loop-s.invariant

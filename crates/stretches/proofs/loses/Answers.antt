@@ -1,17 +1,17 @@
--- `loses` meets its contract. The invariant: whether a pin loses its value is decided by those from number i on.
-use native.Mathlib.Omega.{arith}
-use mathlib.Core.Path.{refl, sym, ◌∙◌}
-use Rattle.stretches.proofs.Laws.{loses_here, loses_later, loses_none}
+-- `loses` meets its contract: some pair of pins has a value only before.
+use Prim.Native.Nat.{ℕ}
+use mathlib.Core.Bool.{not, ◌&&◌}
+use mathlib.Core.Path.{◌∙◌}
+use lib.Dec.{eqb}
+use borrow.Author.Rules.{rules}
+use borrow.Author.Tests.{tests}
+use Rattle.std.proofs.lemmas.Iterator.{YieldsList-from_slice, YieldsList-from_zip}
+use Rattle.std.proofs.lemmas.Iterator.Search.{any_from_yields_List}
+use Rattle.stretches.proofs.Laws.{loses_any}
 use Rattle.stretches.proofs.loses.Goals as goal
 
-pub loop-i-init : goal.loop-i-init
-loop-i-init c = (omega arith, refl)
-
-pub returns-then-old-i : goal.returns-then-old-i
-returns-then-old-i c = sym (sym c.loop-i.invariant.1 ∙ loses_here c.args.old.now c.args.new.now c.loop-i.i c.loop-i-test.true (omega (arith, c.requires)) c.if-old-i.true)
-
-pub loop-i-preserved : goal.loop-i-preserved
-loop-i-preserved c = (omega arith, sym (loses_later c.args.old.now c.args.new.now c.loop-i.i c.loop-i-test.true (omega (arith, c.requires)) c.if-old-i.false) ∙ c.loop-i.invariant.1)
-
 pub returns : goal.returns
-returns c = sym (sym c.loop-i.invariant.1 ∙ loses_none c.args.old.now c.args.new.now c.loop-i.i (omega arith))
+returns c =
+    any_from_yields_List (λ (p : ℕ × ℕ). not (eqb p.0 0) && eqb p.1 0) c.any.new.self _ _ c.any.ensures.ran
+    (YieldsList-from_zip (YieldsList-from_slice c.args.old.now cc) (YieldsList-from_slice c.args.new.now cc)) (λ x b q k. search (rules, tests))
+    ∙ loses_any c.args.old.now c.args.new.now

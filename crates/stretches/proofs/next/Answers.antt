@@ -12,9 +12,6 @@ slice_bounds-loses-end c = sym (length-take-le _ c.args.hand.now (omega arith))
 pub slice_bounds-loses-end-2 : goal.slice_bounds-loses-end-2
 slice_bounds-loses-end-2 c = sym (length-take-le _ c.args.row.now (omega arith))
 
-pub loses-requires : goal.loses-requires
-loses-requires c = length-take-le c.args.signals c.args.hand.now (omega (arith, c.requires.0.long)) ∙ sym (length-take-le c.args.signals c.args.row.now (omega (arith, c.requires.1)))
-
 pub returns-then-loses : goal.returns-then-loses
 returns-then-loses c = follows_lost _ _ c.requires.2 c.requires.3 c.flush-p.ensures (sym c.loses.ensures ∙ c.if-loses.true) c.part-q.ensures refl refl refl
 

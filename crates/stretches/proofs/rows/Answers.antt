@@ -11,7 +11,7 @@ use Rattle.stretches.proofs.rows.Goals as goal
 pub loop-r-init : goal.loop-r-init
 loop-r-init c =
     let e : c.args.count - 0 ≡ c.args.count = omega arith in
-    (omega arith, rw e (amid_all _ _ _ _ _ _ _))
+    rw e (amid_all _ _ _ _ _ _ _)
 
 pub overflow_add-at : goal.overflow_add-at
 overflow_add-at c = omega (arith, c.requires.0.long)
@@ -37,26 +37,12 @@ slice_bounds-turn-end c = omega (arith, row_room c.loop-r.r c.args.count (c.args
 pub turn-g-requires : goal.turn-g-requires
 turn-g-requires c =
     let room = row_room c.loop-r.r c.args.count (c.args.signals + 2) (length c.args.buffer.now) c.loop-r-test.true c.requires.1 in
-    (record { long = omega (arith, c.loop-r.invariant.1.hand_kept, c.requires.0.long); few_times = omega (arith, c.loop-r.invariant.1.few_times, c.requires.0.few_times, c.loop-r-test.true); few_patterns = omega (arith, c.loop-r.invariant.1.few_patterns, c.requires.0.few_patterns, c.loop-r-test.true) }, part_long (c.loop-r.r * (c.args.signals + 2)) (c.args.signals + 2) c.args.buffer.now room)
-
-pub overflow_add-r : goal.overflow_add-r
-overflow_add-r c = omega (arith, c.requires.0.few_times)
-
-pub loop-r-smaller : goal.loop-r-smaller
-loop-r-smaller c = omega arith
+    (record { long = omega (arith, c.loop-r.invariant.hand_kept, c.requires.0.long); few_times = omega (arith, c.loop-r.invariant.few_times, c.requires.0.few_times, c.loop-r-test.true); few_patterns = omega (arith, c.loop-r.invariant.few_patterns, c.requires.0.few_patterns, c.loop-r-test.true) }, part_long (c.loop-r.r * (c.args.signals + 2)) (c.args.signals + 2) c.args.buffer.now room)
 
 pub loop-r-preserved : goal.loop-r-preserved
-loop-r-preserved c = (
-  omega arith,
-  amid_next _ _ c.loop-r.invariant.1 (row_next c.args.signals c.args.buffer.now c.loop-r.r c.args.count c.loop-r-test.true)
-      (rw (part_is (c.loop-r.r * (c.args.signals + 2)) (c.args.signals + 2) c.args.buffer.now) at c.turn-g.ensures),
-)
-
-pub shape_of-page : goal.shape_of-page
-shape_of-page c = c.loop-r.invariant.1.kept
-
-pub shape_of-hand : goal.shape_of-hand
-shape_of-hand c = c.loop-r.invariant.1.hand_kept
+loop-r-preserved c =
+    amid_next _ _ c.loop-r.invariant (row_next c.args.signals c.args.buffer.now c.loop-r.r c.args.count c.loop-r-test.true)
+    (rw (part_is (c.loop-r.r * (c.args.signals + 2)) (c.args.signals + 2) c.args.buffer.now) at c.turn-g.ensures)
 
 pub returns : goal.returns
-returns c = amid_none _ _ c.loop-r.invariant.1 (rows_end c.args.signals c.args.buffer.now c.loop-r.r c.args.count (omega arith)) (omega (arith, rows_long c.args.signals c.args.buffer.now 0 c.args.count))
+returns c = amid_none _ _ c.loop-r.invariant (rows_end c.args.signals c.args.buffer.now c.loop-r.r c.args.count (omega arith)) (omega (arith, rows_long c.args.signals c.args.buffer.now 0 c.args.count))

@@ -1,4 +1,3 @@
-use Prim.Native.Nat.{◌-◌, ◌≤◌}
 use lib.ListN.{length}
 use Rattle.stretches.specs.Rows.{words_in}
 use Rattle.stretches.specs.Folding.{Onward}
@@ -6,7 +5,4 @@ use Rattle.stretches.proofs.Writing.{values_from}
 use Rattle.stretches.proofs.vector.Given as goal
 
 abbrev pub invariant-loop-s : goal.invariant-loop-s
-invariant-loop-s l = (l.s ≤ length l.pins) × Onward l.initial.page l.initial.p (values_from (words_in l.text l.places (length l.pins)) 0 l.pins) l.page l.p (values_from (words_in l.text l.places (length l.pins)) l.s l.pins)
-
-abbrev pub decreases-loop-s : goal.decreases-loop-s
-decreases-loop-s l = length l.pins - l.s
+invariant-loop-s l = Onward l.initial.page l.initial.p (values_from (words_in l.text l.places (length l.pins)) 0 l.pins) l.page l.p (values_from (words_in l.text l.places (length l.pins)) l.s l.pins)

@@ -1,4 +1,3 @@
-use Prim.Native.Nat.{◌-◌, ◌≤◌}
 use mathlib.Core.Path.{◌≡◌}
 use mathlib.Core.List.{List, [], ◌++◌}
 use Rattle.meaning.specs.Timing.{Wave}
@@ -11,7 +10,4 @@ use Rattle.timings.proofs.Writing.{charts_in}
 use Rattle.timings.proofs.charts.Given as goal
 
 abbrev pub invariant-loop-i : goal.invariant-loop-i
-invariant-loop-i l = (l.i ≤ l.count) × ((ws : List Wave) → Spots l.text l.spots ws → (front : List Chart) × Writes l.initial.page l.initial.p (laid (each chart_put front [])) l.page l.p × (front ++ charts_in l.text l.places l.count ws l.i ≡ charts_in l.text l.places l.count ws 0))
-
-abbrev pub decreases-loop-i : goal.decreases-loop-i
-decreases-loop-i l = l.count - l.i
+invariant-loop-i l = (ws : List Wave) → Spots l.text l.spots ws → (front : List Chart) × Writes l.initial.page l.initial.p (laid (each chart_put front [])) l.page l.p × (front ++ charts_in l.text l.places l.count ws l.i ≡ charts_in l.text l.places l.count ws 0)
