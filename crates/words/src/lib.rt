@@ -203,11 +203,11 @@ pub fn word(text: &[u8], c: Cursor) -> Cursor
     expect(text, c, is_word(bytes_of(text, c.at, c.end)))
 }
 
-// Does a byte stand there?
+// Does a byte stand there? `contains` takes twice the instructions on words, which are short.
 pub fn holds(w: &[u8], b: u8) -> bool
     ensures { result ≡ has b w.now }
 {
-    w.contains(&b)
+    w.iter().any(|x| *x == b)
 }
 
 // ---- waveform characters
