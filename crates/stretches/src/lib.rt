@@ -58,11 +58,7 @@ fn table_of(row: &[u8], signals: usize) -> usize
     requires { signals < length row.now }
     ensures { result ≡ get_or row.now signals 0 - 48 }
 {
-    let digit = row[signals];
-    if digit < ZERO {
-        return 0;
-    }
-    (digit - ZERO) as usize
+    row[signals].saturating_sub(ZERO) as usize
 }
 
 // Do two rows show the same?
