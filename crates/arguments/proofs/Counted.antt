@@ -67,11 +67,6 @@ module _ {text : List ℕ} {xs : Args} {given args : List ℕ} (sup : Supplied t
       by true e = (sup.each s e).few
       by false e = omega (arith, ap length (arg_none s xs e))
 
--- T is at most an argument's length
-pub turns_few : {text : List ℕ} {b : Body} {xs : Args} {given args : List ℕ} {t : ℕ} → Supplied text xs given args → TurnsBy b xs t → t ≤ argument_most
-turns_few sup (no_shift e p) = omega arith
-turns_few sup (by_signal s e p) = omega (arith, length_few sup s)
-
 -- ---- which signals have `#`
 
 module _ {b : Body} {row : List ℕ} (uses : Uses b row) (s : ℕ) (below : s < signals_most) where
