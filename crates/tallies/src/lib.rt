@@ -178,11 +178,7 @@ fn in_force(sums: &[u8], r: usize) -> usize
     requires { r * row_size + row_size ≤ length sums.now }
     ensures { (result < slots) × (table_of result ≡ (sum_at sums.now r).table) }
 {
-    let t = byte(sums, r, TABLE) as usize;
-    if t < timing::TABLES {
-        return t;
-    }
-    timing::TABLES
+    table_behind(sums, r, timing::TABLES)
 }
 
 // The same; where it is the one before, that is asked for.
@@ -259,11 +255,15 @@ fn ask(sums: &mut [u8], to: usize, from: usize)
 
 // ---- what it shows of a signal
 
-// Something is shown under each table whose slot the body's row marks, from a place on.
+// Something is shown under each table whose slot the body's row marks, from a place on. Mostly none is marked, which one look tells.
 fn show_tables(sums: &mut [u8], to: usize, from: usize, place: usize, waves: &[u8], s: usize, x: u8)
     requires { (to * row_size + row_size ≤ length sums.old) × (from * row_size + row_size ≤ length sums.old) × (from ≡ to → ⊥) × (place + slots ≤ row_size) × (length waves.now ≡ tables_most * table_size) × (s < signals_most) }
     ensures { More to sums.old sums.new × ((tabs : Tables) → Marked waves.now tabs → (k : ℕ) → k < tables_most → flag_at sums.old from (place + k) ≡ true → Shows tabs s (shown_of x) (some k) (sum_at sums.new to)) }
 {
+    let first = from * ROW + place;
+    if !any_marked(&sums[first..first + timing::TABLES]) {
+        return;
+    }
     for t in 0..timing::TABLES {
         if byte(sums, from, place + t) != 0 {
             show(sums, to, waves, s, x, t);
@@ -285,21 +285,6 @@ fn show_where(sums: &mut [u8], to: usize, from: usize, place: usize, waves: &[u8
     ensures { More to sums.old sums.new × ((tabs : Tables) → Marked waves.now tabs → ShownWhere tabs to from place s (shown_of x) sums.old sums.new) }
 {
     show_tables(sums, to, from, place, waves, s, x);
-    if byte(sums, from, place + timing::TABLES) != 0 {
-        show_in_force(sums, to, waves, s, x);
-    }
-}
-
-// The same for what stands on a signal: most have no table's slot marked, which one look tells.
-fn show_pin(sums: &mut [u8], to: usize, from: usize, place: usize, waves: &[u8], s: usize, x: u8)
-    requires { (to * row_size + row_size ≤ length sums.old) × (from * row_size + row_size ≤ length sums.old) × (from ≡ to → ⊥) × (place + slots ≤ row_size) × (length waves.now ≡ tables_most * table_size) × (s < signals_most) }
-    ensures { More to sums.old sums.new × ((tabs : Tables) → Marked waves.now tabs → ShownWhere tabs to from place s (shown_of x) sums.old sums.new) }
-{
-    let first = from * ROW + place;
-    if any_marked(&sums[first..first + timing::TABLES]) {
-        show_where(sums, to, from, place, waves, s, x);
-        return;
-    }
     if byte(sums, from, place + timing::TABLES) != 0 {
         show_in_force(sums, to, waves, s, x);
     }
@@ -414,7 +399,7 @@ fn enter(
     ensures { Passed to s sums.old sums.new × ((xs : Args) → Supplied text.now xs given.now args.now → (tabs : Tables) → Marked waves.now tabs → OnSignal tabs to from s (arg_of s xs) sums.old sums.new) }
 {
     let x = byte(sums, to, PINS + s);
-    show_pin(sums, to, from, s * SLOTS, waves, s, x);
+    show_where(sums, to, from, s * SLOTS, waves, s, x);
     let last = feed_signal(text, sums, to, from, waves, s, given, args);
     leave(sums, to, from, s, last);
 }
@@ -549,26 +534,29 @@ fn fits_slot(row: &[u8], p: usize, waves: &[u8], t: usize, s: usize, x: u8) -> b
     fits(waves, t, s, x)
 }
 
-// Can it wherever the row shows what stood on the signal before, or its argument? `place` is where the slots of that stand.
-fn fits_where(row: &[u8], place: usize, waves: &[u8], s: usize, x: u8, table: usize) -> bool
+// Can it under each table whose slot the row marks, from a place on? Mostly none is marked, which one look tells.
+fn fits_tables(row: &[u8], place: usize, waves: &[u8], s: usize, x: u8) -> bool
     requires { (length row.now ≡ row_size) × (place + slots ≤ row_size) × (length waves.now ≡ tables_most * table_size) × (s < signals_most) }
-    ensures { result ≡ true → (tabs : Tables) → Marked waves.now tabs → FitsWhere tabs place s x (table_of table) row.now }
+    ensures { result ≡ true → (tabs : Tables) → Marked waves.now tabs → (k : ℕ) → k < tables_most → flag_in row.now (place + k) ≡ true → ok_at tabs (table_of k) s x ≡ true }
 {
+    if !any_marked(&row[place..place + timing::TABLES]) {
+        return true;
+    }
     for t in 0..timing::TABLES {
         if !fits_slot(row, place + t, waves, t, s, x) {
             return false;
         }
     }
-    fits_slot(row, place + timing::TABLES, waves, table, s, x)
+    true
 }
 
-// The same for what stands on a signal: most have no table's slot marked, which one look tells.
-fn fits_pin(row: &[u8], place: usize, waves: &[u8], s: usize, x: u8, table: usize) -> bool
+// Can it wherever the row shows what stood on the signal before, or its argument? `place` is where the slots of that stand.
+fn fits_where(row: &[u8], place: usize, waves: &[u8], s: usize, x: u8, table: usize) -> bool
     requires { (length row.now ≡ row_size) × (place + slots ≤ row_size) × (length waves.now ≡ tables_most * table_size) × (s < signals_most) }
     ensures { result ≡ true → (tabs : Tables) → Marked waves.now tabs → FitsWhere tabs place s x (table_of table) row.now }
 {
-    if any_marked(&row[place..place + timing::TABLES]) {
-        return fits_where(row, place, waves, s, x, table);
+    if !fits_tables(row, place, waves, s, x) {
+        return false;
     }
     fits_slot(row, place + timing::TABLES, waves, table, s, x)
 }
@@ -658,7 +646,7 @@ fn on_signal(
     requires { (length row.now ≡ row_size) × (length waves.now ≡ tables_most * table_size) × (s < signals_most) × (length given.now ≡ signals_most) × (length args.now ≡ signals_most * 2) }
     ensures { IfSome result (λ pin. (xs : Args) → Supplied text.now xs given.now args.now → OnPin waves.now s x (arg_of s xs) (table_of table) row.now pin) }
 {
-    if !fits_pin(row, s * SLOTS, waves, s, x, table) {
+    if !fits_where(row, s * SLOTS, waves, s, x, table) {
         return None;
     }
     let last = signal_fits(text, row, waves, s, given, args, table)?;
@@ -721,7 +709,7 @@ pub fn asks(
 // The table in force behind the row, where `table` was before.
 pub fn table_behind(sums: &[u8], r: usize, table: usize) -> usize
     requires { r * row_size + row_size ≤ length sums.now }
-    ensures { table_of result ≡ or_table (sum_at sums.now r).table (table_of table) }
+    ensures { (table_of result ≡ or_table (sum_at sums.now r).table (table_of table)) × (table < slots → result < slots) }
 {
     let k = byte(sums, r, TABLE) as usize;
     if k < timing::TABLES {

@@ -44,7 +44,7 @@ returns-then-i-lt-PROCEDURES c =
     let if4' = c.if-not-asks in
     let settle' = c.settle in
     let Known-is = sym usable'.ensures ∙ if2'.false in
-    passes_macro Known-is pre'.1 pre'.5 (room c.args.marks.now c.args.sums.now c.args.i c.if-marks-i.false).1 if3'.true (asks'.ensures.1 if4'.false) settle'.ensures c.table_behind.ensures
+    passes_macro Known-is pre'.1 pre'.5 (room c.args.marks.now c.args.sums.now c.args.i c.if-marks-i.false).1 if3'.true (asks'.ensures.1 if4'.false) settle'.ensures c.table_behind.ensures.0
 
 pub asks-done-requires : goal.asks-done-requires
 asks-done-requires c =

@@ -1,4 +1,3 @@
-use Prim.Native.Nat.{◌-◌}
 use Rattle.tallies.proofs.Fitting.{Asking}
 use Rattle.tallies.proofs.asks.Given as goal
 

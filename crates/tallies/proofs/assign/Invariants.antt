@@ -1,4 +1,3 @@
-use Prim.Native.Nat.{◌-◌}
 use Rattle.tallies.proofs.Rows.{Assigning}
 use Rattle.tallies.proofs.assign.Given as goal
 

@@ -1,4 +1,3 @@
-use Prim.Native.Nat.{◌-◌}
 use Rattle.tallies.proofs.Calling.{Calling}
 use Rattle.tallies.proofs.called.Given as goal
 

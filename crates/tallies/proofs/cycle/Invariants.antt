@@ -1,4 +1,3 @@
-use Prim.Native.Nat.{◌-◌}
 use Rattle.tallies.proofs.Showing.{Cycling}
 use Rattle.tallies.proofs.cycle.Given as goal
 

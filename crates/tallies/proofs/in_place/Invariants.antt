@@ -1,4 +1,3 @@
-use Prim.Native.Nat.{◌-◌}
 use Rattle.tallies.proofs.Calling.{Entering}
 use Rattle.tallies.proofs.in_place.Given as goal
 

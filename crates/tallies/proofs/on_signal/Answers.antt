@@ -5,7 +5,7 @@ use Rattle.tallies.proofs.on_signal.Goals as goal
 pub returns-then-u-eq0 : goal.returns-then-u-eq0
 returns-then-u-eq0 c =
     λ xs u. record {
-      shown = c.fits_pin.ensures c.if-not-fits_pin.false;
+      shown = c.fits_where.ensures c.if-not-fits_where.false;
       fed = (c.in_ok-last.ensures xs u).1;
       pin_is = left_nothing _ _ _ c.if-u-eq0.true;
     }
@@ -13,7 +13,7 @@ returns-then-u-eq0 c =
 pub returns-then-u-eq-MARK : goal.returns-then-u-eq-MARK
 returns-then-u-eq-MARK c =
     λ xs u. let f = c.in_ok-last.ensures xs u in record {
-      shown = c.fits_pin.ensures c.if-not-fits_pin.false;
+      shown = c.fits_where.ensures c.if-not-fits_where.false;
       fed = f.1;
       pin_is = left_last _ _ _ c.if-u-eq-MARK.true f.0;
     }
@@ -21,7 +21,7 @@ returns-then-u-eq-MARK c =
 pub returns : goal.returns
 returns c =
     λ xs u. record {
-      shown = c.fits_pin.ensures c.if-not-fits_pin.false;
+      shown = c.fits_where.ensures c.if-not-fits_where.false;
       fed = (c.in_ok-last.ensures xs u).1;
       pin_is = left_char _ _ _ c.if-u-eq0.false c.if-u-eq-MARK.false;
     }

@@ -1,8 +1,18 @@
--- Each turn takes the next table.
+-- None is marked, or each turn takes the next table.
+use Prim.Native.Nat.{◌+◌, ◌*◌}
 use native.Mathlib.Omega.{arith}
+use Rattle.tallies.specs.Rows.{row_size}
+use Rattle.tallies.proofs.Stored.{flag_is, none_marked}
+use Rattle.tallies.proofs.Grown.{more_none}
 use Rattle.tallies.proofs.Showing.{showing_kept, showing_next}
 use Rattle.tallies.proofs.show_tables.Goals.{then-byte-ne0, else-byte-ne0}
 use Rattle.tallies.proofs.show_tables.Goals as goal
+
+pub returns-then-not-any_marked : goal.returns-then-not-any_marked
+returns-then-not-any_marked c = (
+  more_none,
+  λ tabs m k h e. absurd (flag_is e (none_marked c.args.sums.now (c.args.from * row_size + c.args.place) (c.any_marked.ensures c.if-not-any_marked.true) (omega arith) h (omega arith))),
+)
 
 pub loop-t-preserved : goal.loop-t-preserved
 loop-t-preserved c =

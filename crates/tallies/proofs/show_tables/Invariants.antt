@@ -1,4 +1,3 @@
-use Prim.Native.Nat.{◌-◌}
 use Rattle.tallies.proofs.Showing.{Showing}
 use Rattle.tallies.proofs.show_tables.Given as goal
 
