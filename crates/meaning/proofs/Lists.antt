@@ -12,7 +12,7 @@ use Rattle.meaning.specs.Lists.{has}
 use Rattle.meaning.specs.Timing.{Event, Wave, wave_of}
 use Rattle.meaning.specs.Data.{assigned}
 
--- what a slice's `contains` tells
+-- is some number of a list the one that is looked for
 pub has_any : (s : ℕ) (l : List ℕ) → list_any (λ x. eqb x s) l ≡ has s l
 unfolding has
 has_any s [] = refl

@@ -338,7 +338,7 @@ pub fn name_bytes<'a>(text: &'a [u8], places: &'a [usize], i: usize) -> &'a [u8]
     &text[0..0]
 }
 
-// Two bytes from a place on as one number, and so four and eight: they are loaded at once.
+// Two bytes from a place on as one number, and so four and eight: they are loaded at once. `u64::from_le_bytes` takes an eighth more instructions for eight.
 fn two(w: &[u8], i: usize) -> u64
     requires { i + 2 ≤ length w.now }
     ensures { result ≡ packed w.now i 2 }
