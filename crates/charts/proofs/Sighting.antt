@@ -5,6 +5,7 @@ use mathlib.Core.Path.{◌≡◌, refl, sym, ap, ◌∙◌, subst}
 use mathlib.Core.Bool.{Bool, true, false}
 use mathlib.Core.List.{List}
 use borrow.Author.Tests.{eq-eqb}
+use Rattle.std.proofs.Common.{Option as Maybe}
 use Rattle.tokens.specs.Tokens.{Toks, toks}
 use Rattle.meaning.specs.Reader.{Reader, ok, ◌>>=◌, give, option}
 use Rattle.meaning.specs.Signals.{Names, signals}
@@ -65,13 +66,13 @@ answers_same {A} {text} {c} {r} {m} {a} {b} {us} g h e = by (alive r) refl
         let z : ◌≡◌ {A = ℕ} 0 1 = cc in
         absurd (omega arith)
 
-pub sighted : {text : List ℕ} {c r : Cursor} {places lists tplaces waves : List ℕ} {signals names tables : ℕ} {w : Watch} {found : Bool} {place : ℕ}
-    → Stands text 0 c → Declares text c r places lists tplaces waves signals names tables w found place → Sights text w found place
-sighted {text} {c} {r} {w = w} {found = found} {place = place} s d =
+pub sighted : {text : List ℕ} {c r : Cursor} {places lists tplaces waves : List ℕ} {signals names tables : ℕ} {w : Watch} {sight : Maybe ℕ}
+    → Stands text 0 c → Declares text c r places lists tplaces waves signals names tables w sight → Sights text w sight
+sighted {text} {c} {r} {w = w} {sight = sight} s d =
     record {
       watched = λ m e. (
           let a = accepted_declaring text m e in
           let g = answers_same d.goes (eq-eqb c.no 0 s.on) (ap declarations s.there ∙ a.read) in
           let q : d.it ≡ m.tables = ap (λ (x : Names × Names × Tables). x.2) g.1 in
-          subst (λ (t : Tables). Watched text w found place (table_at t w.table)) q (d.watched g.0));
+          subst (λ (t : Tables). Watched text w sight (table_at t w.table)) q (d.watched g.0));
     }

@@ -7,13 +7,12 @@ use mathlib.Core.Option.{Option, none, some}
 use mathlib.Core.List.{List, [], ◌∷◌, ◌++◌, append_assoc, append-nil}
 use lib.ListN.{length, take, drop, set, length-drop, length-set, take-append-drop, drop_of_length-le}
 use lib.Seq.{length-take-le, take-append-add, drop-append-add, drop-drop, take-suc-set, drop-set-lt}
-use borrow.Author.Tests.{ne_eqb}
+use Rattle.std.proofs.Common.{None, Some, Result, Ok, Err}
 use borrow.Rule.Slice.PartMut.{same_len_mid}
 use Rattle.meaning.specs.Charts.{chart_most, Asked, asked_in, called, Chart, behind, over, chart}
 use Rattle.meaning.proofs.Charts.{chart_served, chart_stops, called_written}
 use Rattle.words.proofs.Words.{rest as part_in}
-use Rattle.charts.specs.Serving.{Outlines, stopped_by, Serves}
-use Rattle.charts.specs.declared.Outline.{Outline}
+use Rattle.charts.specs.Serving.{Outlines, Serves}
 use Rattle.charts.proofs.Lists.{Next}
 
 -- ---- the part of a buffer behind its first e numbers, as it is lent and as it comes back
@@ -110,7 +109,7 @@ module _ {text list times₀ letters₀ counts₀ : List ℕ} where
 
   module _ {times letters counts : List ℕ} {at served events : ℕ} (s : Serving text list times₀ letters₀ counts₀ times letters counts at served events) where
     -- no number is left
-    pub serving_all : length list ≤ at → Serves (chart text (asked_in list) times₀ letters₀ counts₀) times letters counts (record { no = 0; served = served; events = events })
+    pub serving_all : length list ≤ at → Serves (chart text (asked_in list) times₀ letters₀ counts₀) times letters counts (record { stopped = None; served = served; events = events })
     unfolding asked_in chart
     serving_all h =
         record {
@@ -131,7 +130,7 @@ module _ {text list times₀ letters₀ counts₀ : List ℕ} where
       pub served_room : (served < length counts) × (served < chart_most)
       served_room = (omega (arith, s.in_counts, ap length n.cut), omega (arith, s.few, ap length n.cut))
 
-      module _ {times' letters' : List ℕ} {o : Outline}
+      module _ {times' letters' : List ℕ} {o : Result ℕ ℕ}
           (d : Outlines (called text n.first (take (length times - events) (drop events times)) (take (length letters - events) (drop events letters)))
           (take (length times - events) (drop events times)) times' (take (length letters - events) (drop events letters)) letters' o) where
         -- on what is left of both buffers
@@ -139,32 +138,32 @@ module _ {text list times₀ letters₀ counts₀ : List ℕ} where
         on_rest = rw (part_in times events, part_in letters events) at d
 
         -- one that is refused
-        pub serving_stops : (o.no ≡ 0 → ⊥)
+        pub serving_stops : {n : ℕ} → o ≡ Err n
             → Serves (chart text (asked_in list) times₀ letters₀ counts₀) (take events times ++ (times' ++ drop (length times - events) (drop events times)))
-            (take events letters ++ (letters' ++ drop (length letters - events) (drop events letters))) counts (record { no = o.no; served = served; events = events })
-        serving_stops h =
-            let r = on_rest.refuses h in
+            (take events letters ++ (letters' ++ drop (length letters - events) (drop events letters))) counts (record { stopped = Some n; served = served; events = events })
+        serving_stops {n = refusal} h =
+            let r = on_rest.refuses refusal h in
             record {
               is =
                   met
                   ∙ ap (behind served events times letters counts)
                   (chart_stops text n.first (asked_in (drop (at + 3) list)) (drop events times) (drop events letters) (drop served counts) r.0)
-                  ∙ behind_over (some (o.no, 0)) served events times letters counts
-                  ∙ rw (part_out events times times', part_out events letters letters', r.1, r.2, take-append-drop events times, take-append-drop events letters, ne_eqb o.no 0 h, stopped_by);
+                  ∙ behind_over (some (refusal, 0)) served events times letters counts
+                  ∙ rw (part_out events times times', part_out events letters letters', r.1, r.2, take-append-drop events times, take-append-drop events letters);
             }
 
-        module _ (h : o.no ≡ 0) where
-          pub count_fits : (events + o.count ≤ length times) × (events + o.count ≤ length letters)
+        module _ {count : ℕ} (h : o ≡ Ok count) where
+          pub count_fits : (events + count ≤ length times) × (events + count ≤ length letters)
           count_fits =
-              let w = called_written text n.first (on_rest.gives h) in
+              let w = called_written text n.first (on_rest.gives count h) in
               (omega (arith, w.0.fits, length-drop events times, s.in_times), omega (arith, w.1.fits, length-drop events letters, s.in_letters))
 
           -- one that is served
           pub serving_more : length times' ≡ length (take (length times - events) (drop events times)) → length letters' ≡ length (take (length letters - events) (drop events letters))
               → Serving text list times₀ letters₀ counts₀ (take events times ++ (times' ++ drop (length times - events) (drop events times)))
-              (take events letters ++ (letters' ++ drop (length letters - events) (drop events letters))) (set counts served o.count) (at + 3) (served + 1) (events + o.count)
+              (take events letters ++ (letters' ++ drop (length letters - events) (drop events letters))) (set counts served count) (at + 3) (served + 1) (events + count)
           serving_more lt ll =
-              let c = o.count in
+              let c = count in
               let kt = same_len_mid events (length times - events) times times' lt in
               let kl = same_len_mid events (length letters - events) letters letters' ll in
               let kc : length (set counts served c) ≡ length counts = length-set counts served c in
@@ -172,7 +171,7 @@ module _ {text list times₀ letters₀ counts₀ : List ℕ} where
                 rest = rw (part_out events times times', part_out events letters letters')
                     (met
                     ∙ ap (behind served events times letters counts)
-                    (chart_served text n.first (asked_in (drop (at + 3) list)) (drop events times) (drop events letters) (drop served counts) (on_rest.gives h))
+                    (chart_served text n.first (asked_in (drop (at + 3) list)) (drop events times) (drop events letters) (drop served counts) (on_rest.gives count h))
                     ∙ behind_behind served events c times letters counts times' letters' _ s.in_times s.in_letters served_room.0
                     ∙ rw (behind_front events c times times' s.in_times, behind_front events c letters letters' s.in_letters, behind_count served c counts));
                 in_times = omega (arith, kt, count_fits.0);

@@ -26,24 +26,10 @@ const CHAR: u64 = 255;
 // Refusal, at place 0 as all here.
 pub const NO_SUCH: u8 = 18;
 
-// Where a waveform's entry stands, if there is one (`found`).
-#[derive(Clone, Copy)]
-struct Sighted {
-    found: bool,
-    place: usize,
-}
-
-// The refusal's number, 0 for none; or else how many events there are.
-#[derive(Clone, Copy)]
-pub struct Outline {
-    pub no: u8,
-    pub count: usize,
-}
-
-// The number of the refusal that stopped them, 0 for none; how many were served, and their events.
+// The number of the refusal that stopped them, if one did; how many were served, and their events.
 #[derive(Clone, Copy)]
 pub struct Served {
-    pub no: u8,
+    pub stopped: Option<u8>,
     pub served: usize,
     pub events: usize,
 }
@@ -66,16 +52,20 @@ pub fn put(ts: &[u64], ls: &[u8], n: usize, times: &mut [u64], letters: &mut [u8
     requires n_in_bounds_2 { (n ≤ length times.old) × (n ≤ length letters.old) }
     ensures { (times.new ≡ told_all (take n ts.now) ++ drop n times.old) × (letters.new ≡ take n ls.now ++ drop n letters.old) }
 {
-    let mut i = 0;
-    while i < n {
+    for i in 0..n {
         times[i] = told(ts[i]);
-        letters[i] = ls[i];
-        i += 1;
     }
+    letters[..n].copy_from_slice(&ls[..n]);
 }
 
-// The events of a character, of the entry at a place, to the front of both buffers; or 19.
-pub fn draw(text: &[u8], place: usize, char: u8, times: &mut [u64], letters: &mut [u8]) -> Outline
+// The events of a character, of the entry at a place, to the front of both buffers, and how many they are; or 19.
+pub fn draw(
+    text: &[u8],
+    place: usize,
+    char: u8,
+    times: &mut [u64],
+    letters: &mut [u8],
+) -> Result<usize, u8>
     requires { (es : List Event) × EntryAt text.now place char es }
     ensures { (es : List Event) → EntryAt text.now place char es → Outlines (events_out es times.old letters.old) times.old times.new letters.old letters.new result }
 {
@@ -83,25 +73,22 @@ pub fn draw(text: &[u8], place: usize, char: u8, times: &mut [u64], letters: &mu
     let mut ls = [0u8; waves::EVENTS];
     let n = waves::read(text, place, char, &mut ts, &mut ls);
     if (times.len() < n) | (letters.len() < n) {
-        return Outline {
-            no: NO_ROOM,
-            count: 0,
-        };
+        return Err(NO_ROOM);
     }
     put(&ts, &ls, n, times, letters);
-    Outline { no: 0, count: n }
+    Ok(n)
 }
 
 // Where the entry of a waveform stands, in a text that is accepted.
-fn sight(text: &[u8], watch: Watch) -> Sighted
-    ensures { Sights text.now watch result.found result.place }
+fn sight(text: &[u8], watch: Watch) -> Option<usize>
+    ensures { Sights text.now watch result }
 {
     let mut places = [0usize; signals::PLACES];
     let mut lists = [0u16; signals::LISTS];
     let mut tplaces = [0usize; timing::PLACES];
     let mut waves = [0u8; timing::WAVES];
     let c = words::cursor_at(text, 0);
-    let d = declared::declarations(
+    declared::declarations(
         text,
         c,
         &mut places,
@@ -109,11 +96,8 @@ fn sight(text: &[u8], watch: Watch) -> Sighted
         &mut tplaces,
         &mut waves,
         watch,
-    );
-    Sighted {
-        found: d.found,
-        place: d.place,
-    }
+    )
+    .sight
 }
 
 // A single call: 18, 19, or the events at the front of both buffers.
@@ -124,25 +108,18 @@ fn single(
     char: u8,
     times: &mut [u64],
     letters: &mut [u8],
-) -> Outline
+) -> Result<usize, u8>
     requires { Accepted text.now }
     ensures { Outlines (waveform text.now table signal char times.old letters.old) times.old times.new letters.old letters.new result }
 {
-    let s = sight(
-        text,
-        Watch {
-            table,
-            signal,
-            char,
-        },
-    );
-    if s.found {
-        let o = draw(text, s.place, char, times, letters);
-        return o;
-    }
-    Outline {
-        no: NO_SUCH,
-        count: 0,
+    let watch = Watch {
+        table,
+        signal,
+        char,
+    };
+    match sight(text, watch) {
+        Some(place) => draw(text, place, char, times, letters),
+        None => Err(NO_SUCH),
     }
 }
 
@@ -167,32 +144,31 @@ pub fn too_many(asked: &[u64]) -> bool
 }
 
 // The waveform whose numbers begin at a place of the list. Numbers left over, or a number that is no character, name none.
-fn ask(text: &[u8], asked: &[u64], at: usize, times: &mut [u64], letters: &mut [u8]) -> Outline
+fn ask(
+    text: &[u8],
+    asked: &[u64],
+    at: usize,
+    times: &mut [u64],
+    letters: &mut [u8],
+) -> Result<usize, u8>
     requires { Accepted text.now × (at < length asked.now) × (length asked.now ≤ chart_most * 3) }
     ensures { (x : Asked) (xs : List Asked) → asked_in (drop at asked.now) ≡ x ∷ xs → Outlines (called text.now x times.old letters.old) times.old times.new letters.old letters.new result }
 {
     if asked.len() - at < ASK {
-        return Outline {
-            no: NO_SUCH,
-            count: 0,
-        };
+        return Err(NO_SUCH);
     }
     let char = asked[at + 2];
     if CHAR < char {
-        return Outline {
-            no: NO_SUCH,
-            count: 0,
-        };
+        return Err(NO_SUCH);
     }
-    let o = single(
+    single(
         text,
         asked[at] as usize,
         asked[at + 1] as usize,
         char as u8,
         times,
         letters,
-    );
-    return o;
+    )
 }
 
 // All of the list, until one is refused.
@@ -211,27 +187,31 @@ pub fn serve(
     let mut served = 0;
     let mut events = 0;
     while at < asked.len() {
-        let o = ask(
+        let answer = ask(
             text,
             asked,
             at,
             &mut times[events..],
             &mut letters[events..],
         );
-        if o.no != 0 {
-            return Served {
-                no: o.no,
-                served,
-                events,
-            };
+        match answer {
+            Ok(count) => {
+                counts[served] = count as u64;
+                served += 1;
+                events += count;
+                at += ASK;
+            }
+            Err(no) => {
+                return Served {
+                    stopped: Some(no),
+                    served,
+                    events,
+                };
+            }
         }
-        counts[served] = o.count as u64;
-        served += 1;
-        events += o.count;
-        at += ASK;
     }
     Served {
-        no: 0,
+        stopped: None,
         served,
         events,
     }

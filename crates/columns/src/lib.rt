@@ -9,7 +9,7 @@ const LF: u8 = 10;
 const MOST: usize = 18_446_744_073_709_551_615;
 
 // Both from 1; a column is counted in bytes.
-#[derive(Clone, Copy)]
+#[derive(Clone, Copy, Debug, PartialEq, Eq)]
 pub struct Position {
     pub line: usize,
     pub column: usize,

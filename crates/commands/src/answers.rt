@@ -1,10 +1,11 @@
 // The one line of an answer, to standard output.
 use crate::asked;
 use streams::System;
+use tokens::Refusal;
 
-pub fn refused(rt: &impl System, text: &[u8], no: u8, place: usize) {
+pub fn refused(rt: &impl System, text: &[u8], refusal: Refusal) {
     let mut page = asked::page();
-    let end = sections::refusal(&mut page, 0, text, no, place);
+    let end = sections::refusal(&mut page, 0, text, refusal.no, refusal.place);
     streams::write(rt, &page, end);
 }
 

@@ -1,8 +1,7 @@
 // The words of the command line, and the one line on standard error for a word that is wrong.
-ghost use Rattle.std.specs.Prelude.{◌≡◌, ◌≤◌, ◌<◌, length};
+ghost use Rattle.std.specs.Prelude.{◌≡◌, ◌≤◌, length};
 ghost use Rattle.streams.specs.Counts.{IsPrefixLen};
 
-use lines::Value;
 use std::env::FillError;
 use std::rt::Env;
 use streams::System;
@@ -79,54 +78,38 @@ pub fn no_more(rt: &impl System, due: usize) -> bool {
 }
 
 // Word i as a number.
-pub fn number(rt: &impl System, i: usize) -> Value {
+pub fn number(rt: &impl System, i: usize) -> Option<usize> {
     let mut word = word();
     let n = put_word(rt, i, &mut word);
     let value = lines::number(&word[..n]);
-    if !value.right {
-        fault(rt, b"not a number", &word[..n]);
+    if value.right {
+        return Some(value.value as usize);
     }
-    value
-}
-
-fn wide(b: u8) -> u64
-    ensures { result < 256 }
-{
-    b as u64
+    fault(rt, b"not a number", &word[..n]);
+    None
 }
 
 // Word i as one byte.
-pub fn byte(rt: &impl System, i: usize) -> Value
-    ensures { result.value < 256 }
-{
+pub fn byte(rt: &impl System, i: usize) -> Option<u8> {
     let mut word = word();
     let n = put_word(rt, i, &mut word);
     if n == 1 {
-        return Value {
-            right: true,
-            value: wide(word[0]),
-        };
+        return Some(word[0]);
     }
     fault(rt, b"not one byte", &word[..n]);
-    Value {
-        right: false,
-        value: 0,
-    }
+    None
 }
 
-// Word i as a kind of name: 1 for `table`, 0 for `signal`.
-pub fn kind(rt: &impl System, i: usize) -> Value {
+// Word i as a kind of name: is it `table`, and not `signal`?
+pub fn is_table(rt: &impl System, i: usize) -> Option<bool> {
     let mut word = word();
     let n = put_word(rt, i, &mut word);
-    if words::equal(&word[..n], b"table") {
-        return Value {
-            right: true,
-            value: 1,
-        };
+    match &word[..n] {
+        b"table" => Some(true),
+        b"signal" => Some(false),
+        other => {
+            fault(rt, b"neither signal nor table", other);
+            None
+        }
     }
-    let right = words::equal(&word[..n], b"signal");
-    if !right {
-        fault(rt, b"neither signal nor table", &word[..n]);
-    }
-    Value { right, value: 0 }
 }

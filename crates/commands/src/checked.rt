@@ -2,7 +2,6 @@
 ghost use Rattle.std.specs.Prelude.{◌≡◌, ◌+◌, ◌≤◌, ◌<◌, length};
 
 use crate::{asked, files};
-use services::Checked;
 use streams::System;
 
 #[derive(Clone, Copy)]
@@ -19,13 +18,6 @@ struct Line {
     end: usize,
 }
 
-// What was found; was the line written?
-#[derive(Clone, Copy)]
-struct Told {
-    found: Found,
-    written: bool,
-}
-
 // How many files were found so.
 #[derive(Clone, Copy)]
 struct Tally {
@@ -40,58 +32,45 @@ fn judged_line(file: &[u8], text: &[u8], page: &mut [u8]) -> Line
     requires { (length file.now ≤ 131072) × (length page.old ≡ 262144) }
 {
     match services::check(text) {
-        Checked::Counted(signals, tables, patterns, cycles, size) => {
-            let end = lines::good(page, 0, file, signals, tables, patterns, cycles, size);
-            Line {
-                found: Found::Good,
-                end,
-            }
-        }
-        Checked::Refused(no, place) => {
-            let end = lines::hurt(page, 0, file, text, no, place);
-            Line {
-                found: Found::Hurt,
-                end,
-            }
-        }
+        Ok(c) => Line {
+            found: Found::Good,
+            end: lines::good(
+                page, 0, file, c.signals, c.tables, c.listed, c.cycles, c.size,
+            ),
+        },
+        Err(refusal) => Line {
+            found: Found::Hurt,
+            end: lines::hurt(page, 0, file, text, refusal.no, refusal.place),
+        },
     }
 }
 
-fn unread(rt: &impl System, file: &[u8]) -> Told
+// What was found of a file, whose line was written.
+fn unread(rt: &impl System, file: &[u8]) -> Option<Found>
     requires { length file.now ≤ 131072 }
 {
     let mut page = asked::page();
     let end = lines::unread(&mut page, 0, file);
-    Told {
-        found: Found::Unread,
-        written: streams::write(rt, &page, end),
-    }
+    streams::write(rt, &page, end).then_some(Found::Unread)
 }
 
-fn judged(rt: &impl System, file: &[u8], text: &[u8]) -> Told
+fn judged(rt: &impl System, file: &[u8], text: &[u8]) -> Option<Found>
     requires { length file.now ≤ 131072 }
 {
     let mut page = asked::page();
-    let l = judged_line(file, text, &mut page);
-    let end = l.end;
-    let found = l.found;
-    Told {
-        found,
-        written: streams::write(rt, &page, end),
-    }
+    let line = judged_line(file, text, &mut page);
+    streams::write(rt, &page, line.end).then_some(line.found)
 }
 
 // The file that word i names.
-fn told_of(rt: &impl System, i: usize) -> Told {
+fn told_of(rt: &impl System, i: usize) -> Option<Found> {
     let mut word = asked::word();
     let n = asked::put_word(rt, i, &mut word);
     let mut text = streams::room();
-    let t = files::read(rt, &word[..n], &mut text);
-    if !t.read {
-        return unread(rt, &word[..n]);
+    match files::read(rt, &word[..n], &mut text) {
+        Some(k) => judged(rt, &word[..n], &text[..k]),
+        None => unread(rt, &word[..n]),
     }
-    let k = t.length;
-    judged(rt, &word[..n], &text[..k])
 }
 
 // ---- all files
@@ -103,18 +82,15 @@ fn added(t: Tally, found: Found) -> Tally
     match found {
         Found::Good => Tally {
             good: t.good + 1,
-            hurt: t.hurt,
-            unread: t.unread,
+            ..t
         },
         Found::Hurt => Tally {
-            good: t.good,
             hurt: t.hurt + 1,
-            unread: t.unread,
+            ..t
         },
         Found::Unread => Tally {
-            good: t.good,
-            hurt: t.hurt,
             unread: t.unread + 1,
+            ..t
         },
     }
 }
@@ -133,17 +109,13 @@ pub fn check(rt: &impl System) {
         hurt: 0,
         unread: 0,
     };
-    let mut i = 2;
-    while i < words {
-        let t = told_of(rt, i);
-        if !t.written {
+    for i in 2..words {
+        let Some(found) = told_of(rt, i) else {
             return;
-        }
-        let found = t.found;
+        };
         tally = added(tally, found);
-        i += 1;
         if watched {
-            streams::progress(rt, i - 2, words - 2);
+            streams::progress(rt, i - 1, words - 2);
         }
     }
     sum(rt, tally);

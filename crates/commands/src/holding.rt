@@ -1,28 +1,23 @@
 // holds FILE INDEXFILE N
 use crate::{answers, asked, files};
-use services::Holding;
 use streams::System;
 
 fn answer(rt: &impl System, text: &[u8], bytes: &[u8], cycle: usize) {
     match services::holds(text, bytes, cycle) {
-        Holding::Pattern(k) => answers::pattern(rt, k),
-        Holding::NoPattern => answers::no_pattern(rt),
-        Holding::Refused(no, place) => answers::refused(rt, text, no, place),
+        Ok(Some(k)) => answers::pattern(rt, k),
+        Ok(None) => answers::no_pattern(rt),
+        Err(refusal) => answers::refused(rt, text, refusal),
     }
 }
 
 // An index that is longer than a text may be is read to one byte more, and belongs to none.
 fn both(rt: &impl System, cycle: usize) {
     let mut text = streams::room();
-    let t = files::text(rt, 2, &mut text);
-    if !t.read {
+    let Some(n) = files::text(rt, 2, &mut text) else {
         return;
-    }
+    };
     let mut bytes = streams::room();
-    let b = files::text(rt, 3, &mut bytes);
-    if b.read {
-        let n = t.length;
-        let m = b.length;
+    if let Some(m) = files::text(rt, 3, &mut bytes) {
         answer(rt, &text[..n], &bytes[..m], cycle);
     }
 }
@@ -41,8 +36,7 @@ pub fn holds(rt: &impl System) {
     if !asked::no_more(rt, 5) {
         return;
     }
-    let cycle = asked::number(rt, 4);
-    if cycle.right {
-        both(rt, cycle.value as usize);
+    if let Some(cycle) = asked::number(rt, 4) {
+        both(rt, cycle);
     }
 }

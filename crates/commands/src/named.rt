@@ -2,20 +2,21 @@
 ghost use Rattle.std.specs.Prelude.{◌≤◌, length};
 
 use crate::{answers, asked, files};
-use services::Located;
 use streams::System;
+use verdicts::Name;
 
-fn line(rt: &impl System, text: &[u8], at: usize, long: usize)
+fn line(rt: &impl System, text: &[u8], name: Name)
     requires { length text.now ≤ 65537 }
 {
-    if text.len() < long {
+    if text.len() < name.length {
         return streams::broken(rt, b"a name longer than the text\n");
     }
-    if text.len() - long < at {
+    if text.len() - name.length < name.at {
         return streams::broken(rt, b"a name past the text\n");
     }
     let mut page = asked::page();
-    let end = lines::name(&mut page, 0, &text[at..at + long], at);
+    let word = &text[name.at..name.at + name.length];
+    let end = lines::name(&mut page, 0, word, name.at);
     streams::write(rt, &page, end);
 }
 
@@ -23,25 +24,21 @@ fn answer(rt: &impl System, text: &[u8], table: bool, number: usize)
     requires { length text.now ≤ 65537 }
 {
     match services::name(text, table, number) {
-        Located::Found(at, long) => line(rt, text, at, long),
-        Located::Refused(no, place) => answers::refused(rt, text, no, place),
+        Ok(name) => line(rt, text, name),
+        Err(refusal) => answers::refused(rt, text, refusal),
     }
 }
 
 fn file(rt: &impl System) {
-    let kind = asked::kind(rt, 3);
-    if !kind.right {
+    let Some(table) = asked::is_table(rt, 3) else {
         return;
-    }
-    let number = asked::number(rt, 4);
-    if !number.right {
+    };
+    let Some(number) = asked::number(rt, 4) else {
         return;
-    }
+    };
     let mut text = streams::room();
-    let t = files::text(rt, 2, &mut text);
-    if t.read {
-        let n = t.length;
-        answer(rt, &text[..n], kind.value == 1, number.value as usize);
+    if let Some(n) = files::text(rt, 2, &mut text) {
+        answer(rt, &text[..n], table, number);
     }
 }
 

@@ -1,23 +1,20 @@
 // index FILE
 use crate::{answers, asked, files};
-use services::Indexed;
 use streams::System;
 
 fn answer(rt: &impl System, text: &[u8]) {
     let mut page = asked::page();
     match services::index(text, &mut page) {
-        Indexed::Written(n) => {
+        Ok(n) => {
             streams::write(rt, &page, n);
         }
-        Indexed::Refused(no, place) => answers::refused(rt, text, no, place),
+        Err(refusal) => answers::refused(rt, text, refusal),
     }
 }
 
 fn file(rt: &impl System) {
     let mut text = streams::room();
-    let t = files::text(rt, 2, &mut text);
-    if t.read {
-        let n = t.length;
+    if let Some(n) = files::text(rt, 2, &mut text) {
         answer(rt, &text[..n]);
     }
 }

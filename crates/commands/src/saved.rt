@@ -2,7 +2,6 @@
 ghost use Rattle.std.specs.Prelude.{◌≡◌, ◌+◌, ◌*◌, ◌≤◌, length};
 
 use crate::{answers, asked, files, split};
-use services::Saved;
 use streams::System;
 
 // Two numbers for each span. A text has at most as many spans as bytes, so that all have room.
@@ -22,14 +21,11 @@ fn put_spans(rt: &impl System, spans: &[u64], k: usize) -> bool
     let mut space = asked::page();
     let page: &mut [u8] = &mut space;
     let mut end = 0;
-    let mut i = 0;
-    while i < k {
-        let filled = split::emptied(rt, page, end);
-        if !filled.going {
+    for i in 0..k {
+        let Some(at) = split::emptied(rt, page, end) else {
             return false;
-        }
-        end = lines::span(page, filled.end, spans[i * 2], spans[i * 2 + 1]);
-        i += 1;
+        };
+        end = lines::span(page, at, spans[i * 2], spans[i * 2 + 1]);
     }
     let last = lines::spans(page, end, k);
     streams::write(rt, page, last)
@@ -38,7 +34,7 @@ fn put_spans(rt: &impl System, spans: &[u64], k: usize) -> bool
 fn answer(rt: &impl System, text: &mut [u8]) {
     let mut spans = room();
     match services::save(text, &mut spans) {
-        Saved::Spans(k) => {
+        Ok(k) => {
             if SPANS / 2 < k {
                 return streams::broken(rt, b"more spans than a text has bytes\n");
             }
@@ -46,15 +42,13 @@ fn answer(rt: &impl System, text: &mut [u8]) {
                 streams::write(rt, text, text.len());
             }
         }
-        Saved::Refused(no, place) => answers::refused(rt, text, no, place),
+        Err(refusal) => answers::refused(rt, text, refusal),
     }
 }
 
 fn file(rt: &impl System) {
     let mut text = streams::room();
-    let t = files::text(rt, 2, &mut text);
-    if t.read {
-        let n = t.length;
+    if let Some(n) = files::text(rt, 2, &mut text) {
         answer(rt, &mut text[..n]);
     }
 }

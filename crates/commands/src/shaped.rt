@@ -2,7 +2,6 @@
 ghost use Rattle.std.specs.Prelude.{◌≡◌, ◌≤◌, length};
 
 use crate::{answers, asked, files};
-use services::Shaped;
 use streams::System;
 
 // EVENTS k, and a line for each event; where the last ends.
@@ -10,10 +9,8 @@ fn put_events(page: &mut [u8], times: &[u64], letters: &[u8], k: usize) -> usize
     requires { (length page.old ≡ 262144) × (length times.now ≡ 16) × (length letters.now ≡ 16) × (k ≤ 16) }
 {
     let mut end = lines::events(page, 0, k);
-    let mut i = 0;
-    while i < k {
+    for i in 0..k {
         end = lines::event(page, end, times[i], letters[i]);
-        i += 1;
     }
     end
 }
@@ -33,32 +30,27 @@ fn answer(rt: &impl System, text: &[u8], table: usize, signal: usize, char: u8) 
     let mut times = [0u64; waves::EVENTS];
     let mut letters = [0u8; waves::EVENTS];
     match services::waveform(text, table, signal, char, &mut times, &mut letters) {
-        Shaped::Events(k) => events(rt, &times, &letters, k),
-        Shaped::Refused(no, place) => answers::refused(rt, text, no, place),
+        Ok(k) => events(rt, &times, &letters, k),
+        Err(refusal) => answers::refused(rt, text, refusal),
     }
 }
 
 fn file(rt: &impl System, table: usize, signal: usize) {
-    let char = asked::byte(rt, 5);
-    if !char.right {
+    let Some(char) = asked::byte(rt, 5) else {
         return;
-    }
+    };
     let mut text = streams::room();
-    let t = files::text(rt, 2, &mut text);
-    if t.read {
-        let n = t.length;
-        answer(rt, &text[..n], table, signal, char.value as u8);
+    if let Some(n) = files::text(rt, 2, &mut text) {
+        answer(rt, &text[..n], table, signal, char);
     }
 }
 
 fn numbers(rt: &impl System) {
-    let table = asked::number(rt, 3);
-    if !table.right {
+    let Some(table) = asked::number(rt, 3) else {
         return;
-    }
-    let signal = asked::number(rt, 4);
-    if signal.right {
-        file(rt, table.value as usize, signal.value as usize);
+    };
+    if let Some(signal) = asked::number(rt, 4) {
+        file(rt, table, signal);
     }
 }
 

@@ -1,31 +1,21 @@
 // tokens FILE
-ghost use Rattle.std.specs.Prelude.{◌+◌, ◌≤◌, ◌<◌, length};
+ghost use Rattle.std.specs.Prelude.{◌+◌, ◌≤◌, IfSome, length};
 
 use crate::{asked, files};
 use streams::System;
-use tokens::Step;
+use tokens::Refusal;
 
 // What is written once it stands on the page so far.
 const HALF: usize = 131_072;
 
-// How far the page is filled, and whether there is more to do.
-#[derive(Clone, Copy)]
-pub struct Filled {
-    pub going: bool,
-    pub end: usize,
-}
-
-// A page that is half full is written.
-pub fn emptied(rt: &impl System, page: &[u8], end: usize) -> Filled
-    ensures { result.end ≤ 131072 }
+// Where the next line begins: a page that is half full is written. None where it cannot be.
+pub fn emptied(rt: &impl System, page: &[u8], end: usize) -> Option<usize>
+    ensures { IfSome result (λ at. at ≤ 131072) }
 {
     if end < HALF {
-        return Filled { going: true, end };
+        return Some(end);
     }
-    Filled {
-        going: streams::write(rt, page, end),
-        end: 0,
-    }
+    streams::write(rt, page, end).then_some(0)
 }
 
 fn count(rt: &impl System, page: &mut [u8], end: usize, k: usize)
@@ -35,10 +25,10 @@ fn count(rt: &impl System, page: &mut [u8], end: usize, k: usize)
     streams::write(rt, page, last);
 }
 
-fn refused(rt: &impl System, page: &mut [u8], end: usize, text: &[u8], no: u8, place: usize)
+fn refused(rt: &impl System, page: &mut [u8], end: usize, text: &[u8], refusal: Refusal)
     requires { end + 128 ≤ length page.old }
 {
-    let last = sections::refusal(page, end, text, no, place);
+    let last = sections::refusal(page, end, text, refusal.no, refusal.place);
     streams::write(rt, page, last);
 }
 
@@ -53,20 +43,19 @@ fn answer(rt: &impl System, text: &[u8])
     let mut k = 0;
     loop {
         match tokens::next_token(text, at) {
-            Step::Token(p, l) => {
-                let filled = emptied(rt, page, end);
-                if !filled.going {
+            Ok(Some(token)) => {
+                let Some(next) = emptied(rt, page, end) else {
                     return;
-                }
-                at = p + l;
+                };
+                at = token.at + token.length;
                 k += 1;
-                end = lines::token(page, filled.end, p, &text[p..at]);
+                end = lines::token(page, next, token.at, &text[token.at..at]);
             }
-            Step::Nothing => {
+            Ok(None) => {
                 return count(rt, page, end, k);
             }
-            Step::Refused(no, place) => {
-                return refused(rt, page, end, text, no, place);
+            Err(refusal) => {
+                return refused(rt, page, end, text, refusal);
             }
         }
     }
@@ -74,9 +63,7 @@ fn answer(rt: &impl System, text: &[u8])
 
 fn file(rt: &impl System) {
     let mut text = streams::room();
-    let t = files::text(rt, 2, &mut text);
-    if t.read {
-        let n = t.length;
+    if let Some(n) = files::text(rt, 2, &mut text) {
         answer(rt, &text[..n]);
     }
 }

@@ -2,6 +2,7 @@
 use crate::{answers, asked, files};
 use intake::Progress;
 use streams::System;
+use tokens::Refusal;
 
 // What the intake stores of a raw text.
 fn answer(rt: &impl System, raw: &[u8]) {
@@ -11,16 +12,14 @@ fn answer(rt: &impl System, raw: &[u8]) {
         Progress::Closed(n) => {
             streams::write(rt, &store, n);
         }
-        Progress::Refused(no, place) => answers::refused(rt, raw, no, place),
+        Progress::Refused(no, place) => answers::refused(rt, raw, Refusal { no, place }),
         Progress::Open(_) => streams::broken(rt, b"the intake is not closed\n"),
     }
 }
 
 fn file(rt: &impl System) {
     let mut raw = streams::raw();
-    let t = files::text(rt, 2, &mut raw);
-    if t.read {
-        let n = t.length;
+    if let Some(n) = files::text(rt, 2, &mut raw) {
         answer(rt, &raw[..n]);
     }
 }

@@ -1,14 +1,15 @@
--- Characters over the front of a buffer: one store is one character more, and past the buffer's end nothing changes.
+-- Characters over the front of a buffer: one store is one character more, a part that is written several, and past the buffer's end nothing changes.
 use Prim.Native.Nat.{ℕ, zero, suc, ◌+◌, ◌-◌, ◌≤◌, ◌<◌, min}
 use native.Mathlib.Omega.{arith}
 use native.Mathlib.Numerals.{add-one}
-use mathlib.Core.Path.{◌≡◌, refl, sym, ap, ◌∙◌, subst}
+use mathlib.Core.Path.{◌≡◌, refl, sym, ap, ap₂, ◌∙◌, subst}
 use mathlib.Core.Bool.{Bool, true, false}
 use mathlib.Core.List.{List, [], ◌∷◌, ◌++◌, append_assoc, append-nil}
 use lib.Dec.{leb}
 use borrow.Author.Tests.{leb-true, leb-false}
-use lib.ListN.{length, get_or, take, drop, set, length-append, length-set, take-append-drop}
-use lib.Seq.{take-suc, take_all, length-take-le}
+use lib.ListN.{length, get_or, take, drop, set, length-append, length-set, length-take, length-drop, take-append-drop}
+use lib.Seq.{take-suc, take_all, drop-drop, length-take-le}
+use borrow.Rule.Slice.PartMut.{put_mid, same_len_mid}
 use Rattle.data.specs.Filled.{count_most, over, Holds, Adds}
 
 pub over_length : (cs e : List ℕ) → length (over cs e) ≡ length e
@@ -52,7 +53,16 @@ over_rest i (c ∷ cs) [] h = refl
 over_rest zero (c ∷ cs) (b ∷ e) h = absurd (omega arith)
 over_rest (suc i) (c ∷ cs) (b ∷ e) h = over_rest i cs e (omega arith)
 
--- ---- a loop that puts the characters ds behind n, i of them so far
+-- a part of the buffer behind them is written
+over_put : (cs t e : List ℕ) (n k : ℕ) → n ≡ length cs → k ≡ length t → n + k ≤ length e → put_mid n k (over cs e) t ≡ over (cs ++ t) e
+over_put cs t e n k p q h =
+    let front = ap (λ (i : ℕ). take i (over cs e)) p ∙ over_front cs e (omega arith) in
+    let rest = drop-drop k n (over cs e) ∙ over_rest (n + k) cs e (omega arith) in
+    let l : length (cs ++ t) ≡ n + k = omega (arith, length-append cs t) in
+    ap₂ (λ (a b : List ℕ). a ++ (t ++ b)) front rest ∙ sym (append_assoc cs t (drop (n + k) e))
+    ∙ sym (over_fits (cs ++ t) e (omega arith) ∙ ap (λ (i : ℕ). (cs ++ t) ++ drop i e) l)
+
+-- ---- i of the characters ds are put behind n
 
 pub record Wrote (before : List ℕ) (n : ℕ) (ds : List ℕ) (i : ℕ) (behind : List ℕ) : Type 0 where
   pub kept : length behind ≡ length before
@@ -72,6 +82,19 @@ module _ {before : List ℕ} {n : ℕ} {ds : List ℕ} where
           let t : take (i + 1) ds ≡ take i ds ++ x ∷ [] = rw (add-one, g) (take-suc ds i 0 h) in
           rw (w.wrote entry cs z, l, t)
           (over_set (cs ++ take i ds) entry x ∙ ap (λ (u : List ℕ). over u entry) (append_assoc cs (take i ds) (x ∷ [])))
+
+  pub wrote_part : {i k : ℕ} {t : List ℕ} → k ≡ i → t ≡ take i ds → i ≤ length ds → n + i ≤ length before → length before < count_most
+      → Wrote before n ds i (put_mid n k before t)
+  wrote_part {i} {k} {t} e p h r b =
+      let l : length t ≡ i = ap length p ∙ length-take-le i ds h in
+      record {
+        kept = same_len_mid n k before t (omega (arith, length-take k (drop n before), length-drop n before));
+        wrote = λ entry cs z. (
+            let as_long : length entry ≡ length before = sym (ap length z.front ∙ over_length cs entry) in
+            ap (λ (u : List ℕ). put_mid n k u t) z.front ∙ over_put cs t entry n k (omega (arith, z.count)) (omega arith) (omega arith)
+            ∙ ap (λ (u : List ℕ). over (cs ++ u) entry) p
+            );
+      }
 
   -- as many as fit
   pub wrote_all : {i m : ℕ} {behind : List ℕ} → Wrote before n ds i behind → i ≡ min (length ds) (length before - n) → length before < count_most

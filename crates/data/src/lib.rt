@@ -35,51 +35,30 @@ pub struct Filled {
 fn counted(n: usize, k: usize) -> usize
     ensures { result ≡ min count_most (n + k) }
 {
-    if COUNT_MOST <= n {
-        return COUNT_MOST;
-    }
-    if COUNT_MOST - n <= k {
-        return COUNT_MOST;
-    }
-    n + k
+    n.saturating_add(k).min(COUNT_MOST)
 }
 
 // n and k times len more, as far as they are counted.
 fn counted_times(n: usize, k: usize, len: usize) -> usize
     ensures { result ≡ min count_most (n + k * len) }
 {
-    if len == 0 {
-        return counted(n, 0);
-    }
-    if COUNT_MOST / len < k {
-        return COUNT_MOST;
-    }
-    counted(n, k * len)
+    counted(n, k.saturating_mul(len))
 }
 
 // How many of k more have room behind n, where there is room for `len`.
 fn fitting(len: usize, n: usize, k: usize) -> usize
     ensures { result ≡ min k (len - n) }
 {
-    if len <= n {
-        return 0;
-    }
-    if len - n <= k {
-        return len - n;
-    }
-    k
+    k.min(len.saturating_sub(n))
 }
 
 // The bytes w behind the first n.
 fn copy(buffer: &mut [u8], n: usize, w: &[u8]) -> usize
     ensures { Adds buffer.old n w.now buffer.new result }
 {
-    let bytes = fitting(buffer.len(), n, w.len());
-    let mut i = 0;
-    while i < bytes {
-        let at = n + i;
-        buffer[at] = w[i];
-        i += 1;
+    if n < buffer.len() {
+        let bytes = fitting(buffer.len(), n, w.len());
+        buffer[n..n + bytes].copy_from_slice(&w[..bytes]);
     }
     counted(n, w.len())
 }
@@ -88,12 +67,9 @@ fn copy(buffer: &mut [u8], n: usize, w: &[u8]) -> usize
 fn fill(buffer: &mut [u8], n: usize, k: usize, x: u8) -> usize
     ensures { Adds buffer.old n (replicate k x) buffer.new result }
 {
-    let times = fitting(buffer.len(), n, k);
-    let mut i = 0;
-    while i < times {
-        let at = n + i;
-        buffer[at] = x;
-        i += 1;
+    if n < buffer.len() {
+        let times = fitting(buffer.len(), n, k);
+        buffer[n..n + times].fill(x);
     }
     counted(n, k)
 }
@@ -139,8 +115,7 @@ fn times(text: &[u8], c: Cursor) -> Numbered
     if 0 < w.len() {
         if w[0] == b'r' {
             let v = words::number(&w[1..]);
-            let cursor = words::within(d, v, 1, 4096, c.at);
-            return Numbered { cursor, n: v.n };
+            return words::within(d, v, 1, 4096, c.at);
         }
     }
     let cursor = words::refuse_if(d, true, NOT_HERE, c.at);

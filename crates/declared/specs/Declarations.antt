@@ -1,5 +1,5 @@
 -- All that is declared before the bodies: `STIL 1.0;`, the names and the tables (document 01, "The text we read").
-use Rattle.std.specs.Prelude.{ℕ, ◌*◌, ◌≡◌, Bool, true, List, length, get_or}
+use Rattle.std.specs.Prelude.{ℕ, ◌*◌, ◌≡◌, true, List, length, get_or, Option as Maybe}
 use Rattle.meaning.specs.Bounds.{tables_most}
 use Rattle.meaning.specs.Reader.{Reader, ◌>>=◌, ◌>>◌, give, due}
 use Rattle.meaning.specs.Signals.{Names}
@@ -36,10 +36,10 @@ pub record Blank (places lists tplaces waves : List ℕ) : Type 0 where
   pub unset : (i : ℕ) → get_or waves i 0 ≡ 0
 
 -- THE PROMISE of the reader of all declarations: from c the definition goes to r, and the arrays hold what it answers
-pub record Declares (text : List ℕ) (c r : Cursor) (places lists tplaces waves : List ℕ) (signals names tables : ℕ) (w : Watch) (found : Bool) (place : ℕ) : Type 0 where
+pub record Declares (text : List ℕ) (c r : Cursor) (places lists tplaces waves : List ℕ) (signals names tables : ℕ) (w : Watch) (sight : Maybe ℕ) : Type 0 where
   pub it : Tables
   pub goes : Goes text c declarations r (names_of text places lists signals, names_of text places lists names, it)
   pub held : alive r ≡ true → Held text tplaces waves tables it
-  pub watched : alive r ≡ true → Watched text w found place (table_at it w.table)
+  pub watched : alive r ≡ true → Watched text w sight (table_at it w.table)
   pub sized : Sized places lists
   pub chained : alive r ≡ true → Chained text places names

@@ -5,19 +5,19 @@ ghost use Rattle.std.specs.Prelude.{◌≡◌};
 ghost use Rattle.tokens.specs.Tokens.{toks};
 ghost use Rattle.words.specs.Cursor.{Goes};
 ghost use Rattle.declared.specs.Declarations.{version as version_due, declarations as declarations_due, Blank, Declares};
-ghost use Rattle.declared.specs.Numbers.{refusal, numbers_of, told_of, written};
+ghost use Rattle.declared.specs.Numbers.{numbers_of, told_of, five_of, written};
 
+use tokens::Refusal;
 use words::Cursor;
 
-// How many signals, names and tables there are, where the watched waveform is found, and the cursor behind them.
+// How many signals, names and tables there are, where the watched waveform is, and the cursor behind them.
 #[derive(Clone, Copy)]
 pub struct Read {
     pub cursor: Cursor,
     pub signals: usize,
     pub names: usize,
     pub tables: usize,
-    pub found: bool,
-    pub place: usize,
+    pub sight: Option<usize>,
 }
 
 // The cursor behind `STIL 1.0;`, and where its `;` stands.
@@ -47,7 +47,7 @@ pub fn declarations(
     watch: timing::Watch,
 ) -> Read
     requires { Blank places.old lists.old tplaces.old waves.old }
-    ensures { Declares text.now c result.cursor places.new lists.new tplaces.new waves.new result.signals result.names result.tables watch result.found result.place }
+    ensures { Declares text.now c result.cursor places.new lists.new tplaces.new waves.new result.signals result.names result.tables watch result.sight }
 {
     let v = version(text, c);
     let behind = v.cursor;
@@ -60,35 +60,21 @@ pub fn declarations(
         signals: f.signals,
         names: f.names,
         tables: t.count,
-        found: t.found,
-        place: t.place,
+        sight: t.sight,
     }
 }
 
-// What is told of a text's declarations: the number of the refusal, 0 for none; its place, or that of the token behind them; and how many there are.
+// What is told of a text's declarations: where the token behind them stands, and how many there are.
 #[derive(Clone, Copy)]
 pub struct Told {
-    pub no: usize,
     pub place: usize,
     pub signals: usize,
     pub names: usize,
     pub tables: usize,
 }
 
-fn refused(no: u8, place: usize) -> Told
-    ensures { result ≡ refusal no place }
-{
-    Told {
-        no: no as usize,
-        place,
-        signals: 0,
-        names: 0,
-        tables: 0,
-    }
-}
-
 // Of a text without a fault in its bytes.
-fn read_all(text: &[u8]) -> Told
+fn read_all(text: &[u8]) -> Result<Told, Refusal>
     ensures { result ≡ numbers_of (declarations_due (toks text.now 0)) }
 {
     let mut places = [0usize; signals::PLACES];
@@ -112,24 +98,34 @@ fn read_all(text: &[u8]) -> Told
     );
     let behind = d.cursor;
     if behind.no != 0 {
-        return refused(behind.no, behind.at);
+        return Err(Refusal {
+            no: behind.no,
+            place: behind.at,
+        });
     }
-    Told {
-        no: 0,
+    Ok(Told {
         place: behind.at,
         signals: d.signals,
         names: d.names,
         tables: d.tables,
-    }
+    })
 }
 
 // Of any text.
-pub fn tell(text: &[u8]) -> Told
+pub fn tell(text: &[u8]) -> Result<Told, Refusal>
     ensures { result ≡ told_of text.now }
 {
-    match tokens::fault_in(text) {
-        tokens::Fault::Clean => read_all(text),
-        tokens::Fault::Faulty(n, p) => refused(n, p),
+    tokens::fault_in(text)?;
+    read_all(text)
+}
+
+// As five numbers: that of the refusal, 0 for none; its place, or that of the token behind the declarations; and how many there are, where there is no refusal.
+fn five(told: Result<Told, Refusal>) -> [usize; 5]
+    ensures { result ≡ five_of told }
+{
+    match told {
+        Ok(t) => [0, t.place, t.signals, t.names, t.tables],
+        Err(r) => [r.no as usize, r.place, 0, 0, 0],
     }
 }
 
@@ -141,10 +137,5 @@ pub extern "C" fn lutemeteor_declared(text: &[u8], numbers: &mut [usize])
     if numbers.len() < 5 {
         return;
     }
-    let t = tell(text);
-    numbers[0] = t.no;
-    numbers[1] = t.place;
-    numbers[2] = t.signals;
-    numbers[3] = t.names;
-    numbers[4] = t.tables;
+    numbers[..5].copy_from_slice(&five(tell(text)));
 }

@@ -8,6 +8,8 @@ use mathlib.Core.List.{List, []}
 use lib.Dec.{ltb}
 use lib.ListN.{get_or, drop, replicate, length-replicate, get_or-replicate}
 use borrow.Author.Tests.{ltb-true, ltb-false}
+use Rattle.std.specs.Prelude.{Result, Ok, Err}
+use Rattle.std.specs.Result.{result_unwrap_or}
 use Rattle.tokens.specs.Tokens.{Toks, toks}
 use Rattle.meaning.specs.Bounds.{depth_most}
 use Rattle.meaning.specs.Names.{find}
@@ -22,9 +24,8 @@ use Rattle.words.proofs.Words.{zeros}
 use Rattle.measures.specs.Book.{entries, first_pattern, start_at}
 use Rattle.heads.specs.declared.Known.{Known}
 use Rattle.texts.proofs.Runs.{found_none, found_pattern}
-use Rattle.labels.specs.Table.{labels_most, hashes, Gathers}
+use Rattle.labels.specs.Table.{labels_most, hashes, Gathers, Gathered}
 use Rattle.labels.proofs.Scanning.{empty_held}
-use Rattle.labels.specs.declared.Gathered.{Gathered}
 use Rattle.references.specs.References.{referred, past_by, past}
 use Rattle.references.specs.Filled.{noted, tables, Standing, Stood, Promised}
 use Rattle.references.specs.declared.Passed.{Passed}
@@ -58,16 +59,14 @@ module _ {text places lists tplaces book rows : List ℕ} {known : Known} {patte
 
   module _ {s : ℕ} (at : toks text s ≡ d.from) where
     -- no label from there on is used twice
-    pub all_gathered : {labels chains nexts : List ℕ} {r : Gathered} → Gathers text s [] labels chains nexts r → r.again ≡ false
-    all_gathered {r = r} g = by r.again refl
-      where
-        by : (b : Bool) → r.again ≡ b → b ≡ false
-        by false e = refl
-        by true e =
-            let none_is : used_twice [] (toks text s) ≡ none = ap (used_twice []) at ∙ none_twice text p.burst s d.from p.all p.once p.parted at in
-            let q : some r.place ≡ none = ap (λ (x : Bool). told x r.place) (sym e) ∙ g.first ∙ none_is in
-            let z : ◌≡◌ {A = ℕ} 0 1 = cc in
-            absurd (omega arith)
+    pub all_gathered : {labels chains nexts : List ℕ} {n : ℕ} (r : Result ℕ ℕ) → n ≡ result_unwrap_or r 0 → Gathered text s [] labels chains nexts r
+        → Gathers text s [] labels chains nexts n
+    all_gathered {labels} {chains} {nexts} (Ok m) h g = subst (Gathers text s [] labels chains nexts) (sym h) g
+    all_gathered (Err q) h g =
+        let none_is : used_twice [] (toks text s) ≡ none = ap (used_twice []) at ∙ none_twice text p.burst s d.from p.all p.once p.parted at in
+        let e : some q ≡ none = sym g ∙ none_is in
+        let z : ◌≡◌ {A = ℕ} 0 1 = cc in
+        absurd (omega arith)
 
     module _ {c : Cursor} (st : Stands text s c) (labels : List ℕ) (count : ℕ) where
       stands_there : stream text c ≡ d.from
@@ -85,14 +84,13 @@ module _ {text places lists tplaces book rows : List ℕ} {known : Known} {patte
       pub stood : Stood (tables text places lists tplaces book rows known labels count) (stream text c) depth_most 0
       stood = record { env = E; body = d.body; rest = p.stands.0; standing = standing }
 
-      pub past_found : {chains nexts table table' : List ℕ} {r : Gathered} {x : Passed} → ((i : ℕ) → get_or table i 0 ≡ 0) → Gathers text s [] labels chains nexts r → r.count ≡ count
+      pub past_found : {chains nexts table table' : List ℕ} {x : Passed} → ((i : ℕ) → get_or table i 0 ≡ 0) → Gathers text s [] labels chains nexts count
           → Promised (tables text places lists tplaces book rows known labels count) (stream text c) depth_most 0 table x table'
           → (w : List ℕ) → past_by name (noted text labels count table') w ≡ past E d.from d.body name w
-      past_found {r = r} empty g n h w =
-          let once = all_gathered g in
-          let l = names_labelled g once E (stream text c) d.body p.stands.0 0 (sym st.there) standing.holds in
+      past_found empty g h w =
+          let l = names_labelled g E (stream text c) d.body p.stands.0 0 (sym st.there) standing.holds in
           let filled = (h.fills E d.body p.stands.0 standing).filled in
-          past_is empty E (stream text c) d.body filled (subst (λ (m : ℕ). Labelled text labels m (referred E (stream text c) 0 d.body)) n l) name w ∙ ap (λ (ts : Toks). past E ts d.body name w) stands_there
+          past_is empty E (stream text c) d.body filled l name w ∙ ap (λ (ts : Toks). past E ts d.body name w) stands_there
 
 -- ---- tables of zeros
 

@@ -8,21 +8,21 @@ use mathlib.Core.List.{List, [], ◌∷◌, ◌++◌}
 use lib.Dec.{leb}
 use lib.ListN.{length}
 use borrow.Author.Tests.{le-leb, leb-true}
+use Rattle.std.specs.Prelude.{Result, Ok, Err}
+use Rattle.tokens.specs.declared.Refusal.{Refusal}
 use Rattle.tokens.specs.Tokens.{Tok}
 use Rattle.tokens.proofs.Bools.{never}
 use Rattle.meaning.specs.Refusals.{no_room}
 use Rattle.meaning.specs.Statements.{Decl, Decls, Env, numbered}
-use Rattle.meaning.specs.Meaning.{Answer, given, refused, answering}
+use Rattle.meaning.specs.Meaning.{Answer, given, refused, answering, meaning}
 use Rattle.words.specs.Cursor.{span}
 use Rattle.words.specs.Table.{name_of, names_from, names, named}
 use Rattle.signals.specs.Names.{list_at}
 use Rattle.timing.specs.declared.Watch.{Watch}
 use Rattle.bursts.specs.Listed.{listed_in}
-use Rattle.texts.specs.Texts.{sound}
 use Rattle.texts.specs.Tables.{Found}
 use Rattle.texts.specs.declared.Verdict.{Verdict}
 use Rattle.texts.proofs.Sounds.{sound_runs}
-use Rattle.verdicts.specs.declared.Unfit.{Unfit}
 use Rattle.heads.specs.declared.Known.{Known}
 use Rattle.index.specs.Index.{Line, lines_from, lines_of, index_of}
 use Rattle.index.specs.Lines.{blocks_in}
@@ -30,8 +30,7 @@ use Rattle.references.specs.References.{past_by, past}
 use Rattle.references.specs.Filled.{noted}
 use Rattle.reports.specs.Report.{Record, reported, Fail, not_in_pattern, answered_of, answered_all}
 use Rattle.reports.specs.Read.{Holds}
-use Rattle.verdicts.specs.Found.{Plays}
-use Rattle.verdicts.proofs.Found.{meaning_refused}
+use Rattle.verdicts.specs.Found.{meant_by}
 use Rattle.fails.specs.Fails.{Told, answers, refuses, telling, lines_named, only_line, past_in, fails_of, fails_in, Rows, Failed, in_front, room_for, fails_out, fails}
 use Rattle.fails.specs.Once.{Often}
 use Rattle.fails.specs.Judged.{Judges}
@@ -40,8 +39,8 @@ use Rattle.fails.specs.Referred.{Pattern, Refers}
 use Rattle.fails.specs.Service.{rows_of, row_after, spared_told, Reports, Answering}
 use Rattle.fails.specs.declared.Times.{Times}
 use Rattle.fails.specs.declared.Verdict.{Verdict as Judged}
-use Rattle.fails.specs.declared.Failures.{Failures}
-use Rattle.fails.specs.declared.Failures.TheVariants.{Answers, Refused, ReportRefused}
+use Rattle.fails.specs.declared.Unanswered.{Unanswered}
+use Rattle.fails.specs.declared.Unanswered.TheVariants.{Text, Report}
 use Rattle.fails.proofs.Laws.{declarations_are}
 use Rattle.fails.proofs.Judging.{answered_unknown, answered_known}
 use Rattle.fails.proofs.Patterns.{pattern_is}
@@ -49,15 +48,15 @@ use Rattle.fails.proofs.Patterns.{pattern_is}
 -- ---- an answer, and the rows
 
 module _ {a : Told Failed} {c s l : List ℕ} where
-  reports_refused : {n p : ℕ} → a ≡ refuses false n p → Reports a c c s s l l (Refused n p)
+  reports_refused : {x : Refusal} → a ≡ refuses false x.no x.place → Reports a c c s s l l (Err (Text x))
   unfolding row_after
   reports_refused e = rw e (record { told = refl; cycles_are = refl; signals_are = refl; letters_are = refl })
 
-  reports_of : {n p : ℕ} → a ≡ refuses true n p → Reports a c c s s l l (ReportRefused n p)
+  reports_of : {x : Refusal} → a ≡ refuses true x.no x.place → Reports a c c s s l l (Err (Report x))
   unfolding row_after
   reports_of e = rw e (record { told = refl; cycles_are = refl; signals_are = refl; letters_are = refl })
 
-  reports_answers : {n : ℕ} {c' s' l' : List ℕ} → a ≡ answers (record { count = n; rows = rows_of c' s' l' }) → Reports a c c' s s' l l' (Answers n)
+  reports_answers : {n : ℕ} {c' s' l' : List ℕ} → a ≡ answers (record { count = n; rows = rows_of c' s' l' }) → Reports a c c' s s' l l' (Ok n)
   unfolding row_after
   reports_answers e = rw e (record { told = refl; cycles_are = refl; signals_are = refl; letters_are = refl })
 
@@ -66,7 +65,7 @@ unfolding spared_told
 spared_all (answers x) = refl
 spared_all (refuses its n p) = refl
 
-pub reports_all : {a : Told Failed} {c c' s s' l l' : List ℕ} {r : Failures} → Reports (spared_told true a) c c' s s' l l' r → Reports a c c' s s' l l' r
+pub reports_all : {a : Told Failed} {c c' s s' l l' : List ℕ} {r : Result ℕ Unanswered} → Reports (spared_told true a) c c' s s' l l' r → Reports a c c' s s' l l' r
 reports_all {a} {c} {c'} {s} {s'} {l} {l'} {r} h = subst (λ (x : Told Failed). Reports x c c' s s' l l' r) (spared_all a) h
 
 -- ---- references that are known alike
@@ -139,12 +138,12 @@ module _ {text places lists tplaces book rows : List ℕ} {known : Known} {patte
       same_answers first count _ _ (λ w. sym (x.past_is E ps d (subst (λ (n : List ℕ). Pattern text places lists tplaces book rows known patterns n E ps d) (sym name_is) p) w
       ∙ ap (λ (n : List ℕ). past E d.from d.body n w) name_is)) rs
 
-  pub answer_outside : v.outside ≡ true → Answering text places lists tplaces book rows known signals patterns report at end from first count spare c c s s l l (ReportRefused not_in_pattern v.place)
+  pub answer_outside : v.outside ≡ true → Answering text places lists tplaces book rows known signals patterns report at end from first count spare c c s s l l (Err (Report (record { no = not_in_pattern; place = v.place })))
   unfolding spared_told telling
   answer_outside o = record { reports = λ E ps d p rs us q fits. reports_of (rw (as_found p rs ∙ j.refuses o first rs us q)) }
 
   module _ (o : v.outside ≡ false) where
-    pub answer_full : (v.full || not spare) ≡ true → Answering text places lists tplaces book rows known signals patterns report at end from first count spare c c s s l l (Refused no_room 0)
+    pub answer_full : (v.full || not spare) ≡ true → Answering text places lists tplaces book rows known signals patterns report at end from first count spare c c s s l l (Err (Text (record { no = no_room; place = 0 })))
     unfolding spared_told telling
     answer_full e = record {
       reports = λ E ps d p rs us q fits. (
@@ -160,7 +159,7 @@ module _ {text places lists tplaces book rows : List ℕ} {known : Known} {patte
 
     pub answer_given : {c' s' l' : List ℕ} {n : ℕ} → (v.full || not spare) ≡ false
         → Writes report from (names text places signals) first (past_by name (noted text labels k table)) c s l c' s' l' n
-        → Answering text places lists tplaces book rows known signals patterns report at end from first count spare c c' s s' l l' (Answers n)
+        → Answering text places lists tplaces book rows known signals patterns report at end from first count spare c c' s s' l l' (Ok n)
     unfolding spared_told telling in_front
     answer_given {c'} {s'} {l'} {n} e w = record {
       reports = λ E ps d p rs us q fits. (
@@ -191,71 +190,66 @@ unfolding numbered named names_from
 numbered_named f text places i zero = refl
 numbered_named f text places i (suc k) = ap (λ (l : List (Tok × ℕ)). (name_of text places i, i) ∷ l) (numbered_named f text places (suc i) k)
 
-pub fails_refused : (text report : List ℕ) {n p : ℕ} (spare : Bool) {c s l : List ℕ} → sound text ≡ refused n p
-    → Reports (spared_told spare (fails text report (rows_of c s l))) c c s s l l (Refused n p)
+pub fails_refused : (text report : List ℕ) {x : Refusal} (spare : Bool) {c s l : List ℕ} → meaning text ≡ refused x.no x.place
+    → Reports (spared_told spare (fails text report (rows_of c s l))) c c s s l l (Err (Text x))
 unfolding fails telling spared_told
-fails_refused text report spare e = reports_refused (rw (meaning_refused text e))
+fails_refused text report spare e = reports_refused (rw e)
 
 module _ {w : Watch} {text places lists tplaces waves book rows list : List ℕ} {v : Verdict} (f : Found text w places lists tplaces waves book rows list v) where
   abbrev lines : List Line
   lines = lines_from 0 (blocks_in text f.it.read.patterns) (listed_in text list v.parts.listed)
 
-  module _ {a : Unfit} (p : Plays text places lists tplaces waves book rows list v a) (report : List ℕ) (spare : Bool) (c s l : List ℕ) where
-    pub fails_failing : (a.no ≡ 0 → ⊥) → Reports (spared_told spare (fails text report (rows_of c s l))) c c s s l l (Refused a.no a.place)
-    unfolding fails telling spared_told
-    fails_failing h = reports_refused (rw (p.refuses f h))
+  module _ (on : meaning text ≡ given (meant_by f.it)) (report : List ℕ) (spare : Bool) (c s l : List ℕ) where
+    -- an accepted text is what is asked of
+    asked : fails text report (rows_of c s l) ≡ telling true (fails_of lines f.tabled.parts.env f.it.read report) (λ fs. fails_out fs (rows_of c s l))
+    unfolding fails telling fails_in index_of lines_of
+    asked = rw (on, (sound_runs text f.is).read, declarations_are f.tabled.parts, f.tabled.listed_are)
 
-    module _ (on : a.no ≡ 0) where
-      -- an accepted text is what is asked of
-      asked : fails text report (rows_of c s l) ≡ telling true (fails_of lines f.tabled.parts.env f.it.read report) (λ fs. fails_out fs (rows_of c s l))
-      unfolding fails telling fails_in index_of lines_of
-      asked = rw (p.accepts f on, (sound_runs text f.is).read, declarations_are f.tabled.parts, f.tabled.listed_are)
+    signals_are : numbered 0 f.it.read.signals ≡ names text places v.parts.signals
+    signals_are = ap (numbered 0) f.tabled.signals_are ∙ numbered_named (list_at lists) text places 0 v.parts.signals
 
-      signals_are : numbered 0 f.it.read.signals ≡ names text places v.parts.signals
-      signals_are = ap (numbered 0) f.tabled.signals_are ∙ numbered_named (list_at lists) text places 0 v.parts.signals
+    pub fails_faulty : {x : Refusal} → reported (names text places v.parts.signals) report ≡ refused x.no x.place
+        → Reports (spared_told spare (fails text report (rows_of c s l))) c c s s l l (Err (Report x))
+    unfolding telling fails_of answering spared_told
+    fails_faulty e = reports_of (rw (asked, signals_are, e))
 
-      pub fails_faulty : {n q : ℕ} → reported (names text places v.parts.signals) report ≡ refused n q
-          → Reports (spared_told spare (fails text report (rows_of c s l))) c c s s l l (ReportRefused n q)
-      unfolding telling fails_of answering spared_told
-      fails_faulty e = reports_of (rw (asked, signals_are, e))
+    module _ {at end from : ℕ} (h : Holds (names text places v.parts.signals) report at end from) {t : Times} (o : Often f.it.read.patterns (span report at end) (lines_named (span report at end) lines) t) where
+      abbrev pattern : Tok
+      pattern = record { at = at; word = span report at end }
 
-      module _ {at end from : ℕ} (h : Holds (names text places v.parts.signals) report at end from) {t : Times} (o : Often f.it.read.patterns (span report at end) (lines_named (span report at end) lines) t) where
-        abbrev pattern : Tok
-        pattern = record { at = at; word = span report at end }
+      -- a sound report is asked of
+      read : fails text report (rows_of c s l)
+          ≡ telling true (answering (only_line pattern (lines_named (span report at end) lines)) λ x.
+          answered_all x.first x.count (past_in f.tabled.parts.env f.it.read.patterns (span report at end)) h.list) (λ fs. fails_out fs (rows_of c s l))
+      unfolding fails_of answering
+      read = asked ∙ rw (signals_are, h.whole)
 
-        -- a sound report is asked of
-        read : fails text report (rows_of c s l)
-            ≡ telling true (answering (only_line pattern (lines_named (span report at end) lines)) λ x.
-            answered_all x.first x.count (past_in f.tabled.parts.env f.it.read.patterns (span report at end)) h.list) (λ fs. fails_out fs (rows_of c s l))
-        unfolding fails_of answering
-        read = asked ∙ rw (signals_are, h.whole)
+      pub fails_unlisted : (t.times ≡ 1 → ⊥) → Reports (spared_told spare (fails text report (rows_of c s l))) c c s s l l (Err (Report (record { no = not_in_pattern; place = at })))
+      unfolding telling answering only_line spared_told
+      fails_unlisted z = reports_of (ap (spared_told spare) (read ∙ by t.times refl))
+        where
+          by : (n : ℕ) → t.times ≡ n
+              → telling true (answering (only_line pattern (lines_named (span report at end) lines)) λ x.
+              answered_all x.first x.count (past_in f.tabled.parts.env f.it.read.patterns (span report at end)) h.list) (λ fs. fails_out fs (rows_of c s l)) ≡ refuses true not_in_pattern at
+          by zero e = rw (o.never e)
+          by (suc n) e = let x = o.again (λ y. omega (arith, e)) z in rw x.are
 
-        pub fails_unlisted : (t.times ≡ 1 → ⊥) → Reports (spared_told spare (fails text report (rows_of c s l))) c c s s l l (ReportRefused not_in_pattern at)
-        unfolding telling answering only_line spared_told
-        fails_unlisted z = reports_of (ap (spared_told spare) (read ∙ by t.times refl))
-          where
-            by : (n : ℕ) → t.times ≡ n
-                → telling true (answering (only_line pattern (lines_named (span report at end) lines)) λ x.
-                answered_all x.first x.count (past_in f.tabled.parts.env f.it.read.patterns (span report at end)) h.list) (λ fs. fails_out fs (rows_of c s l)) ≡ refuses true not_in_pattern at
-            by zero e = rw (o.never e)
-            by (suc n) e = let x = o.again (λ y. omega (arith, e)) z in rw x.are
+      module _ (one : t.times ≡ 1) where
+        pub listed_pattern : Pattern text places lists tplaces book rows v.parts.known v.parts.patterns (span report at end) f.tabled.parts.env f.it.read.patterns (o.once one).decl
+        listed_pattern =
+            let x = o.once one in
+            pattern_is f (span report at end) x.decl x.found (omega (arith, x.cycles_are, x.fits))
 
-        module _ (one : t.times ≡ 1) where
-          pub listed_pattern : Pattern text places lists tplaces book rows v.parts.known v.parts.patterns (span report at end) f.tabled.parts.env f.it.read.patterns (o.once one).decl
-          listed_pattern =
-              let x = o.once one in
-              pattern_is f (span report at end) x.decl x.found (omega (arith, x.cycles_are, x.fits))
-
-          pub fails_listed : {c' s' l' : List ℕ} {r : Failures}
-              → Answering text places lists tplaces book rows v.parts.known v.parts.signals v.parts.patterns report at end from t.first t.cycles spare c c' s s' l l' r
-              → Reports (spared_told spare (fails text report (rows_of c s l))) c c' s s' l l' r
-          unfolding answering only_line past_in
-          fails_listed {c'} {s'} {l'} {r} a =
-              let x = o.once one in
-              let d = x.decl in
-              let E = f.tabled.parts.env in
-              let same_past : (u : List ℕ) → past_in E f.it.read.patterns (span report at end) u ≡ past E d.from d.body (span report at end) u = λ u. rw (x.found, past_in) in
-              let is : fails text report (rows_of c s l) ≡ telling true (answered_all t.first t.cycles (past E d.from d.body (span report at end)) h.list) (λ fs. fails_out fs (rows_of c s l)) =
-              read ∙ rw (x.is, x.first_is, x.count_is, same_answers t.first t.cycles _ _ same_past h.list) in
-              subst (λ (y : Told Failed). Reports (spared_told spare y) c c' s s' l l' r) (sym is)
-              (a.reports E f.it.read.patterns d listed_pattern h.list h.behind h.again x.fits)
+        pub fails_listed : {c' s' l' : List ℕ} {r : Result ℕ Unanswered}
+            → Answering text places lists tplaces book rows v.parts.known v.parts.signals v.parts.patterns report at end from t.first t.cycles spare c c' s s' l l' r
+            → Reports (spared_told spare (fails text report (rows_of c s l))) c c' s s' l l' r
+        unfolding answering only_line past_in
+        fails_listed {c'} {s'} {l'} {r} a =
+            let x = o.once one in
+            let d = x.decl in
+            let E = f.tabled.parts.env in
+            let same_past : (u : List ℕ) → past_in E f.it.read.patterns (span report at end) u ≡ past E d.from d.body (span report at end) u = λ u. rw (x.found, past_in) in
+            let is : fails text report (rows_of c s l) ≡ telling true (answered_all t.first t.cycles (past E d.from d.body (span report at end)) h.list) (λ fs. fails_out fs (rows_of c s l)) =
+            read ∙ rw (x.is, x.first_is, x.count_is, same_answers t.first t.cycles _ _ same_past h.list) in
+            subst (λ (y : Told Failed). Reports (spared_told spare y) c c' s s' l l' r) (sym is)
+            (a.reports E f.it.read.patterns d listed_pattern h.list h.behind h.again x.fits)

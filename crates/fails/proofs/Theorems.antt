@@ -3,12 +3,14 @@ use Prim.Native.Nat.{ℕ}
 use mathlib.Core.Path.{◌≡◌, sym, ap, ◌∙◌}
 use mathlib.Core.Bool.{true, false}
 use mathlib.Core.List.{List}
+use Rattle.std.specs.Prelude.{Result, Ok, Err}
+use Rattle.tokens.specs.declared.Refusal.{Refusal}
 use Rattle.fails.specs.Fails.{Told, answers, refuses, Failed}
 use Rattle.fails.specs.Service.{told_of, row_after, Reports}
-use Rattle.fails.specs.declared.Failures.{Failures}
-use Rattle.fails.specs.declared.Failures.TheVariants.{Answers, Refused, ReportRefused}
+use Rattle.fails.specs.declared.Unanswered.{Unanswered}
+use Rattle.fails.specs.declared.Unanswered.TheVariants.{Text, Report}
 
-pub report_determined : {a : Told Failed} {c x₁ x₂ s y₁ y₂ l z₁ z₂ : List ℕ} {r q : Failures} → Reports a c x₁ s y₁ l z₁ r → Reports a c x₂ s y₂ l z₂ q
+pub report_determined : {a : Told Failed} {c x₁ x₂ s y₁ y₂ l z₁ z₂ : List ℕ} {r q : Result ℕ Unanswered} → Reports a c x₁ s y₁ l z₁ r → Reports a c x₂ s y₂ l z₂ q
     → (r ≡ q) × (x₁ ≡ x₂) × (y₁ ≡ y₂) × (z₁ ≡ z₂)
 report_determined {a} {c} {x₁} {x₂} {s} {y₁} {y₂} {l} {z₁} {z₂} {r} {q} h k = (
   told r x₁ y₁ z₁ h.told ∙ sym (told q x₂ y₂ z₂ k.told),
@@ -17,17 +19,17 @@ report_determined {a} {c} {x₁} {x₂} {s} {y₁} {y₂} {l} {z₁} {z₂} {r} 
   h.letters_are ∙ sym k.letters_are,
 )
   where
-    back : Told Failed → Failures
-    back (answers x) = Answers x.count
-    back (refuses its n p) = elim its [ true ↦ ReportRefused n p | false ↦ Refused n p ]
+    back : Told Failed → Result ℕ Unanswered
+    back (answers x) = Ok x.count
+    back (refuses its n p) = elim its [ true ↦ Err (Report (record { no = n; place = p })) | false ↦ Err (Text (record { no = n; place = p })) ]
 
-    told : (r : Failures) (x y z : List ℕ) → told_of r x y z ≡ a → r ≡ back a
-    told (Answers n) x y z e = ap back e
-    told (Refused n p) x y z e = ap back e
-    told (ReportRefused n p) x y z e = ap back e
+    told : (r : Result ℕ Unanswered) (x y z : List ℕ) → told_of r x y z ≡ a → r ≡ back a
+    told (Ok n) x y z e = ap back e
+    told (Err (Text u)) x y z e = ap back e
+    told (Err (Report u)) x y z e = ap back e
 
-module _ {a : Told Failed} {c c' s s' l l' : List ℕ} {n p : ℕ} where
-  pub text_untouched : Reports a c c' s s' l l' (Refused n p) → (c' ≡ c) × (s' ≡ s) × (l' ≡ l)
+module _ {a : Told Failed} {c c' s s' l l' : List ℕ} {x : Refusal} where
+  pub text_untouched : Reports a c c' s s' l l' (Err (Text x)) → (c' ≡ c) × (s' ≡ s) × (l' ≡ l)
   unfolding row_after
   text_untouched h = (
     h.cycles_are ∙ ap (λ (x : Told Failed). row_after (λ b. b.cycles) x c) (sym h.told),
@@ -35,7 +37,7 @@ module _ {a : Told Failed} {c c' s s' l l' : List ℕ} {n p : ℕ} where
     h.letters_are ∙ ap (λ (x : Told Failed). row_after (λ b. b.letters) x l) (sym h.told),
   )
 
-  pub report_untouched : Reports a c c' s s' l l' (ReportRefused n p) → (c' ≡ c) × (s' ≡ s) × (l' ≡ l)
+  pub report_untouched : Reports a c c' s s' l l' (Err (Report x)) → (c' ≡ c) × (s' ≡ s) × (l' ≡ l)
   unfolding row_after
   report_untouched h = (
     h.cycles_are ∙ ap (λ (x : Told Failed). row_after (λ b. b.cycles) x c) (sym h.told),

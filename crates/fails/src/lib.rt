@@ -1,7 +1,7 @@
 // The service for fail reports: a text and a report to the run's cycle, the signal's number and the letter of each offset.
 #![tactic(auto)]
 
-ghost use Rattle.std.specs.Prelude.{◌≡◌, true, false, List, ◌∷◌, [], ℕ, ◌+◌, ◌-◌, ◌≤◌, min, length};
+ghost use Rattle.std.specs.Prelude.{◌≡◌, true, false, List, ◌∷◌, [], ℕ, ◌+◌, ◌-◌, ◌≤◌, length};
 ghost use Rattle.meaning.specs.Bounds.{cycles_most};
 ghost use Rattle.meaning.specs.Body.{Body};
 ghost use Rattle.meaning.specs.Statements.{Decls};
@@ -15,6 +15,7 @@ ghost use Rattle.references.specs.References.{past_by};
 ghost use Rattle.references.specs.Filled.{noted};
 ghost use Rattle.reports.specs.Report.{Fail};
 ghost use Rattle.verdicts.specs.Found.{SomeFound};
+ghost use Rattle.fails.specs.declared.Unanswered.TheVariants.{Text};
 ghost use Rattle.fails.specs.Fails.{lines_named, fails as fails_of};
 ghost use Rattle.fails.specs.Once.{Often, More};
 ghost use Rattle.fails.specs.Judged.{JudgesRecord, Judges, Roomed};
@@ -25,6 +26,7 @@ ghost use Rattle.fails.specs.Service.{rows_of, spared_told, Reports, Answering};
 use heads::Known;
 use measures::DEPTH;
 use references::Before;
+use tokens::Refusal;
 use words::{Cursor, NO_ROOM};
 
 const NOT_IN_PATTERN: u8 = 24;
@@ -70,14 +72,19 @@ struct Wrote {
     at: usize,
 }
 
+// What is refused: the text, or for want of room; or the report, with the place in it.
 #[derive(Clone, Copy)]
-pub enum Failures {
-    // how many answers were written
-    Answers(usize),
-    // the number of the refusal, and the place: the text's, or 19
-    Refused(u8, usize),
-    // the report's, with its place in the report
-    ReportRefused(u8, usize),
+pub enum Unanswered {
+    Text(Refusal),
+    Report(Refusal),
+}
+
+impl From<Refusal> for Unanswered {
+    ghost from_gives = { λ x r. r ≡ Text x };
+
+    fn from(refusal: Refusal) -> Unanswered {
+        Unanswered::Text(refusal)
+    }
 }
 
 // ---- the pattern that a report names
@@ -148,7 +155,7 @@ fn left_behind(cycles: usize, b: Before) -> u64
 fn or_one(n: usize) -> usize
     ensures { (n ≡ 0 → result ≡ 1) × ((n ≡ 0 → ⊥) → result ≡ n) }
 {
-    if n == 0 { 1 } else { n }
+    n.max(1)
 }
 
 // The record at the cursor: its 24, if it has one, where the pattern of this name has so many cycles.
@@ -425,8 +432,8 @@ fn refer<'a>(
     let names = &book[measures::PATTERNS * 2..];
     let i = words::find(text, name, names, patterns);
     let start = measures::start_at(book, measures::PATTERNS + i);
-    let all = labels::gather(text, start, b"", labels, chains, nexts);
-    let count = all.count;
+    // No label of a text that was accepted is used twice.
+    let count = labels::gather(text, start, b"", labels, chains, nexts).unwrap_or(0);
     let c = words::cursor_at(text, start);
     let mut args = [0usize; measures::ROW];
     references::fill(
@@ -437,13 +444,6 @@ fn refer<'a>(
 }
 
 // ---- the service
-
-// The lesser of two numbers.
-fn lesser(a: usize, b: usize) -> usize
-    ensures { result ≡ min a b }
-{
-    if a <= b { a } else { b }
-}
 
 // A sound report, whose pattern is listed once: 24, 19, or its answers.
 fn answer<'a>(
@@ -466,7 +466,7 @@ fn answer<'a>(
     cycles: &mut [u64],
     signals: &mut [u64],
     letters: &mut [u8],
-) -> Failures
+) -> Result<usize, Unanswered>
     requires { SomePattern text.now places.now lists.now tplaces.now book.now rows.now known patterns (span report.now at «end») }
     ensures { Answering text.now places.now lists.now tplaces.now book.now rows.now known declared patterns report.now at «end» «from» first count spare cycles.old cycles.new signals.old signals.new letters.old letters.new result }
 {
@@ -490,7 +490,7 @@ fn answer<'a>(
         &mut nexts,
         &mut table,
     );
-    let room = lesser(cycles.len(), lesser(signals.len(), letters.len()));
+    let room = cycles.len().min(signals.len().min(letters.len()));
     let v = judge(
         report,
         from,
@@ -507,10 +507,16 @@ fn answer<'a>(
         room,
     );
     if v.outside {
-        return Failures::ReportRefused(NOT_IN_PATTERN, v.place);
+        return Err(Unanswered::Report(Refusal {
+            no: NOT_IN_PATTERN,
+            place: v.place,
+        }));
     }
     if v.full | !spare {
-        return Failures::Refused(NO_ROOM, 0);
+        return Err(Unanswered::Text(Refusal {
+            no: NO_ROOM,
+            place: 0,
+        }));
     }
     let n = write(
         report,
@@ -529,7 +535,7 @@ fn answer<'a>(
         signals,
         letters,
     );
-    Failures::Answers(n)
+    Ok(n)
 }
 
 // A text that 1 to 16 leave: 17, the report's own faults, 24, 19, or the answers.
@@ -549,24 +555,24 @@ fn answer_found<'a>(
     cycles: &mut [u64],
     signals: &mut [u64],
     letters: &mut [u8],
-) -> Failures
+) -> Result<usize, Unanswered>
     requires { SomeFound text.now places.now lists.now tplaces.now waves.now book.now rows.now list.now used.now v }
     ensures { Reports (spared_told spare (fails_of text.now report.now (rows_of cycles.old signals.old letters.old))) cycles.old cycles.new signals.old signals.new letters.old letters.new result }
 {
     let parts = v.parts;
-    let f = verdicts::failing(
+    verdicts::failing(
         text, places, lists, tplaces, waves, book, rows, list, used, v,
-    );
-    if f.no != 0 {
-        return Failures::Refused(f.no, f.place);
-    }
+    )?;
     match reports::reported(report, text, places, parts.signals) {
-        reports::Finding::Refused(n, p) => Failures::ReportRefused(n, p),
+        reports::Finding::Refused(no, place) => Err(Unanswered::Report(Refusal { no, place })),
         reports::Finding::Sound(at, end, from) => {
             let name = words::bytes_of(report, at, end);
             let t = times_listed(text, book, list, parts.listed, parts.patterns, name);
             if t.times != 1 {
-                return Failures::ReportRefused(NOT_IN_PATTERN, at);
+                return Err(Unanswered::Report(Refusal {
+                    no: NOT_IN_PATTERN,
+                    place: at,
+                }));
             }
             answer(
                 text,
@@ -601,7 +607,7 @@ pub fn answer_report<'a>(
     cycles: &mut [u64],
     signals: &mut [u64],
     letters: &mut [u8],
-) -> Failures
+) -> Result<usize, Unanswered>
     ensures { Reports (spared_told spare (fails_of text.now report.now (rows_of cycles.old signals.old letters.old))) cycles.old cycles.new signals.old signals.new letters.old letters.new result }
 {
     let mut places = [0usize; signals::PLACES];
@@ -623,10 +629,7 @@ pub fn answer_report<'a>(
         &mut list,
         verdicts::nowhere(),
         &mut used,
-    );
-    if v.no != 0 {
-        return Failures::Refused(v.no, v.place);
-    }
+    )?;
     answer_found(
         text, &places, &lists, &tplaces, &waves, &book, &rows, &list, &used, v, report, spare,
         cycles, signals, letters,
@@ -640,7 +643,7 @@ pub fn report<'a>(
     cycles: &mut [u64],
     signals: &mut [u64],
     letters: &mut [u8],
-) -> Failures
+) -> Result<usize, Unanswered>
     ensures { Reports (fails_of text.now report.now (rows_of cycles.old signals.old letters.old)) cycles.old cycles.new signals.old signals.new letters.old letters.new result }
 {
     answer_report(text, report, true, cycles, signals, letters)

@@ -8,6 +8,7 @@ use mathlib.Core.List.{List, [], ◌++◌, append_assoc}
 use lib.Dec.{ltb, eqb}
 use lib.ListN.{length, take, drop}
 use borrow.Author.Tests.{lt-ltb, ltb-true}
+use Rattle.std.specs.Prelude.{Option as Maybe, Some, None, unwrap_or}
 use Rattle.tokens.specs.Written.{bytes, same}
 use Rattle.tokens.specs.Tokens.{Tok, Toks, stop, tok, toks, left}
 use Rattle.meaning.specs.Reader.{ok, any, ahead_of}
@@ -15,9 +16,8 @@ use Rattle.meaning.specs.Names.{number}
 use Rattle.meaning.specs.Data.{stretched, repeat_of, times, repeated, piece, data_read}
 use Rattle.meaning.proofs.Taking.{takes_any}
 use Rattle.words.specs.declared.Cursor.{Cursor}
-use Rattle.words.specs.declared.Value.{Value}
 use Rattle.words.specs.Cursor.{span, ahead, stream, Stands, alive, Goes}
-use Rattle.words.specs.Values.{most, capped, told, value_of}
+use Rattle.words.specs.Values.{most, capped, value_of}
 use Rattle.words.proofs.Words.{rest, span_none}
 use Rattle.words.proofs.Flow.{read, stream_on, stream_stop, went}
 use Rattle.feeds.specs.declared.Feed.{Feed}
@@ -52,15 +52,15 @@ token_fewer text c h = rw (stream_on text c (lt-ltb c.at c.end h)) (omega arith)
 -- ---- a repeat
 
 -- the code's number is the definition's: that is below the largest that the code holds
-pub times_read : (w : List ℕ) (v : Value) → value_of v ≡ capped (number (take (length w - 1) (drop 1 w))) → Times w (v.n - 1)
-times_read w v e = record { is = λ t n ts us f. (let r = (times_ok t w ts f).0 in omega (arith, by v.right n r e, r.least)) }
+pub times_read : (w : List ℕ) (v : Maybe ℕ) → value_of v ≡ capped (number (take (length w - 1) (drop 1 w))) → Times w (unwrap_or v 0 - 1)
+times_read w v e = record { is = λ t n ts us f. (let r = (times_ok t w ts f).0 in omega (arith, by v n r e, r.least)) }
   where
-    by : (b : Bool) (n : ℕ) → Repeat w n → told b v.n ≡ capped (number (take (length w - 1) (drop 1 w))) → v.n ≡ n
-    by true n x e =
-        let q : some v.n ≡ some (min most n) = e ∙ ap (λ (u : List ℕ). capped (number u)) (rest w 1) ∙ ap capped x.is in
-        let p : v.n ≡ min most n = cc in
+    by : (v : Maybe ℕ) (n : ℕ) → Repeat w n → value_of v ≡ capped (number (take (length w - 1) (drop 1 w))) → unwrap_or v 0 ≡ n
+    by (Some m) n x e =
+        let q : some m ≡ some (min most n) = e ∙ ap (λ (u : List ℕ). capped (number u)) (rest w 1) ∙ ap capped x.is in
+        let p : m ≡ min most n = cc in
         omega (arith, x.most)
-    by false n x e =
+    by None n x e =
         let q = e ∙ ap (λ (u : List ℕ). capped (number u)) (rest w 1) ∙ ap capped x.is in
         let z : ◌≡◌ {A = ℕ} 0 1 = cc in
         absurd (omega arith)

@@ -174,11 +174,8 @@ fn pass(feed: Feed, n: usize) -> Passed
 fn times(w: &[u8]) -> usize
     ensures { Times w.now result }
 {
-    let v = words::number(words::bytes_of(w, 1, w.len()));
-    if v.n == 0 {
-        return 0;
-    }
-    v.n as usize - 1
+    let n = words::number(words::bytes_of(w, 1, w.len())).unwrap_or(0);
+    n.saturating_sub(1) as usize
 }
 
 // The word that a repeat says, behind its `\`.

@@ -8,6 +8,8 @@ use mathlib.Core.List.{List, ◌++◌}
 use lib.Dec.{leb, ltb}
 use lib.ListN.{length, take, drop}
 use borrow.Author.Tests.{le-leb, lt-leb, ltb-true, ltb-false}
+use Rattle.std.specs.Prelude.{Result, Ok, Err}
+use Rattle.tokens.specs.declared.Refusal.{Refusal}
 use Rattle.tokens.specs.Refusals.{text_most}
 use Rattle.meaning.specs.Bounds.{patterns_most}
 use Rattle.meaning.specs.Refusals.{no_room}
@@ -15,73 +17,65 @@ use Rattle.meaning.specs.Run.{cycles}
 use Rattle.meaning.specs.Meaning.{Answer, given, refused, answering, Meaning, meaning}
 use Rattle.meaning.specs.Services.{Counts, counts, names_of}
 use Rattle.timing.specs.declared.Watch.{Watch}
-use Rattle.texts.specs.Texts.{sound}
 use Rattle.texts.specs.Tables.{Found}
 use Rattle.texts.specs.declared.Verdict.{Verdict}
 use Rattle.plays.specs.Plays.{ground_of}
-use Rattle.verdicts.specs.declared.Unfit.{Unfit}
 use Rattle.pages.specs.Pages.{Puts as Put}
-use Rattle.verdicts.specs.Found.{meant_by, Plays}
-use Rattle.verdicts.proofs.Found.{meaning_refused, runs, names_are, counts_met}
+use Rattle.verdicts.specs.Found.{meant_by}
+use Rattle.verdicts.proofs.Found.{runs, names_are, counts_met}
 use Rattle.folded.specs.Flat.{patterns_of, flat}
 use Rattle.folded.specs.Layout.{written}
 use Rattle.folded.specs.Fold.{folded_most, many_patterns, many_cycles, Folded as Bytes, folded_in, folded, fold}
 use Rattle.flats.specs.Meant.{Meant}
-use Rattle.flats.specs.Flattens.{flat_in, flat_of, Puts, Flattens, Folds}
+use Rattle.flats.specs.Flattens.{flat_in, flat_of, Stands, Puts, Flattens, Folds}
 use Rattle.verdicts.specs.Buffers.{afterwards, spared}
-use Rattle.flats.specs.declared.Flat.{Flat}
-use Rattle.flats.specs.declared.Folded.TheVariants.{Text, Refused}
 
 -- ---- a text that 1 to 16 leave
 
-pub flat_refused : (text : List ℕ) {page : List ℕ} {n p : ℕ} {r : Flat} → sound text ≡ refused n p → (n ≡ 0 → ⊥) → (r.no ≡ n) × (r.place ≡ p) → Flattens text page r
+pub flat_refused : (text : List ℕ) {n p : ℕ} → meaning text ≡ refused n p → flat_of text ≡ refused n p
 unfolding flat_of answering
-flat_refused text e z k = record { refuses = λ h. (rw (meaning_refused text e, flat_of) (rw (k.0, k.1))); gives = λ h. absurd (z (sym k.0 ∙ h)) }
+flat_refused text e = rw (e, flat_of)
 
-module _ {w : Watch} {text places lists tplaces waves book rows list : List ℕ} {v : Verdict} (f : Found text w places lists tplaces waves book rows list v) {a : Unfit}
-    (p : Plays text places lists tplaces waves book rows list v a) where
-  pub flat_failing : {page : List ℕ} {r : Flat} → (a.no ≡ 0 → ⊥) → (r.no ≡ a.no) × (r.place ≡ a.place) → Flattens text page r
+module _ {w : Watch} {text places lists tplaces waves book rows list : List ℕ} {v : Verdict} (f : Found text w places lists tplaces waves book rows list v)
+    (on : meaning text ≡ given (meant_by f.it)) where
+  cycles_are : cycles 0 f.it.run ≡ v.total.cycles
+  unfolding counts
+  cycles_are = ap (λ (c : Counts). c.cycles) (counts_met f)
+
+  by_cycles : {c : Bool} → leb (cycles 0 f.it.run) folded_most ≡ c → flat_of text ≡ elim c as (λ x. Answer (List ℕ)) [ false ↦ refused many_cycles 0 | true ↦ flat_in text (meant_by f.it) ]
   unfolding flat_of answering
-  flat_failing h k = record { refuses = λ z. (rw (p.refuses f h, flat_of) (rw (k.0, k.1))); gives = λ z. absurd (h (sym k.0 ∙ z)) }
+  by_cycles e =
+      ap (λ x. answering x λ m. elim (leb (cycles 0 m.run) folded_most) as (λ x. Answer (List ℕ)) [ false ↦ refused many_cycles 0 | true ↦ flat_in text m ]) on
+      ∙ ap (λ (c : Bool). elim c as (λ x. Answer (List ℕ)) [ false ↦ refused many_cycles 0 | true ↦ flat_in text (meant_by f.it) ]) e
 
-  module _ (on : a.no ≡ 0) where
-    cycles_are : cycles 0 f.it.run ≡ v.total.cycles
-    unfolding counts
-    cycles_are = ap (λ (c : Counts). c.cycles) (counts_met f)
+  -- 23
+  pub flat_many : folded_most < v.total.cycles → flat_of text ≡ refused many_cycles 0
+  flat_many l = by_cycles (lt-leb (cycles 0 f.it.run) folded_most (omega (arith, cycles_are)))
 
-    by_cycles : {c : Bool} → leb (cycles 0 f.it.run) folded_most ≡ c → flat_of text ≡ elim c as (λ x. Answer (List ℕ)) [ false ↦ refused many_cycles 0 | true ↦ flat_in text (meant_by f.it) ]
-    unfolding flat_of answering
-    by_cycles e =
-        ap (λ x. answering x λ m. elim (leb (cycles 0 m.run) folded_most) as (λ x. Answer (List ℕ)) [ false ↦ refused many_cycles 0 | true ↦ flat_in text m ]) (p.accepts f on)
-        ∙ ap (λ (c : Bool). elim c as (λ x. Answer (List ℕ)) [ false ↦ refused many_cycles 0 | true ↦ flat_in text (meant_by f.it) ]) e
-
-    -- 23
-    pub flat_many : {page : List ℕ} {r : Flat} → folded_most < v.total.cycles → (r.no ≡ many_cycles) × (r.place ≡ 0) → Flattens text page r
-    flat_many l k = record {
-      refuses = λ z. by_cycles (lt-leb (cycles 0 f.it.run) folded_most (omega (arith, cycles_are))) ∙ sym (ap₂ (λ (n p : ℕ). refused n p) k.0 k.1);
-      gives = λ z. absurd (omega (arith, k.0));
+  module _ (l : v.total.cycles ≤ folded_most) where
+    pub is_meant : Meant (ground_of text places lists tplaces book rows waves v.parts.known v.parts.signals) list v.parts.listed v.parts.patterns v.total.size (meant_by f.it)
+    unfolding counts names_of
+    is_meant = record {
+      parts = v.parts;
+      read = f.it.read;
+      runs = runs f;
+      meant = on;
+      size_is = ap (λ (c : Counts). c.size) (counts_met f);
+      few = omega (arith, cycles_are);
+      signals_are = names_are f false;
+      tables_are = names_are f true;
     }
 
-    module _ (l : v.total.cycles ≤ folded_most) where
-      pub is_meant : Meant (ground_of text places lists tplaces book rows waves v.parts.known v.parts.signals) list v.parts.listed v.parts.patterns v.total.size (meant_by f.it)
-      unfolding counts names_of
-      is_meant = record {
-        parts = v.parts;
-        read = f.it.read;
-        runs = runs f;
-        meant = p.accepts f on;
-        size_is = ap (λ (c : Counts). c.size) (counts_met f);
-        few = omega (arith, cycles_are);
-        signals_are = names_are f false;
-        tables_are = names_are f true;
-      }
+    pub flat_put : {page : List ℕ} {r : Result ℕ Refusal}
+        → Puts (ground_of text places lists tplaces book rows waves v.parts.known v.parts.signals) list v.parts.listed v.parts.patterns v.total.size page r → Flattens text page r
+    flat_put {page} {r} s = by r (s.stands _ is_meant)
+      where
+        few : flat_of text ≡ flat_in text (meant_by f.it)
+        few = by_cycles (le-leb (cycles 0 f.it.run) folded_most (omega (arith, cycles_are)))
 
-      pub flat_put : {page : List ℕ} {r : Flat}
-          → Puts (ground_of text places lists tplaces book rows waves v.parts.known v.parts.signals) list v.parts.listed v.parts.patterns v.total.size page r → Flattens text page r
-      flat_put s =
-          let x = s.stands _ is_meant in
-          let e = by_cycles (le-leb (cycles 0 f.it.run) folded_most (omega (arith, cycles_are))) in
-          record { refuses = λ z. e ∙ x.refuses z; gives = λ z. (e ∙ (x.gives z).0, (x.gives z).1) }
+        by : (x : Result ℕ Refusal) → Stands (flat_in text (meant_by f.it)) page x → Flattens text page x
+        by (Ok n) h = (few ∙ h.0, h.1)
+        by (Err x) h = few ∙ h
 
 -- ---- into the buffer
 
@@ -117,11 +111,11 @@ fold_as text buffer = by (meaning text)
     by (refused n p) = refl
 
 module _ {a : Answer Bytes} {buffer : List ℕ} where
-  folds_refused : {n p : ℕ} → a ≡ refused n p → Folds a buffer buffer (Refused n p)
+  folds_refused : {x : Refusal} → a ≡ refused x.no x.place → Folds a buffer buffer (Err x)
   unfolding afterwards
   folds_refused e = rw e (record { answers = refl; buffer_is = refl })
 
-  folds_given : {n : ℕ} {after : List ℕ} → a ≡ given (record { size = n; buffer = after }) → Folds a buffer after (Text n)
+  folds_given : {n : ℕ} {after : List ℕ} → a ≡ given (record { size = n; buffer = after }) → Folds a buffer after (Ok n)
   unfolding afterwards
   folds_given e = rw e (record { answers = refl; buffer_is = refl })
 
@@ -145,40 +139,38 @@ spared_placed spare bytes buffer {y} e = by spare (ltb (length buffer) (length b
         ≡ elim (not s || b) as (λ x. Answer Bytes) [ true ↦ refused no_room 0 | false ↦ given (record { size = length bytes; buffer = bytes ++ drop (length bytes) buffer }) ]
     by s b q = ap (λ (c : Bool). spared {A = Bytes} s (elim c as (λ x. Answer Bytes) [ false ↦ refused no_room 0 | true ↦ given (record { size = length bytes; buffer = bytes ++ drop (length bytes) buffer }) ])) (tested b q) ∙ cases s b
 
-module _ (text : List ℕ) {page : List ℕ} {r : Flat} (h : Flattens text page r) where
-  pub fold_refused : (spare : Bool) (buffer : List ℕ) → (r.no ≡ 0 → ⊥) → Folds (spared spare (fold text buffer)) buffer buffer (Refused r.no r.place)
+pub fold_refused : (text : List ℕ) {x : Refusal} (spare : Bool) (buffer : List ℕ) → flat_of text ≡ refused x.no x.place → Folds (spared spare (fold text buffer)) buffer buffer (Err x)
+unfolding answering
+fold_refused text spare buffer e = folds_refused (ap (spared spare) (fold_as text buffer ∙ ap (λ x. answering x (λ bytes. placed bytes buffer)) e))
+
+module _ (text : List ℕ) {page : List ℕ} {n : ℕ} (h : Flattens text page (Ok n)) (spare : Bool) (buffer : List ℕ) {y : Bool} (e : (not spare || ltb (length buffer) n) ≡ y) where
+  answered : spared spare (fold text buffer)
+      ≡ elim y as (λ x. Answer Bytes) [ true ↦ refused no_room 0 | false ↦ given (record { size = n; buffer = take n page ++ drop n buffer }) ]
   unfolding answering
-  fold_refused spare buffer z = folds_refused (ap (spared spare) (fold_as text buffer ∙ ap (λ x. answering x (λ bytes. placed bytes buffer)) (h.refuses z)))
+  answered =
+      ap (spared spare) (fold_as text buffer ∙ ap (λ x. answering x (λ bytes. placed bytes buffer)) h.0)
+      ∙ spared_placed spare (take n page) buffer (ap (λ (i : ℕ). not spare || ltb (length buffer) i) h.1 ∙ e)
+      ∙ ap (λ (i : ℕ). elim y as (λ x. Answer Bytes) [ true ↦ refused no_room 0 | false ↦ given (record { size = i; buffer = take n page ++ drop i buffer }) ]) h.1
 
-  module _ (on : r.no ≡ 0) (spare : Bool) (buffer : List ℕ) {y : Bool} (e : (not spare || ltb (length buffer) r.length) ≡ y) where
-    answered : spared spare (fold text buffer)
-        ≡ elim y as (λ x. Answer Bytes) [ true ↦ refused no_room 0 | false ↦ given (record { size = r.length; buffer = take r.length page ++ drop r.length buffer }) ]
-    unfolding answering
-    answered =
-        let x = h.gives on in
-        ap (spared spare) (fold_as text buffer ∙ ap (λ x. answering x (λ bytes. placed bytes buffer)) x.0)
-        ∙ spared_placed spare (take r.length page) buffer (ap (λ (n : ℕ). not spare || ltb (length buffer) n) x.1 ∙ e)
-        ∙ ap (λ (n : ℕ). elim y as (λ x. Answer Bytes) [ true ↦ refused no_room 0 | false ↦ given (record { size = n; buffer = take r.length page ++ drop n buffer }) ]) x.1
+  pub fold_full : y ≡ true → Folds (spared spare (fold text buffer)) buffer buffer (Err (record { no = no_room; place = 0 }))
+  fold_full z = folds_refused (answered ∙ ap (λ (y : Bool). elim y as (λ x. Answer Bytes) [ true ↦ refused no_room 0 | false ↦ given (record { size = n; buffer = take n page ++ drop n buffer }) ]) z)
 
-    pub fold_full : y ≡ true → Folds (spared spare (fold text buffer)) buffer buffer (Refused no_room 0)
-    fold_full z = folds_refused (answered ∙ ap (λ (y : Bool). elim y as (λ x. Answer Bytes) [ true ↦ refused no_room 0 | false ↦ given (record { size = r.length; buffer = take r.length page ++ drop r.length buffer }) ]) z)
+  pub fold_given : {bytes after : List ℕ} {at : ℕ} → y ≡ false → bytes ≡ take (n - 0) (drop 0 page) → Put buffer 0 bytes at after → Folds (spared spare (fold text buffer)) buffer after (Ok n)
+  fold_given {bytes} z b p =
+      let zero : n - 0 ≡ n = omega arith in
+      let is : bytes ≡ take n page = b ∙ ap (λ (k : ℕ). take k page) zero in
+      let long : 0 + length bytes ≡ n = zero-add (length bytes) ∙ ap length is ∙ h.1 in
+      folds_given (answered ∙ ap (λ (y : Bool). elim y as (λ x. Answer Bytes) [ true ↦ refused no_room 0 | false ↦ given (record { size = n; buffer = take n page ++ drop n buffer }) ]) z
+      ∙ ap (λ (l : List ℕ). given (record { size = n; buffer = l })) (sym (p.page ∙ ap₂ (λ (l : List ℕ) (k : ℕ). l ++ drop k buffer) is long)))
 
-    pub fold_given : {bytes after : List ℕ} {at : ℕ} → y ≡ false → bytes ≡ take (r.length - 0) (drop 0 page) → Put buffer 0 bytes at after → Folds (spared spare (fold text buffer)) buffer after (Text r.length)
-    fold_given {bytes} z b p =
-        let n : r.length - 0 ≡ r.length = omega arith in
-        let is : bytes ≡ take r.length page = b ∙ ap (λ (k : ℕ). take k page) n in
-        let long : 0 + length bytes ≡ r.length = zero-add (length bytes) ∙ ap length is ∙ (h.gives on).1 in
-        folds_given (answered ∙ ap (λ (y : Bool). elim y as (λ x. Answer Bytes) [ true ↦ refused no_room 0 | false ↦ given (record { size = r.length; buffer = take r.length page ++ drop r.length buffer }) ]) z
-        ∙ ap (λ (l : List ℕ). given (record { size = r.length; buffer = l })) (sym (p.page ∙ ap₂ (λ (l : List ℕ) (k : ℕ). l ++ drop k buffer) is long)))
-
-    pub fold_fits : {bytes : List ℕ} → y ≡ false → bytes ≡ take (r.length - 0) (drop 0 page) → 0 + length bytes ≤ length buffer
-    fold_fits {bytes} z b =
-        let n : r.length - 0 ≡ r.length = omega arith in
-        let is : bytes ≡ take r.length page = b ∙ ap (λ (k : ℕ). take k page) n in
-        let long : length bytes ≡ r.length = ap length is ∙ (h.gives on).1 in
-        by spare (ltb (length buffer) r.length) refl (e ∙ z) long
-      where
-        by : (s b : Bool) → ltb (length buffer) r.length ≡ b → (not s || b) ≡ false → {k : ℕ} → k ≡ r.length → 0 + k ≤ length buffer
-        by true true q w k = absurd (let z : ◌≡◌ {A = ℕ} 0 1 = cc in omega arith)
-        by true false q w k = omega (arith, ltb-false (length buffer) r.length q)
-        by false b q w k = absurd (let z : ◌≡◌ {A = ℕ} 0 1 = cc in omega arith)
+  pub fold_fits : {bytes : List ℕ} → y ≡ false → bytes ≡ take (n - 0) (drop 0 page) → 0 + length bytes ≤ length buffer
+  fold_fits {bytes} z b =
+      let zero : n - 0 ≡ n = omega arith in
+      let is : bytes ≡ take n page = b ∙ ap (λ (k : ℕ). take k page) zero in
+      let long : length bytes ≡ n = ap length is ∙ h.1 in
+      by spare (ltb (length buffer) n) refl (e ∙ z) long
+    where
+      by : (s b : Bool) → ltb (length buffer) n ≡ b → (not s || b) ≡ false → {k : ℕ} → k ≡ n → 0 + k ≤ length buffer
+      by true true q w k = absurd (let z : ◌≡◌ {A = ℕ} 0 1 = cc in omega arith)
+      by true false q w k = omega (arith, ltb-false (length buffer) n q)
+      by false b q w k = absurd (let z : ◌≡◌ {A = ℕ} 0 1 = cc in omega arith)

@@ -8,6 +8,8 @@ use lib.Dec.{leb}
 use lib.ListN.{length, take, drop, length-append}
 use lib.Seq.{take_at}
 use borrow.Author.Tests.{le-leb, lt-leb, leb-true, leb-false}
+use Rattle.std.specs.Prelude.{Result, Ok, Err}
+use Rattle.tokens.specs.declared.Refusal.{Refusal}
 use Rattle.tokens.specs.Refusals.{text_most}
 use Rattle.tokens.proofs.Bools.{true_false}
 use Rattle.meaning.specs.Bounds.{patterns_most}
@@ -20,9 +22,8 @@ use Rattle.folded.specs.Fold.{many_patterns}
 use Rattle.pens.specs.Pens.{Holds, Writes}
 use Rattle.pens.specs.declared.Pen.{Pen}
 use Rattle.flats.specs.Meant.{Meant, signals_in, tables_in, Bodied}
-use Rattle.flats.specs.Flattens.{headed, Heads, Fits, Joins, flat_in, Puts}
+use Rattle.flats.specs.Flattens.{headed, Heads, Fits, Joins, flat_in, Stands, Puts}
 use Rattle.flats.specs.declared.Part.{Part}
-use Rattle.flats.specs.declared.Flat.{Flat}
 use Rattle.flats.proofs.Whole.{body_of, whole_is}
 
 -- nothing stands on a page yet
@@ -53,13 +54,8 @@ front_is {before} {front} {page} {p} h e =
 
 module _ {entry other : List ℕ} {pen q : Pen} where
   -- the other page's bytes have no room by themselves
-  pub joins_full : {r : Flat} → q.full ≡ true → (r.no ≡ no_room) × (r.place ≡ 0) → Joins entry pen other q entry r
-  joins_full e n = record {
-    fits = λ front back before blank h l k m. record {
-      refuses = λ z. (n.0, n.1, omega (arith, full_long k e, length-append front back));
-      gives = λ z. absurd (omega (arith, n.0));
-    };
-  }
+  pub joins_full : q.full ≡ true → Joins entry pen other q entry (Err (record { no = no_room; place = 0 }))
+  joins_full e = record { fits = λ front back before blank h l k m. (refl, omega (arith, full_long k e, length-append front back)) }
 
   module _ (e : q.full ≡ false) {bytes exit : List ℕ} {p : Pen} (b : bytes ≡ take (q.at - 0) (drop 0 other)) (w : Writes entry pen bytes exit p) where
     moved : (front back before blank : List ℕ) → Holds before front pen entry → Holds blank back q other → Holds before (front ++ back) p exit
@@ -67,41 +63,29 @@ module _ {entry other : List ℕ} {pen q : Pen} where
         let z : q.at - 0 ≡ q.at = omega arith in
         subst (λ (l : List ℕ). Holds before (front ++ l) p exit) (b ∙ ap (λ (n : ℕ). take n other) z ∙ front_is k e) (w.on before front h)
 
-    pub joins_over : {r : Flat} → p.full ≡ true → (r.no ≡ no_room) × (r.place ≡ 0) → Joins entry pen other q exit r
-    joins_over f n = record {
-      fits = λ front back before blank h l k m. record {
-        refuses = λ z. (n.0, n.1, omega (arith, l, full_long (moved front back before blank h k) f));
-        gives = λ z. absurd (omega (arith, n.0));
-      };
-    }
+    pub joins_over : p.full ≡ true → Joins entry pen other q exit (Err (record { no = no_room; place = 0 }))
+    joins_over f = record { fits = λ front back before blank h l k m. (refl, omega (arith, l, full_long (moved front back before blank h k) f)) }
 
-    pub joins_both : {r : Flat} → p.full ≡ false → r.no ≡ 0 → r.length ≡ p.at → Joins entry pen other q exit r
-    joins_both f n s = record {
+    pub joins_both : p.full ≡ false → Joins entry pen other q exit (Ok p.at)
+    joins_both f = record {
       fits = λ front back before blank h l k m. (
-          let all = moved front back before blank h k in
-          record {
-            refuses = λ z. absurd (z n);
-            gives = λ z. (omega (arith, l, roomy all f), ap (λ (i : ℕ). take i exit) s ∙ front_is all f, s ∙ (all.some (roomy all f)).1);
-          });
+          let all = moved front back before blank h k in (omega (arith, l, roomy all f), front_is all f, (all.some (roomy all f)).1));
     }
 
 -- ---- an accepted text
 
 module _ {g : Ground} {list : List ℕ} {listed patterns sized : ℕ} {body body' : List ℕ} {part : Part} (b : Bodied g list listed patterns sized body body' part) where
   -- 22
-  pub puts_many : {page : List ℕ} {r : Flat} → patterns_most < part.pattern → (r.no ≡ many_patterns) × (r.place ≡ 0) → Puts g list listed patterns sized page r
+  pub puts_many : {page : List ℕ} → patterns_most < part.pattern → Puts g list listed patterns sized page (Err (record { no = many_patterns; place = 0 }))
   unfolding flat_in
-  puts_many l n = record {
-    stands = λ m h. record {
-      refuses = λ z. (rw (n.0, n.1) (ap (λ c. elim c as (λ x. Answer (List ℕ)) [
-        | false ↦ refused many_patterns 0
-        | true ↦ elim (leb (length (written (flat g.text m))) text_most) [ false ↦ refused no_room 0 | true ↦ given (written (flat g.text m)) ]
-      ]) (lt-leb (length (patterns_of m)) patterns_most (omega (arith, b.counts m h)))));
-      gives = λ z. absurd (omega (arith, n.0));
-    };
+  puts_many l = record {
+    stands = λ m h. ap (λ c. elim c as (λ x. Answer (List ℕ)) [
+      | false ↦ refused many_patterns 0
+      | true ↦ elim (leb (length (written (flat g.text m))) text_most) [ false ↦ refused no_room 0 | true ↦ given (written (flat g.text m)) ]
+    ]) (lt-leb (length (patterns_of m)) patterns_most (omega (arith, b.counts m h)));
   }
 
-  module _ {page page₁ page₂ : List ℕ} {pen : Pen} {r : Flat} (few : part.pattern ≤ patterns_most) (long : length page ≡ text_most) (blank : length body ≡ text_most)
+  module _ {page page₁ page₂ : List ℕ} {pen : Pen} {r : Result ℕ Refusal} (few : part.pattern ≤ patterns_most) (long : length page ≡ text_most) (blank : length body ≡ text_most)
       (h : Heads g.text g.places g.signals part.pattern page page₁ pen) (j : Joins page₁ pen body' part.pen page₂ r) where
     together : (m : Meaning) → Meant g list listed patterns sized m → Fits (written (flat g.text m)) page₂ r
     unfolding body_of
@@ -119,11 +103,8 @@ module _ {g : Ground} {list : List ℕ} {listed patterns sized : ℕ} {body body
     ]) (le-leb (length (patterns_of m)) patterns_most (omega (arith, b.counts m k))) e
 
     pub puts_joined : Puts g list listed patterns sized page₂ r
-    puts_joined = record {
-      stands = λ m k. (
-          let f = together m k in
-          record {
-            refuses = λ z. (let t = f.refuses z in by_room m k (lt-leb _ text_most t.2) ∙ sym (ap₂ (λ (n p : ℕ). refused n p) t.0 t.1));
-            gives = λ z. (let t = f.gives z in (by_room m k (le-leb _ text_most t.0) ∙ ap given (sym t.1), ap length t.1 ∙ sym t.2));
-          });
-    }
+    puts_joined = record { stands = λ m k. by m k r (together m k) }
+      where
+        by : (m : Meaning) → Meant g list listed patterns sized m → (x : Result ℕ Refusal) → Fits (written (flat g.text m)) page₂ x → Stands (flat_in g.text m) page₂ x
+        by m k (Ok n) t = (by_room m k (le-leb _ text_most t.0) ∙ ap given (sym t.1), ap length t.1 ∙ sym t.2)
+        by m k (Err x) t = by_room m k (lt-leb _ text_most t.1) ∙ ap (λ (y : Refusal). refused y.no y.place) (sym t.0)

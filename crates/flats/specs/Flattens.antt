@@ -1,11 +1,13 @@
 -- A folded text on a page, whatever buffer is lent; and the service Fold.
-use Rattle.std.specs.Prelude.{ℕ, ◌+◌, ◌≤◌, ◌<◌, ◌≡◌, true, false, List, [], ◌++◌, leb, length, take}
+use Rattle.std.specs.Prelude.{ℕ, ◌+◌, ◌≤◌, ◌<◌, ◌≡◌, true, false, List, [], ◌++◌, leb, length, take, Result, Ok, Err}
+use Rattle.tokens.specs.declared.Refusal.{Refusal}
 use Rattle.tokens.specs.Written.{bytes}
 use Rattle.tokens.specs.Refusals.{text_most}
 use Rattle.meaning.specs.Bounds.{signals_most, patterns_most}
 use Rattle.meaning.specs.Refusals.{no_room}
 use Rattle.meaning.specs.Run.{cycles}
 use Rattle.meaning.specs.Meaning.{Answer, given, refused, answering, firsts, Meaning, meaning}
+use Rattle.meaning.specs.Results.{answer_of}
 use Rattle.words.specs.Table.{names}
 use Rattle.plays.specs.Plays.{Ground}
 use Rattle.verdicts.specs.Buffers.{afterwards}
@@ -16,9 +18,6 @@ use Rattle.folded.specs.Fold.{folded_most, many_patterns, many_cycles, Folded as
 use Rattle.pens.specs.Pens.{Holds, Writes}
 use Rattle.pens.specs.declared.Pen.{Pen}
 use Rattle.flats.specs.Meant.{Meant}
-use Rattle.flats.specs.declared.Flat.{Flat}
-use Rattle.flats.specs.declared.Folded.{Folded}
-use Rattle.flats.specs.declared.Folded.TheVariants.{Text, Refused}
 
 -- bytes of the longest row
 abbrev pub row_most : ℕ
@@ -42,11 +41,11 @@ pub record Heads (text places : List ℕ) (signals count : ℕ) (entry exit : Li
 -- ---- both pages together
 
 -- bytes on a page as long as a text may be: they have no room, or stand at its front
-pub record Fits (all page : List ℕ) (r : Flat) : Type 0 where
-  pub refuses : (r.no ≡ 0 → ⊥) → (r.no ≡ no_room) × (r.place ≡ 0) × (text_most < length all)
-  pub gives : r.no ≡ 0 → (length all ≤ text_most) × (take r.length page ≡ all) × (r.length ≡ length all)
+abbrev pub Fits : (all page : List ℕ) → Result ℕ Refusal → Type 0
+Fits all page (Ok n) = (length all ≤ text_most) × (take n page ≡ all) × (n ≡ length all)
+Fits all page (Err r) = (r ≡ record { no = no_room; place = 0 }) × (text_most < length all)
 
-pub record Joins (entry : List ℕ) (pen : Pen) (other : List ℕ) (q : Pen) (exit : List ℕ) (r : Flat) : Type 0 where
+pub record Joins (entry : List ℕ) (pen : Pen) (other : List ℕ) (q : Pen) (exit : List ℕ) (r : Result ℕ Refusal) : Type 0 where
   pub fits : (front back before blank : List ℕ) → Holds before front pen entry → length before ≡ text_most → Holds blank back q other → length blank ≡ text_most → Fits (front ++ back) exit r
 
 -- ---- the folded text of a text
@@ -64,28 +63,27 @@ unfoldable pub flat_of : List ℕ → Answer (List ℕ)
 flat_of text = answering (meaning text) λ m. elim (leb (cycles 0 m.run) folded_most) [ false ↦ refused many_cycles 0 | true ↦ flat_in text m ]
 
 -- it is refused, or stands at the page's front
-pub record Stands (a : Answer (List ℕ)) (page : List ℕ) (r : Flat) : Type 0 where
-  pub refuses : (r.no ≡ 0 → ⊥) → a ≡ refused r.no r.place
-  pub gives : r.no ≡ 0 → (a ≡ given (take r.length page)) × (length (take r.length page) ≡ r.length)
+abbrev pub Stands : Answer (List ℕ) → (page : List ℕ) → Result ℕ Refusal → Type 0
+Stands a page (Ok n) = (a ≡ given (take n page)) × (length (take n page) ≡ n)
+Stands a page (Err r) = a ≡ refused r.no r.place
 
-pub record Puts (g : Ground) (list : List ℕ) (listed patterns sized : ℕ) (page : List ℕ) (r : Flat) : Type 0 where
+pub record Puts (g : Ground) (list : List ℕ) (listed patterns sized : ℕ) (page : List ℕ) (r : Result ℕ Refusal) : Type 0 where
   pub stands : (m : Meaning) → Meant g list listed patterns sized m → Stands (flat_in g.text m) page r
 
-abbrev pub Flattens : List ℕ → List ℕ → Flat → Type 0
+abbrev pub Flattens : List ℕ → List ℕ → Result ℕ Refusal → Type 0
 Flattens text page r = Stands (flat_of text) page r
 
 -- ---- the service
 
 -- the answer, with the buffer as it is afterwards
-abbrev pub folded_of : Folded → List ℕ → Answer Bytes
-folded_of (Text n) buffer = given (record { size = n; buffer = buffer })
-folded_of (Refused n p) buffer = refused n p
+abbrev pub folded_of : Result ℕ Refusal → List ℕ → Answer Bytes
+folded_of r buffer = answer_of (λ n. record { size = n; buffer = buffer }) r
 
 -- the buffer afterwards: that of the answer, or as it was
 abbrev pub buffer_of : Answer Bytes → List ℕ → List ℕ
 buffer_of a buffer = afterwards (λ x. x.buffer) a buffer
 
 -- THE PROMISE of the service, whose answer is a
-pub record Folds (a : Answer Bytes) (before after : List ℕ) (r : Folded) : Type 0 where
+pub record Folds (a : Answer Bytes) (before after : List ℕ) (r : Result ℕ Refusal) : Type 0 where
   pub answers : folded_of r after ≡ a
   pub buffer_is : after ≡ buffer_of a before

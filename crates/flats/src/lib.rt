@@ -17,7 +17,7 @@ use heads::Known;
 use pens::Pen;
 use stretches::{Folding, TAIL};
 use texts::{PATTERNS, Verdict};
-use tokens::TEXT_MOST;
+use tokens::{Refusal, TEXT_MOST};
 use words::NO_ROOM;
 
 // Bytes of a window: many rows, since each window reads the text anew.
@@ -41,22 +41,6 @@ const MARK: u8 = 0;
 pub struct Part {
     pub pen: Pen,
     pub pattern: usize,
-}
-
-// The refusal's number, 0 for none, and its place; or else the length of the folded text.
-#[derive(Clone, Copy)]
-struct Flat {
-    no: u8,
-    place: usize,
-    length: usize,
-}
-
-#[derive(Clone, Copy)]
-pub enum Folded {
-    // the folded text's length
-    Text(usize),
-    // the number of the refusal, and the place
-    Refused(u8, usize),
 }
 
 // ---- the Patterns
@@ -275,32 +259,24 @@ fn head<'a>(
     folds::exec(page, d)
 }
 
-fn refused(no: u8, place: usize) -> Flat
-    ensures { (result.no ≡ no) × (result.place ≡ place) }
-{
-    Flat {
-        no,
-        place,
-        length: 0,
-    }
-}
-
 // What stands on another page, behind what stands on this one: 19, or how much that is.
-fn join(page: &mut [u8], pen: Pen, other: &[u8], q: Pen) -> Flat
+fn join(page: &mut [u8], pen: Pen, other: &[u8], q: Pen) -> Result<usize, Refusal>
     ensures { Joins page.old pen other.now q page.new result }
 {
     if q.full {
-        return refused(NO_ROOM, 0);
+        return Err(Refusal {
+            no: NO_ROOM,
+            place: 0,
+        });
     }
     let p = pens::add(page, pen, words::bytes_of(other, 0, q.at));
     if p.full {
-        return refused(NO_ROOM, 0);
+        return Err(Refusal {
+            no: NO_ROOM,
+            place: 0,
+        });
     }
-    Flat {
-        no: 0,
-        place: 0,
-        length: p.at,
-    }
+    Ok(p.at)
 }
 
 // Room for a text; made here alone, so that a caller's proof sees its length and no zeros.
@@ -333,7 +309,7 @@ fn put<'a>(
     listed: usize,
     patterns: usize,
     size: usize,
-) -> Flat
+) -> Result<usize, Refusal>
     requires { SomeMeant (ground_of text.now places.now lists.now tplaces.now book.now rows.now waves.now known signals) list.now listed patterns size × (length page.old ≡ text_most) }
     ensures { Puts (ground_of text.now places.now lists.now tplaces.now book.now rows.now waves.now known signals) list.now listed patterns size page.new result }
 {
@@ -359,7 +335,10 @@ fn put<'a>(
         &mut buffer,
     );
     if PATTERNS < part.pattern {
-        return refused(MANY_PATTERNS, 0);
+        return Err(Refusal {
+            no: MANY_PATTERNS,
+            place: 0,
+        });
     }
     let pen = head(page, text, places, signals, part.pattern);
     join(page, pen, &body, part.pen)
@@ -378,20 +357,20 @@ fn flat_found<'a>(
     list: &'a [usize],
     used: &'a [u8],
     v: Verdict,
-) -> Flat
+) -> Result<usize, Refusal>
     requires { SomeFound text.now places.now lists.now tplaces.now waves.now book.now rows.now list.now used.now v × (length page.old ≡ text_most) }
     ensures { Flattens text.now page.new result }
 {
     let parts = v.parts;
     let total = v.total;
-    let f = verdicts::failing(
+    verdicts::failing(
         text, places, lists, tplaces, waves, book, rows, list, used, v,
-    );
-    if f.no != 0 {
-        return refused(f.no, f.place);
-    }
+    )?;
     if CYCLES < total.cycles {
-        return refused(MANY_CYCLES, 0);
+        return Err(Refusal {
+            no: MANY_CYCLES,
+            place: 0,
+        });
     }
     put(
         page,
@@ -412,7 +391,7 @@ fn flat_found<'a>(
 }
 
 // Any text.
-fn flatten(page: &mut [u8], text: &[u8]) -> Flat
+fn flatten(page: &mut [u8], text: &[u8]) -> Result<usize, Refusal>
     requires { length page.old ≡ text_most }
     ensures { Flattens text.now page.new result }
 {
@@ -435,10 +414,7 @@ fn flatten(page: &mut [u8], text: &[u8]) -> Flat
         &mut list,
         verdicts::nowhere(),
         &mut used,
-    );
-    if v.no != 0 {
-        return refused(v.no, v.place);
-    }
+    )?;
     flat_found(
         page, text, &places, &lists, &tplaces, &waves, &book, &rows, &list, &used, v,
     )
@@ -447,24 +423,23 @@ fn flatten(page: &mut [u8], text: &[u8]) -> Flat
 // ---- the service
 
 // There is room for what else is handed out (`spare`), or that is 19 too.
-pub fn fold_text(text: &[u8], spare: bool, buffer: &mut [u8]) -> Folded
+pub fn fold_text(text: &[u8], spare: bool, buffer: &mut [u8]) -> Result<usize, Refusal>
     ensures { Folds (spared spare (fold_of text.now buffer.old)) buffer.old buffer.new result }
 {
     let mut page = room();
-    let x = flatten(&mut page, text);
-    if x.no != 0 {
-        return Folded::Refused(x.no, x.place);
-    }
-    let n = x.length;
+    let n = flatten(&mut page, text)?;
     if !spare | (buffer.len() < n) {
-        return Folded::Refused(NO_ROOM, 0);
+        return Err(Refusal {
+            no: NO_ROOM,
+            place: 0,
+        });
     }
     pages::put(buffer, 0, words::bytes_of(&page, 0, n));
-    Folded::Text(n)
+    Ok(n)
 }
 
 // A text folded flat, to the front of the buffer.
-pub fn fold(text: &[u8], buffer: &mut [u8]) -> Folded
+pub fn fold(text: &[u8], buffer: &mut [u8]) -> Result<usize, Refusal>
     ensures { Folds (fold_of text.now buffer.old) buffer.old buffer.new result }
 {
     fold_text(text, true, buffer)

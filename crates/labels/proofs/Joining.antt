@@ -1,7 +1,7 @@
 -- The pass over the labels joins a reader: what the two refuse, the one further left, is what the reader refuses where each name is used once.
 use Prim.Native.Nat.{ℕ, ◌≤◌, ◌<◌}
-use mathlib.Core.Path.{◌≡◌, refl, sym, ap, ◌∙◌}
-use mathlib.Core.Bool.{Bool, true, false, cond, ◌&&◌, ◌||◌}
+use mathlib.Core.Path.{◌≡◌, refl, sym, ap, ◌∙◌, subst}
+use mathlib.Core.Bool.{Bool, true, false, cond, ◌||◌}
 use mathlib.Core.Option.{Option, none, some}
 use mathlib.Core.List.{List}
 use lib.Dec.{ltb}
@@ -14,13 +14,10 @@ use Rattle.meaning.specs.Refusals.{used_name}
 use Rattle.meaning.specs.Reader.{Res, Reader, refuse, give}
 use Rattle.meaning.proofs.SameTokens.{stands_there}
 use Rattle.words.specs.Cursor.{ahead, stream, alive, from, Goes}
-use Rattle.words.specs.Values.{told}
 use Rattle.words.specs.declared.Cursor.{Cursor}
 use Rattle.words.proofs.Flow.{from_on, from_stop, stream_on, stream_stop}
 use Rattle.meaning.specs.Labels.{labels_from, labels, repeated, used_twice, earlier, each_once}
-use Rattle.labels.specs.Table.{found_of}
 use Rattle.labels.specs.Joined.{used_at, sooner, Joins}
-use Rattle.labels.specs.declared.Found.{Found}
 
 -- ---- any reader
 
@@ -91,35 +88,26 @@ module _ (text burst : List ℕ) (s c : Cursor) where
     on = λ short e p there. sym (ap (λ (ts : Toks). sooner (used_twice burst ts) c) (stream_stop text s (le-ltb s.at s.end h)));
   }
 
-  module _ (f : Found) (z : s.no ≡ 0) (h : s.at < s.end) (found : length text ≤ text_most → found_of f ≡ used_twice burst (toks text s.at)) where
+  module _ (z : s.no ≡ 0) (h : s.at < s.end) (o : Option ℕ) (found : length text ≤ text_most → o ≡ used_twice burst (toks text s.at)) where
     -- a token is read again from its own place
-    found_here : length text ≤ text_most → (p : ℕ) → stream text s ≡ toks text p → found_of f ≡ used_twice burst (stream text s)
+    found_here : length text ≤ text_most → (p : ℕ) → stream text s ≡ toks text p → o ≡ used_twice burst (stream text s)
     found_here short p there =
         let here = stream_on text s (lt-ltb s.at s.end h) in
         found short ∙ ap (used_twice burst) (stands_there text (ahead text s) (toks text s.end) (record { at = p; is = sym here ∙ there }) ∙ sym here)
 
-    -- does the name that is used already come first
-    abbrev first : Bool
-    first = alive c || ltb f.place c.at
-
-    pub joins_first : (f.is && first) ≡ true → Joins text burst s c (used_at f.place)
-    joins_first e = record {
-      off = λ o. never (sym o ∙ eq-eqb s.no 0 z);
-      on = λ short o p there. by f.is first refl e ∙ ap (λ (x : Option ℕ). sooner x c) (found_here short p there);
+    -- the one of the two that comes first
+    pub joins_sooner : Joins text burst s c (sooner o c)
+    joins_sooner = record {
+      off = λ e. never (sym e ∙ eq-eqb s.no 0 z);
+      on = λ short e p there. ap (λ (x : Option ℕ). sooner x c) (found_here short p there);
     }
-      where
-        by : (x y : Bool) → first ≡ y → (x && y) ≡ true → used_at f.place ≡ sooner (told x f.place) c
-        by true true g e = ap (λ (k : Bool). cond k (used_at f.place) c) (sym g)
-        by true false g e = never e
-        by false y g e = never e
 
-    pub joins_later : (f.is && first) ≡ false → Joins text burst s c c
-    joins_later e = record {
-      off = λ o. refl;
-      on = λ short o p there. by f.is first refl e ∙ ap (λ (x : Option ℕ). sooner x c) (found_here short p there);
-    }
-      where
-        by : (x y : Bool) → first ≡ y → (x && y) ≡ false → c ≡ sooner (told x f.place) c
-        by true true g e = never (sym e)
-        by true false g e = ap (λ (k : Bool). cond k (used_at f.place) c) (sym g)
-        by false y g e = refl
+  module _ (z : s.no ≡ 0) (h : s.at < s.end) (q : ℕ) (found : length text ≤ text_most → some q ≡ used_twice burst (toks text s.at)) where
+    joins_by : (x : Bool) → (alive c || ltb q c.at) ≡ x → Joins text burst s c (cond x (used_at q) c)
+    joins_by x e = subst (λ (y : Bool). Joins text burst s c (cond y (used_at q) c)) e (joins_sooner z h (some q) found)
+
+    pub joins_first : (alive c || ltb q c.at) ≡ true → Joins text burst s c (used_at q)
+    joins_first = joins_by true
+
+    pub joins_later : (alive c || ltb q c.at) ≡ false → Joins text burst s c c
+    joins_later = joins_by false

@@ -11,12 +11,10 @@ use borrow.Author.Tests.{eqb-true, eqb-false}
 use Rattle.tokens.specs.Written.{same}
 use Rattle.tokens.specs.Tokens.{Tok, toks}
 use Rattle.tokens.proofs.Bools.{neither, never}
-use Rattle.words.specs.Values.{told}
 use Rattle.words.proofs.Words.{same_self}
 use Rattle.meaning.specs.Labels.{taken, used_by, repeated, labels, used_twice}
 use Rattle.meaning.proofs.Others.{same_eq}
 use Rattle.labels.specs.Table.{word_of, words_of, number_of, Gathers}
-use Rattle.labels.specs.declared.Gathered.{Gathered}
 use Rattle.labels.proofs.Laws.{taken_append, repeated_later}
 use Rattle.labels.proofs.Chains.{words_length}
 
@@ -101,10 +99,9 @@ module _ (text places : List ℕ) where
       by false s false e ih = ih (omega (arith, eqb-false k n e))
 
 -- THE LAW: behind the pass over a text in which no name is used twice, a look-up of any label's word gives its number
-pub gathered_number : {text : List ℕ} {from : ℕ} {burst places heads nexts : List ℕ} {r : Gathered} → Gathers text from burst places heads nexts r → r.again ≡ false
-    → (k : ℕ) → k < r.count → number_of (words_of text places r.count) (word_of text places k) ≡ some k
+pub gathered_number : {text : List ℕ} {from : ℕ} {burst places heads nexts : List ℕ} {count : ℕ} → Gathers text from burst places heads nexts count
+    → (k : ℕ) → k < count → number_of (words_of text places count) (word_of text places k) ≡ some k
 unfolding used_twice
-gathered_number {text} {from} {burst} {places} {heads} {nexts} {r} g e k h =
-    let none_twice : used_twice burst (toks text from) ≡ none = sym g.first ∙ ap (λ (b : Bool). told b r.place) e in
-    let once : repeated [] (labels (toks text from)) ≡ none = repeated_fewer [] (burst ∷ []) (labels (toks text from)) none_twice in
-    own_number text places r.count k (subst Different (sym (g.words e)) (different_more [] (labels (toks text from)) tt once)) h
+gathered_number {text} {from} {burst} {places} {heads} {nexts} {count} g k h =
+    let once : repeated [] (labels (toks text from)) ≡ none = repeated_fewer [] (burst ∷ []) (labels (toks text from)) g.once in
+    own_number text places count k (subst Different (sym g.words) (different_more [] (labels (toks text from)) tt once)) h

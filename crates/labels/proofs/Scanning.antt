@@ -3,10 +3,13 @@ use Prim.Native.Nat.{ℕ, suc, ◌+◌, ◌*◌, ◌-◌, ◌≤◌, ◌<◌, mi
 use native.Mathlib.Omega.{arith}
 use mathlib.Core.Path.{◌≡◌, refl, sym, ap, ◌∙◌}
 use mathlib.Core.Bool.{Bool, true, false, ◌&&◌, ◌||◌, or-false, and-true}
+use mathlib.Core.Option.{some}
 use mathlib.Core.List.{List, [], ◌∷◌, ◌++◌}
 use lib.Dec.{ltb, eqb}
 use lib.ListN.{length, get_or, drop, length-take, length-drop, drop_of_length-le}
 use borrow.Author.Tests.{ne_eqb, le-ltb, ltb-true, ltb-false}
+use Rattle.std.specs.Prelude.{Result, Ok, Err}
+use Rattle.std.specs.Result.{result_err}
 use Rattle.tokens.specs.Written.{bytes, same, cases}
 use Rattle.tokens.specs.Refusals.{text_most, not_here}
 use Rattle.tokens.specs.Tokens.{Tok, Toks, stop, tok, ended, lex, toks, left}
@@ -15,12 +18,11 @@ use Rattle.tokens.proofs.Bools.{never}
 use Rattle.meaning.specs.Names.{is_some}
 use Rattle.words.specs.Cursor.{span, ahead, stream, Stands}
 use Rattle.words.specs.declared.Cursor.{Cursor}
-use Rattle.words.specs.Values.{told}
+use Rattle.words.specs.Values.{told, value_of}
 use Rattle.words.proofs.Flow.{stream_stop, token_here, fewer}
 use Rattle.words.proofs.Words.{same_long, told_some}
 use Rattle.meaning.specs.Labels.{Here, begins, due, within, beginning, parting, labelling, behind, labelled, labels_from, labels, taken, used_by, repeated, used_twice}
-use Rattle.labels.specs.Table.{labels_most, hashes, words_of, number_of, latest, Held, Added, here_by, here_of, dues, used, Notes, Gathers}
-use Rattle.labels.specs.declared.Noted.{Noted}
+use Rattle.labels.specs.Table.{labels_most, hashes, words_of, number_of, latest, Held, Added, here_by, here_of, dues, used, Notes, Gathers, Gathered}
 use Rattle.labels.proofs.Laws.{repeated_here, repeated_later, taken_append}
 use Rattle.labels.proofs.Chains.{taken_number}
 
@@ -125,36 +127,29 @@ judged vs e f g = ap (taken vs) (sym e) ∙ sym f ∙ g
 -- ---- one token
 
 module _ {text burst places heads nexts : List ℕ} {count here : ℕ} (t : Tok) (held : Held text places heads nexts count) where
-  pub notes_none : (here ≡ 2 → ⊥) → Notes text burst (here_of here) t places count places heads nexts (record { again = false; count = count })
+  pub notes_none : (here ≡ 2 → ⊥) → Notes text burst (here_of here) t places count places heads nexts count
   notes_none h = record {
-    again = λ e. never e;
-    on = λ e l. ap (repeated (used text burst places count)) (not_due here h t l);
-    words = λ e l. ap (used_by (words_of text places count)) (not_due here h t l);
-    held = λ e. held;
+    on = λ l. ap (repeated (used text burst places count)) (not_due here h t l);
+    words = λ l. ap (used_by (words_of text places count)) (not_due here h t l);
+    held = held;
     few = omega arith;
   }
 
-  module _ (d : here ≡ 2) where
-    pub notes_again : taken (used text burst places count) t.word ≡ true
-        → Notes text burst (here_of here) t places count places heads nexts (record { again = true; count = count })
-    unfolding labelled
-    notes_again e = record {
-      again = λ z l. ap (λ (x : Here). repeated (used text burst places count) (labelled x t l)) (is_due here d) ∙ (repeated_here (used text burst places count) t l e);
-      on = λ z. never (sym z);
-      words = λ z. never (sym z);
-      held = λ z. held;
-      few = omega arith;
-    }
+-- a label that is used already
+pub notes_again : (text burst places : List ℕ) (count : ℕ) {here : ℕ} (t : Tok) → here ≡ 2 → taken (used text burst places count) t.word ≡ true
+    → (l : List Tok) → repeated (used text burst places count) (labelled (here_of here) t l) ≡ some t.at
+unfolding labelled
+notes_again text burst places count {here} t d e l =
+    ap (λ (x : Here). repeated (used text burst places count) (labelled x t l)) (is_due here d) ∙ (repeated_here (used text burst places count) t l e)
 
 pub notes_one : {text burst places places' heads' nexts' : List ℕ} {count here : ℕ} (c : Cursor) → here ≡ 2
     → taken (used text burst places count) (span text c.at c.end) ≡ false → Added text c.at c.end places count places' heads' nexts'
-    → Notes text burst (here_of here) (ahead text c) places count places' heads' nexts' (record { again = false; count = count + 1 })
+    → Notes text burst (here_of here) (ahead text c) places count places' heads' nexts' (count + 1)
 unfolding labelled used_by
 notes_one {text} {burst} {places} {places'} {heads'} {nexts'} {count} {here} c d e a = record {
-  again = λ z. never z;
-  on = λ z l. ap (λ (x : Here). repeated (used text burst places count) (labelled x (ahead text c) l)) (is_due here d) ∙ (repeated_later (used text burst places count) (ahead text c) l e ∙ ap (λ (vs : List (List ℕ)). repeated (vs ++ burst ∷ []) l) (sym a.words));
-  words = λ z l. ap (λ (x : Here). used_by (words_of text places count) (labelled x (ahead text c) l)) (is_due here d) ∙ ap (λ (vs : List (List ℕ)). used_by vs l) (sym a.words);
-  held = λ z. a.held;
+  on = λ l. ap (λ (x : Here). repeated (used text burst places count) (labelled x (ahead text c) l)) (is_due here d) ∙ (repeated_later (used text burst places count) (ahead text c) l e ∙ ap (λ (vs : List (List ℕ)). repeated (vs ++ burst ∷ []) l) (sym a.words));
+  words = λ l. ap (λ (x : Here). used_by (words_of text places count) (labelled x (ahead text c) l)) (is_due here d) ∙ ap (λ (vs : List (List ℕ)). used_by vs l) (sym a.words);
+  held = a.held;
   few = let one : dues (here_of here) ≡ 1 = ap dues (is_due here d) in omega arith;
 }
 
@@ -223,43 +218,46 @@ module _ (text : List ℕ) (from : ℕ) (burst : List ℕ) where
     unfolding labels_from
     one_on = ap (labels_from (here_of here)) (token_here text c h)
 
-    module _ {places' heads' nexts' : List ℕ} {n : Noted} (t : Notes text burst (here_of here) (ahead text c) places count places' heads' nexts' n) where
-      pub gathers_again : n.again ≡ true → {k : ℕ} → Gathers text from burst places' heads' nexts' (record { again = true; place = c.at; count = k })
-      gathers_again e = record {
-        first = sym (s.still ∙ ap (repeated (used text burst places count)) one_on ∙ t.again e _);
-        held = λ z. never (sym z);
-        words = λ z. never (sym z);
-      }
+    pub gathers_again : ((l : List Tok) → repeated (used text burst places count) (labelled (here_of here) (ahead text c) l) ≡ some c.at)
+        → used_twice burst (toks text from) ≡ some c.at
+    gathers_again t = s.still ∙ ap (repeated (used text burst places count)) one_on ∙ t _
 
-      pub scans_on : n.again ≡ false → {next : ℕ} {d : Cursor} {w : List ℕ} → w ≡ span text c.at c.end → here_of next ≡ behind (here_of here) w → Stands text c.end d
-          → Scans places' heads' nexts' d next n.count
-      scans_on e {next} {d} {w} q b v =
-          let k : here_of next ≡ behind (here_of here) (span text c.at c.end) = b ∙ ap (behind (here_of here)) q in
-          let rest : labels_from (behind (here_of here) (span text c.at c.end)) (toks text c.end) ≡ labels_from (here_of next) (stream text d) =
-          ap (λ (x : Here). labels_from x (toks text c.end)) (sym k) ∙ ap (labels_from (here_of next)) (sym v.there) in
-          record {
-            still =
-                s.still ∙ ap (repeated (used text burst places count)) one_on ∙ t.on e _
-                ∙ ap (repeated (used text burst places' n.count)) rest;
-            words =
-                s.words ∙ ap (used_by (words_of text places count)) one_on ∙ t.words e _ ∙ ap (used_by (words_of text places' n.count)) rest;
-            held = t.held e;
-            few = rw k (omega (arith, s.few, t.few, dues_behind (here_of here) (span text c.at c.end), fewer text c h v));
-            place = c.end;
-            there = v.there;
-          }
+    pub scans_on : {places' heads' nexts' : List ℕ} {n : ℕ} → Notes text burst (here_of here) (ahead text c) places count places' heads' nexts' n
+        → {next : ℕ} {d : Cursor} {w : List ℕ} → w ≡ span text c.at c.end → here_of next ≡ behind (here_of here) w → Stands text c.end d
+        → Scans places' heads' nexts' d next n
+    scans_on {places'} {n = n} t {next} {d} {w} q b v =
+        let k : here_of next ≡ behind (here_of here) (span text c.at c.end) = b ∙ ap (behind (here_of here)) q in
+        let rest : labels_from (behind (here_of here) (span text c.at c.end)) (toks text c.end) ≡ labels_from (here_of next) (stream text d) =
+        ap (λ (x : Here). labels_from x (toks text c.end)) (sym k) ∙ ap (labels_from (here_of next)) (sym v.there) in
+        record {
+          still =
+              s.still ∙ ap (repeated (used text burst places count)) one_on ∙ t.on _
+              ∙ ap (repeated (used text burst places' n)) rest;
+          words =
+              s.words ∙ ap (used_by (words_of text places count)) one_on ∙ t.words _ ∙ ap (used_by (words_of text places' n)) rest;
+          held = t.held;
+          few = rw k (omega (arith, s.few, t.few, dues_behind (here_of here) (span text c.at c.end), fewer text c h v));
+          place = c.end;
+          there = v.there;
+        }
 
   -- no token is left
   pub gathers_end : {places heads nexts : List ℕ} {c : Cursor} {here count : ℕ} → Scans places heads nexts c here count → c.end ≤ c.at
-      → Gathers text from burst places heads nexts (record { again = false; place = 0; count = count })
+      → Gathers text from burst places heads nexts count
   unfolding labels_from repeated used_by
   gathers_end {places} {heads} {nexts} {c} {here} {count} s h =
       let over : labels_from (here_of here) (stream text c) ≡ [] = ap (labels_from (here_of here)) (stream_stop text c (le-ltb c.at c.end h)) in
       record {
-        first = sym (s.still ∙ ap (repeated (used text burst places count)) over);
-        held = λ z. s.held;
-        words = λ z. sym (s.words ∙ ap (used_by (words_of text places count)) over);
+        once = s.still ∙ ap (repeated (used text burst places count)) over;
+        held = s.held;
+        words = sym (s.words ∙ ap (used_by (words_of text places count)) over);
       }
+
+-- where the first label stands that is used already, of a pass that gave r
+pub first_twice : (text : List ℕ) (from : ℕ) (burst places heads nexts : List ℕ) (r : Result ℕ ℕ) → Gathered text from burst places heads nexts r
+    → value_of (result_err r) ≡ used_twice burst (toks text from)
+first_twice text from burst places heads nexts (Ok n) g = sym g.once
+first_twice text from burst places heads nexts (Err p) g = sym g
 
 -- ---- an empty table
 

@@ -1,14 +1,10 @@
 -- The table of labels that the code keeps: where each stands in the text, and chains of those whose words have the same hash.
-use Rattle.std.specs.Prelude.{ℕ, zero, suc, ◌+◌, ◌*◌, ◌%◌, ◌<◌, ◌≤◌, ◌≡◌, Bool, true, false, List, [], ◌∷◌, ◌++◌, eqb, length, get_or}
+use Rattle.std.specs.Prelude.{ℕ, zero, suc, ◌+◌, ◌*◌, ◌%◌, ◌<◌, ◌≤◌, ◌≡◌, Bool, true, false, List, [], ◌∷◌, ◌++◌, eqb, length, get_or, Option as Maybe, Some, None, Result, Ok, Err}
 use Rattle.std.proofs.Math.Option.{Option, none, some}
 use Rattle.tokens.specs.Written.{same}
 use Rattle.tokens.specs.Tokens.{Tok, toks}
 use Rattle.words.specs.Cursor.{span}
-use Rattle.words.specs.Values.{told}
 use Rattle.meaning.specs.Labels.{Here, begins, due, within, labelled, labels, used_by, repeated, used_twice}
-use Rattle.labels.specs.declared.Found.{Found}
-use Rattle.labels.specs.declared.Noted.{Noted}
-use Rattle.labels.specs.declared.Gathered.{Gathered}
 
 -- each label has a word before it, so that there are at most half as many as bytes
 abbrev pub labels_most : ℕ
@@ -82,19 +78,25 @@ dues within = 0
 abbrev pub used : List ℕ → List ℕ → List ℕ → ℕ → List (List ℕ)
 used text burst places count = words_of text places count ++ burst ∷ []
 
--- THE PROMISE for one token t: it is a label that is used already, or reading goes on with a table that has it too if it is a label
-pub record Notes (text burst : List ℕ) (h : Here) (t : Tok) (places : List ℕ) (count : ℕ) (places' heads' nexts' : List ℕ) (r : Noted) : Type 0 where
-  pub again : r.again ≡ true → (l : List Tok) → repeated (used text burst places count) (labelled h t l) ≡ some t.at
-  pub on : r.again ≡ false → (l : List Tok) → repeated (used text burst places count) (labelled h t l) ≡ repeated (used text burst places' r.count) l
-  pub words : r.again ≡ false → (l : List Tok) → used_by (words_of text places count) (labelled h t l) ≡ used_by (words_of text places' r.count) l
-  pub held : r.again ≡ false → Held text places' heads' nexts' r.count
-  pub few : r.count ≤ count + dues h
+-- behind a token t that is no label that is used already: a table that has it too if it is a label
+pub record Notes (text burst : List ℕ) (h : Here) (t : Tok) (places : List ℕ) (count : ℕ) (places' heads' nexts' : List ℕ) (count' : ℕ) : Type 0 where
+  pub on : (l : List Tok) → repeated (used text burst places count) (labelled h t l) ≡ repeated (used text burst places' count') l
+  pub words : (l : List Tok) → used_by (words_of text places count) (labelled h t l) ≡ used_by (words_of text places' count') l
+  pub held : Held text places' heads' nexts' count'
+  pub few : count' ≤ count + dues h
+
+-- THE PROMISE for one token t: it is a label that is used already, or reading goes on with a table of so many labels
+abbrev pub Noted : List ℕ → List ℕ → Here → Tok → List ℕ → ℕ → List ℕ → List ℕ → List ℕ → Maybe ℕ → Type 0
+Noted text burst h t places count places' heads' nexts' None = (l : List Tok) → repeated (used text burst places count) (labelled h t l) ≡ some t.at
+Noted text burst h t places count places' heads' nexts' (Some count') = Notes text burst h t places count places' heads' nexts' count'
+
+-- no label is used twice, and the table has all labels
+pub record Gathers (text : List ℕ) (from : ℕ) (burst places heads nexts : List ℕ) (count : ℕ) : Type 0 where
+  pub once : used_twice burst (toks text from) ≡ none
+  pub held : Held text places heads nexts count
+  pub words : words_of text places count ≡ used_by [] (labels (toks text from))
 
 -- THE PROMISE of the whole pass: the first label that is used already, if there is one, at its place; where there is none, the table has all labels
-pub record Gathers (text : List ℕ) (from : ℕ) (burst places heads nexts : List ℕ) (r : Gathered) : Type 0 where
-  pub first : told r.again r.place ≡ used_twice burst (toks text from)
-  pub held : r.again ≡ false → Held text places heads nexts r.count
-  pub words : r.again ≡ false → words_of text places r.count ≡ used_by [] (labels (toks text from))
-
-abbrev pub found_of : Found → Option ℕ
-found_of f = told f.is f.place
+abbrev pub Gathered : List ℕ → ℕ → List ℕ → List ℕ → List ℕ → List ℕ → Result ℕ ℕ → Type 0
+Gathered text from burst places heads nexts (Ok count) = Gathers text from burst places heads nexts count
+Gathered text from burst places heads nexts (Err p) = used_twice burst (toks text from) ≡ some p

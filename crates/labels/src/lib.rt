@@ -6,10 +6,10 @@ ghost use Rattle.tokens.specs.Written.{same};
 ghost use Rattle.tokens.specs.Refusals.{text_most};
 ghost use Rattle.tokens.specs.Tokens.{toks};
 ghost use Rattle.words.specs.Cursor.{ahead};
-ghost use Rattle.words.specs.Values.{told};
+ghost use Rattle.words.specs.Values.{told, value_of};
 ghost use Rattle.meaning.specs.Labels.{parting, labelling, behind as behind_of, taken, used_twice};
 ghost use Rattle.labels.specs.Joined.{Joins};
-ghost use Rattle.labels.specs.Table.{labels_most, word_of, words_of, number_of, hashed, Held, Added, here_of, used, Notes, Gathers, found_of};
+ghost use Rattle.labels.specs.Table.{labels_most, word_of, words_of, number_of, hashed, Held, Added, here_of, used, Noted, Gathered};
 
 use words::{Cursor, USED};
 
@@ -31,42 +31,7 @@ const BEGINS: u8 = 1;
 
 const DUE: u8 = 2;
 
-// Is there one, and where does it stand?
-#[derive(Clone, Copy)]
-pub struct Found {
-    pub is: bool,
-    pub place: usize,
-}
-
-// Is the label ahead used already, and how many are in the table?
-#[derive(Clone, Copy)]
-struct Noted {
-    again: bool,
-    count: usize,
-}
-
-// Is a label used already, where does it stand, and how many are in the table?
-#[derive(Clone, Copy)]
-pub struct Gathered {
-    pub again: bool,
-    pub place: usize,
-    pub count: usize,
-}
-
 // ---- the table
-
-fn wide(b: u8) -> usize
-    ensures { result ≡ b }
-{
-    b as usize
-}
-
-// What the table keeps, as a number.
-fn number(n: u16) -> usize
-    ensures { result ≡ n }
-{
-    n as usize
-}
 
 // A number, as the table keeps it.
 fn short(n: usize) -> u16
@@ -81,10 +46,8 @@ fn hash_of(w: &[u8]) -> usize
     ensures { (result ≡ hashed w.now) × (result < 4096) }
 {
     let mut h = 0;
-    let mut i = 0;
-    while i < w.len() {
-        h = (h * 31 + wide(w[i])) % HASHES;
-        i += 1;
+    for b in w {
+        h = (h * 31 + usize::from(*b)) % HASHES;
     }
     h
 }
@@ -94,8 +57,8 @@ fn is_label(text: &[u8], w: &[u8], places: &[u16], k: usize) -> bool
     requires { k * 2 + 1 < length places.now }
     ensures { result ≡ same (word_of text.now places.now k) w.now }
 {
-    let at = number(places[k * 2]);
-    let last = number(places[k * 2 + 1]);
+    let at = usize::from(places[k * 2]);
+    let last = usize::from(places[k * 2 + 1]);
     words::equal(words::bytes_of(text, at, last + 1), w)
 }
 
@@ -112,13 +75,13 @@ pub fn find(
     ensures { told (ltb result count) result ≡ number_of (words_of text.now places.now count) w.now }
 {
     let h = hash_of(w);
-    let mut i = number(heads[h]);
+    let mut i = usize::from(heads[h]);
     while 0 < i {
         let k = i - 1;
         if is_label(text, w, places, k) {
             return k;
         }
-        i = number(nexts[k]);
+        i = usize::from(nexts[k]);
     }
     count
 }
@@ -193,7 +156,7 @@ fn is_used(
     (i < count) | words::equal(burst, w)
 }
 
-// The token ahead: if it is a label, it is used already or one more.
+// The token ahead: how many labels are in the table behind it; none where it is a label that is used already.
 fn note(
     text: &[u8],
     burst: &[u8],
@@ -203,15 +166,12 @@ fn note(
     heads: &mut [u16],
     nexts: &mut [u16],
     count: usize,
-) -> Noted
+) -> Option<usize>
     requires { Held text.now places.old heads.old nexts.old count × (count < labels_most) × (c.at < c.end) × (c.end ≤ text_most) }
-    ensures { Notes text.now burst.now (here_of here) (ahead text.now c) places.old count places.new heads.new nexts.new result }
+    ensures { Noted text.now burst.now (here_of here) (ahead text.now c) places.old count places.new heads.new nexts.new result }
 {
     if here != DUE {
-        return Noted {
-            again: false,
-            count,
-        };
+        return Some(count);
     }
     let at = c.at;
     let end = c.end;
@@ -224,16 +184,13 @@ fn note(
         nexts,
         count,
     ) {
-        return Noted { again: true, count };
+        return None;
     }
     add(text, at, end, places, heads, nexts, count);
-    Noted {
-        again: false,
-        count: count + 1,
-    }
+    Some(count + 1)
 }
 
-// All labels from a place on go to a table that is lent empty, up to the first that is used already.
+// All labels from a place on go to a table that is lent empty: how many there are, or the place of the first that is used already.
 pub fn gather(
     text: &[u8],
     from: usize,
@@ -241,51 +198,35 @@ pub fn gather(
     places: &mut [u16],
     heads: &mut [u16],
     nexts: &mut [u16],
-) -> Gathered
+) -> Result<usize, usize>
     requires { Held text.now places.old heads.old nexts.old 0 × (length text.now ≤ text_most) }
-    ensures { Gathers text.now «from» burst.now places.new heads.new nexts.new result }
+    ensures { Gathered text.now «from» burst.now places.new heads.new nexts.new result }
 {
     let mut c = words::cursor_at(text, from);
     let mut here = BEGINS;
     let mut count = 0;
     while c.at < c.end {
-        let n = note(text, burst, c, here, places, heads, nexts, count);
-        count = n.count;
-        if n.again {
-            return Gathered {
-                again: true,
-                place: c.at,
-                count,
-            };
-        }
+        count = match note(text, burst, c, here, places, heads, nexts, count) {
+            Some(n) => n,
+            None => return Err(c.at),
+        };
         here = behind(here, words::bytes_of(text, c.at, c.end));
         c = words::cursor_at(text, c.end);
     }
-    Gathered {
-        again: false,
-        place: 0,
-        count,
-    }
+    Ok(count)
 }
 
-// The first label from a place on that is used already, as the burst's name or as an earlier label. A text above 65,536 bytes is refused before.
-pub fn used_twice(text: &[u8], from: usize, burst: &[u8]) -> Found
-    ensures { length text.now ≤ text_most → found_of result ≡ used_twice burst.now (toks text.now «from») }
+// Where the first label from a place on stands that is used already, as the burst's name or as an earlier label. A text above 65,536 bytes is refused before.
+pub fn used_twice(text: &[u8], from: usize, burst: &[u8]) -> Option<usize>
+    ensures { length text.now ≤ text_most → value_of result ≡ used_twice burst.now (toks text.now «from») }
 {
     if SHORT < text.len() {
-        return Found {
-            is: false,
-            place: 0,
-        };
+        return None;
     }
     let mut places = [0u16; PLACES];
     let mut heads = [0u16; HASHES];
     let mut nexts = [0u16; LABELS];
-    let all = gather(text, from, burst, &mut places, &mut heads, &mut nexts);
-    Found {
-        is: all.again,
-        place: all.place,
-    }
+    gather(text, from, burst, &mut places, &mut heads, &mut nexts).err()
 }
 
 // A reader went from s to c: where it goes if each name is used once. The refusal further left is given, and on one token the reader's.
@@ -299,14 +240,13 @@ pub fn each_once(text: &[u8], burst: &[u8], s: Cursor, c: Cursor) -> Cursor
     if s.end <= at {
         return c;
     }
-    let f = used_twice(text, at, burst);
-    if f.is & ((c.no == 0) | (f.place < c.at)) {
-        return Cursor {
+    match used_twice(text, at, burst) {
+        Some(place) if (c.no == 0) | (place < c.at) => Cursor {
             no: USED,
             fault: 0,
-            at: f.place,
+            at: place,
             end: 0,
-        };
+        },
+        _ => c,
     }
-    c
 }

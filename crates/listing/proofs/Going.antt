@@ -8,6 +8,8 @@ use mathlib.Core.List.{List}
 use lib.Dec.{leb}
 use lib.ListN.{length}
 use borrow.Author.Tests.{leb-true}
+use Rattle.std.specs.Prelude.{Result, Ok, Err}
+use Rattle.tokens.specs.declared.Refusal.{Refusal}
 use Rattle.tokens.proofs.Bools.{both}
 use Rattle.meaning.specs.Bounds.{size_most, cycles_most}
 use Rattle.meaning.specs.Run.{size, cycles}
@@ -16,8 +18,7 @@ use Rattle.meaning.specs.Services.{dot, rows_due, window_of, window}
 use Rattle.meaning.proofs.Accepted.{accepted}
 use Rattle.verdicts.specs.Buffers.{afterwards}
 use Rattle.views.specs.Views.{shown_of, Views}
-use Rattle.views.specs.declared.Shown.{Shown}
-use Rattle.views.specs.declared.Shown.TheVariants.{Rows, Refused}
+use Rattle.views.specs.declared.Rows.{Rows}
 use Rattle.views.proofs.Theorems.{visits_told}
 use Rattle.sections.specs.Listing.{last_of}
 use Rattle.sections.specs.declared.Page.{Page}
@@ -31,22 +32,22 @@ few_cycles text m e =
 
 -- ---- rows that were given
 
-module _ (text : List ℕ) (first wanted mark : ℕ) {before after : List ℕ} {s : Shown} {n v : ℕ} (h : Views (window text first wanted mark before) before after s) (rows : s ≡ Rows n v) where
-  told : Views (window text first wanted mark before) before after (Rows n v)
+module _ (text : List ℕ) (first wanted mark : ℕ) {before after : List ℕ} {s : Result Rows Refusal} {x : Rows} (h : Views (window text first wanted mark before) before after s) (rows : s ≡ Ok x) where
+  told : Views (window text first wanted mark before) before after (Ok x)
   told = rw rows at h
 
   -- the text was not refused
-  rows_meant : (a : Answer Meaning) → meaning text ≡ a → (n ≤ wanted) × (first + n ≤ max first cycles_most)
+  rows_meant : (a : Answer Meaning) → meaning text ≡ a → (x.count ≤ wanted) × (first + x.count ≤ max first cycles_most)
   unfolding window answering rows_due
   rows_meant (given m) e =
       let k = (visits_told text m e first wanted mark told).rows_are in
       omega (arith, few_cycles text m e)
-  rows_meant (refused x p) e =
+  rows_meant (refused n p) e =
       let k = told.answers ∙ ap (λ (a : Answer Meaning). answering a (λ m. window_of m first wanted mark before)) e in
       let z : ◌≡◌ {A = ℕ} 0 1 = cc in
       absurd (omega arith)
 
-  pub rows_few : (n ≤ wanted) × (first + n ≤ max first cycles_most)
+  pub rows_few : (x.count ≤ wanted) × (first + x.count ≤ max first cycles_most)
   rows_few = rows_meant (meaning text) refl
 
 -- their bytes fit
@@ -57,7 +58,7 @@ bytes_few p room {n} e h =
 
 -- ---- the page with them
 
-module _ (text : List ℕ) (p : Page) (before : List ℕ) {after : List ℕ} {wanted : ℕ} {s : Shown} (e : wanted ≡ fitting p (length before))
+module _ (text : List ℕ) (p : Page) (before : List ℕ) {after : List ℕ} {wanted : ℕ} {s : Result Rows Refusal} (e : wanted ≡ fitting p (length before))
     (h : Views (window text p.first wanted dot before) before after s) where
   answered : shown_of s after ≡ asked text p before
   answered = h.answers ∙ ap (λ (k : ℕ). window text p.first k dot before) e
@@ -69,10 +70,10 @@ module _ (text : List ℕ) (p : Page) (before : List ℕ) {after : List ℕ} {wa
         bytes_are = h.buffer_is ∙ ap (λ (k : ℕ). afterwards (λ w. w.buffer) (window text p.first k dot before) before) e;
       }
 
-  pub goes_on_rows : {n v : ℕ} → s ≡ Rows n v → GoesOn text before p (record { room = true; length = n * p.width; first = p.first + n; left = p.left - n; width = p.width }) after
+  pub goes_on_rows : {x : Rows} → s ≡ Ok x → GoesOn text before p (record { room = true; length = x.count * p.width; first = p.first + x.count; left = p.left - x.count; width = p.width }) after
   unfolding page_of
   goes_on_rows k = goes_on (rw k)
 
-  pub goes_on_none : {n q : ℕ} {r : Page} → s ≡ Refused n q → r ≡ last_of 0 → GoesOn text before p r after
+  pub goes_on_none : {x : Refusal} {r : Page} → s ≡ Err x → r ≡ last_of 0 → GoesOn text before p r after
   unfolding page_of
   goes_on_none k z = goes_on (z ∙ rw k)

@@ -9,7 +9,6 @@ ghost use Rattle.listing.specs.Pages.{fitting as fitting_of, Begins, GoesOn};
 use sections::Page;
 use streams::Screen;
 use texts::Verdict;
-use views::Shown;
 
 // Filed listings have the dot for an unassigned pin.
 const DOT: u8 = b'.';
@@ -33,11 +32,10 @@ fn shown<'a>(
     requires { (front_most ≤ length page.old) × SomeFound text.now places.now lists.now tplaces.now waves.now book.now rows.now list.now used.now v }
     ensures { Begins text.now page.old result page.new }
 {
-    let f = verdicts::failing(
+    if let Err(refusal) = verdicts::failing(
         text, places, lists, tplaces, waves, book, rows, list, used, v,
-    );
-    if f.no != 0 {
-        return sections::refused(page, text, f.no, f.place);
+    ) {
+        return sections::refused(page, text, refusal.no, refusal.place);
     }
     let parts = v.parts;
     let total = v.total;
@@ -74,7 +72,7 @@ pub fn begin(text: &[u8], page: &mut [u8]) -> Page
     let mut rows = [0u16; measures::ROWS];
     let mut list = [0usize; bursts::LISTED];
     let mut used = [0u8; noted::USED];
-    let v = texts::decide(
+    match texts::decide(
         text,
         &mut places,
         &mut lists,
@@ -85,13 +83,12 @@ pub fn begin(text: &[u8], page: &mut [u8]) -> Page
         &mut list,
         verdicts::nowhere(),
         &mut used,
-    );
-    if v.no != 0 {
-        return sections::refused(page, text, v.no, v.place);
+    ) {
+        Ok(v) => shown(
+            text, &places, &lists, &tplaces, &waves, &book, &rows, &list, &used, v, page,
+        ),
+        Err(refusal) => sections::refused(page, text, refusal.no, refusal.place),
     }
-    shown(
-        text, &places, &lists, &tplaces, &waves, &book, &rows, &list, &used, v, page,
-    )
 }
 
 // ---- the pages behind it
@@ -117,12 +114,12 @@ pub fn go_on(text: &[u8], p: Page, page: &mut [u8]) -> Page
 {
     let n = fitting(p, page.len());
     match views::window(text, p.first, n, DOT, page) {
-        Shown::Refused(a, b) => sections::last(0),
-        Shown::Rows(count, visits) => Page {
+        Err(_) => sections::last(0),
+        Ok(shown) => Page {
             room: true,
-            length: count * p.width,
-            first: p.first + count,
-            left: p.left - count,
+            length: shown.count * p.width,
+            first: p.first + shown.count,
+            left: p.left - shown.count,
             width: p.width,
         },
     }

@@ -1,15 +1,22 @@
 -- What stands in a list: in two that are joined, among the signals that are marked, and among the waveforms of a table.
 use Prim.Native.Nat.{ℕ}
-use mathlib.Core.Path.{◌≡◌, refl}
+use mathlib.Core.Path.{◌≡◌, refl, ap}
 use mathlib.Core.Bool.{Bool, true, false, ◌&&◌, ◌||◌}
 use mathlib.Core.Option.{Option, some, or_else}
 use mathlib.Core.List.{List, [], ◌∷◌, ◌++◌}
 use lib.Dec.{eqb}
+use Rattle.std.specs.List.{list_any}
 use Rattle.tokens.proofs.Bools.{neither}
 use Rattle.meaning.specs.Body.{Assigns, mark, marked}
 use Rattle.meaning.specs.Lists.{has}
 use Rattle.meaning.specs.Timing.{Event, Wave, wave_of}
 use Rattle.meaning.specs.Data.{assigned}
+
+-- what a slice's `contains` tells
+pub has_any : (s : ℕ) (l : List ℕ) → list_any (λ x. eqb x s) l ≡ has s l
+unfolding has
+has_any s [] = refl
+has_any s (x ∷ l) = ap (λ (b : Bool). eqb x s || b) (has_any s l)
 
 pub has_append : (s : ℕ) (l m : List ℕ) → has s (l ++ m) ≡ (has s l || has s m)
 unfolding has

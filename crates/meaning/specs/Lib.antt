@@ -14,6 +14,7 @@ pub mod Document
 pub mod Run
 pub mod Edges
 pub mod Meaning
+pub mod Results
 pub mod Services
 pub mod Charts
 pub mod Windows

@@ -16,9 +16,11 @@ use Rattle.columns.specs.Columns.{onward, position, capped}
 use Rattle.columns.proofs.Laws.{onward_capped, onward_joins, later_is}
 use Rattle.columns.specs.declared.Position.{Position}
 use Rattle.tokens.proofs.Laws.{unfolds, at_token}
-use Rattle.reader.specs.Pass.{later, seen_in, seen, standing, placed, behind, behind_next, position_behind, ahead_at, ahead_of, passed, passes, answers, ending}
-use Rattle.reader.specs.declared.Seen.{Seen}
-use Rattle.reader.specs.declared.Seen.TheVariants.{Token}
+use Rattle.reader.specs.Pass.{later, seen_in, seen, standing, placed, behind, behind_next, position_behind, passed_by, passed, passes, answers, ending}
+use Rattle.std.specs.Prelude.{Some, None, Ok, Err}
+use Rattle.tokens.specs.declared.Token.{Token}
+use Rattle.tokens.specs.declared.Refusal.{Refusal}
+use Rattle.reader.specs.declared.Reader.{Reader}
 
 -- an answer that is known tells the place behind it
 pub behind_known : (text : List ℕ) (at : ℕ) (x : Next) → next_token text at ≡ x → behind x at ≡ behind_next text at
@@ -72,19 +74,6 @@ module _ (text : List ℕ) where
 
 -- ---- lines and columns
 
--- a text's start
-pub starts : (text : Bor (List ℕ)) → record { text = text; at = 0; line = 1; column = 1 } ≡ standing text 0
-unfolding position onward
-starts text = refl
-
--- what is ahead where the place stays
-pub stays_ahead : (text : List ℕ) (at : ℕ) (q : Position) (x : Next) (s : Seen) → next_token text at ≡ x → behind x at ≡ at → s ≡ seen_in text at q x → position_behind text at q x ≡ q
-    → record { seen = s; behind = at; line = q.line; column = q.column } ≡ ahead_of text at q
-stays_ahead text at q x s e k f g =
-    let here : record { seen = s; behind = at; line = q.line; column = q.column } ≡ ahead_at text at q x =
-    λ i. record { seen = f i; behind = sym k i; line = (sym g i).line; column = (sym g i).column }
-    in here ∙ ap (ahead_at text at q) (sym e)
-
 module _ (text : List ℕ) (at : ℕ) where
   -- two parts that follow each other, gone over one after the other
   later_on : (q : Position) (p l : ℕ) → at ≤ p → capped (onward (later text at q p) (take (p + l - p) (drop p text))) ≡ later text at q (p + l)
@@ -99,13 +88,19 @@ module _ (text : List ℕ) (at : ℕ) where
       onward_capped (onward q first) _ ∙ ap (λ ys. capped (onward (onward q first) ys)) second ∙ ap capped (sym (onward_joins q first _))
       ∙ ap (λ ys. capped (onward q ys)) (sym (take-add (p - at) l (drop at text)) ∙ ap (λ n. take n (drop at text)) all)
 
-  -- behind a token
-  pub token_ahead : (q : Position) (p l : ℕ) (here there : Position) → at ≤ p → here ≡ later text at q p → there ≡ capped (onward here (take (p + l - p) (drop p text)))
-      → record { seen = Token p l here.line here.column; behind = p + l; line = there.line; column = there.column } ≡ ahead_at text at q (found p l)
-  unfolding seen_in behind position_behind
-  token_ahead q p l here there h e f =
-      let g : there ≡ later text at q (p + l) = f ∙ ap (λ x. capped (onward x (take (p + l - p) (drop p text)))) e ∙ later_on q p l h in
-      λ i. record { seen = Token p l (e i).line (e i).column; behind = p + l; line = (g i).line; column = (g i).column }
+  -- what is seen, once it is known
+  pub seen_token : (q : Position) (t : Token) (here : Position) → next_token text at ≡ found t.at t.length → here ≡ later text at q t.at
+      → Ok (Some (record { token = t; position = here })) ≡ seen text at q
+  unfolding seen_in
+  seen_token q t here e f = ap (λ (x : Position). Ok (Some (record { token = t; position = x }))) f ∙ ap (seen_in text at q) (sym e)
+
+  pub seen_none : (q : Position) → next_token text at ≡ nothing → Ok None ≡ seen text at q
+  unfolding seen_in
+  seen_none q e = ap (seen_in text at q) (sym e)
+
+  pub seen_refusal : (q : Position) (x : Refusal) → next_token text at ≡ refused x.no x.place → Err x ≡ seen text at q
+  unfolding seen_in
+  seen_refusal q x e = ap (seen_in text at q) (sym e)
 
   -- ---- a reader that stands at its place
 
@@ -115,7 +110,7 @@ module _ (text : List ℕ) (at : ℕ) where
 
     seen_placed : (x : Next) → next_token text at ≡ x → seen_in text at (position text at) x ≡ placed text x
     unfolding seen_in placed
-    seen_placed (found p l) e = let there = later_placed p (at_token text at p l e).from in λ i. Token p l (there i).line (there i).column
+    seen_placed (found p l) e = ap (λ (x : Position). Ok (Some (record { token = record { at = p; length = l }; position = x }))) (later_placed p (at_token text at p l e).from)
     seen_placed nothing e = refl
     seen_placed (refused n p) e = refl
 
@@ -124,6 +119,26 @@ module _ (text : List ℕ) (at : ℕ) where
     behind_placed (found p l) e = later_placed (p + l) (omega (arith, (at_token text at p l e).from))
     behind_placed nothing e = refl
     behind_placed (refused n p) e = refl
+
+-- the reader behind a token
+pub passed_token : (r : Reader) (t : Token) (here there : Position) → r.at ≤ t.at → next_token r.text.now r.at ≡ found t.at t.length → here ≡ later r.text.now r.at r.position t.at
+    → there ≡ capped (onward here (take (t.at + t.length - t.at) (drop t.at r.text.now)))
+    → record { text = r.text; at = t.at + t.length; position = there } ≡ passed r
+unfolding behind position_behind
+passed_token r t here there h e f g =
+    let text = r.text.now in
+    let k : there ≡ later text r.at r.position (t.at + t.length) =
+    g ∙ ap (λ x. capped (onward x (take (t.at + t.length - t.at) (drop t.at text)))) f ∙ later_on text r.at r.position t.at t.length h
+    in ap (λ (x : Position). record { text = r.text; at = t.at + t.length; position = x }) k ∙ ap (passed_by r) (sym e)
+
+-- where there is none, or a refusal, it stays
+pub passed_none : (r : Reader) → next_token r.text.now r.at ≡ nothing → r ≡ passed r
+unfolding behind position_behind
+passed_none r e = ap (passed_by r) (sym e)
+
+pub passed_refusal : (r : Reader) (x : Refusal) → next_token r.text.now r.at ≡ refused x.no x.place → r ≡ passed r
+unfolding behind position_behind
+passed_refusal r x e = ap (passed_by r) (sym e)
 
 -- a text that is too long is refused, and the reader stays
 module _ (text : List ℕ) (at : ℕ) (long : text_most < length text) where
@@ -152,7 +167,7 @@ pub standing_passes : (text : Bor (List ℕ)) (at : ℕ) → passed (standing te
 standing_passes text at = by (leb (length text.now) text_most) refl
   where
     from : position_behind text.now at (position text.now at) (next_token text.now at) ≡ position text.now (behind_next text.now at) → passed (standing text at) ≡ standing text (behind_next text.now at)
-    from e i = record { text = text; at = behind_next text.now at; line = (e i).line; column = (e i).column }
+    from e = ap (λ (x : Position). record { text = text; at = behind_next text.now at; position = x }) e
 
     by : (b : Bool) → leb (length text.now) text_most ≡ b → passed (standing text at) ≡ standing text (behind_next text.now at)
     by true short = from (behind_placed text.now at (leb-true _ _ short) (next_token text.now at) refl)

@@ -1,13 +1,12 @@
 -- What a reader sees, where it stands once it has passed what is next, and what it answers when it passes again and again.
-use Rattle.std.specs.Prelude.{ℕ, zero, suc, ◌+◌, ◌-◌, List, [], ◌∷◌, length, take, drop}
+use Rattle.std.specs.Prelude.{ℕ, zero, suc, ◌+◌, ◌-◌, List, [], ◌∷◌, length, take, drop, Option, Some, None, Result, Ok, Err}
 use Rattle.std.specs.Borrow.{Bor}
 use Rattle.tokens.specs.Tokens.{Toks, stop, tok, Next, found, nothing, refused, first, next_token}
 use Rattle.columns.specs.Columns.{onward, position, capped}
 use Rattle.columns.specs.declared.Position.{Position}
+use Rattle.tokens.specs.declared.Refusal.{Refusal}
 use Rattle.reader.specs.declared.Reader.{Reader}
-use Rattle.reader.specs.declared.Ahead.{Ahead}
 use Rattle.reader.specs.declared.Seen.{Seen}
-use Rattle.reader.specs.declared.Seen.TheVariants.{Token, Nothing, Refused}
 
 -- ---- lines and columns
 
@@ -16,27 +15,23 @@ abbrev pub later : List ℕ → ℕ → Position → ℕ → Position
 later text at q p = capped (onward q (take (p - at) (drop at text)))
 
 -- an answer, in which a token has its line and its column
-unfoldable pub seen_in : List ℕ → ℕ → Position → Next → Seen
-seen_in text at q (found p l) = Token p l (later text at q p).line (later text at q p).column
-seen_in text at q nothing = Nothing
-seen_in text at q (refused n p) = Refused n p
+unfoldable pub seen_in : List ℕ → ℕ → Position → Next → Result (Option Seen) Refusal
+seen_in text at q (found p l) = Ok (Some (record { token = record { at = p; length = l }; position = later text at q p }))
+seen_in text at q nothing = Ok None
+seen_in text at q (refused n p) = Err (record { no = n; place = p })
 
-abbrev pub seen : List ℕ → ℕ → Position → Seen
+abbrev pub seen : List ℕ → ℕ → Position → Result (Option Seen) Refusal
 seen text at q = seen_in text at q (next_token text at)
-
--- what the reader has as the position of its place
-abbrev pub held : Reader → Position
-held r = record { line = r.line; column = r.column }
 
 -- the reader of a text at a place: there it is the position
 abbrev pub standing : Bor (List ℕ) → ℕ → Reader
-standing text at = record { text = text; at = at; line = (position text.now at).line; column = (position text.now at).column }
+standing text at = record { text = text; at = at; position = position text.now at }
 
 -- what such a reader sees: each token with the line and the column of its place
-unfoldable pub placed : List ℕ → Next → Seen
-placed text (found p l) = Token p l (position text p).line (position text p).column
-placed text nothing = Nothing
-placed text (refused n p) = Refused n p
+unfoldable pub placed : List ℕ → Next → Result (Option Seen) Refusal
+placed text (found p l) = Ok (Some (record { token = record { at = p; length = l }; position = position text p }))
+placed text nothing = Ok None
+placed text (refused n p) = Err (record { no = n; place = p })
 
 -- ---- passing
 
@@ -54,23 +49,12 @@ position_behind text at q (found p l) = later text at q (p + l)
 position_behind text at q nothing = q
 position_behind text at q (refused n p) = q
 
--- what is seen, and the place behind it
-abbrev pub ahead_at : List ℕ → ℕ → Position → Next → Ahead
-ahead_at text at q x = record {
-  seen = seen_in text at q x;
-  behind = behind x at;
-  line = (position_behind text at q x).line;
-  column = (position_behind text at q x).column;
-}
-
-abbrev pub ahead_of : List ℕ → ℕ → Position → Ahead
-ahead_of text at q = ahead_at text at q (next_token text at)
-
-abbrev pub passed_from : Bor (List ℕ) → Ahead → Reader
-passed_from text a = record { text = text; at = a.behind; line = a.line; column = a.column }
+-- the reader behind what is next
+abbrev pub passed_by : Reader → Next → Reader
+passed_by r x = record { text = r.text; at = behind x r.at; position = position_behind r.text.now r.at r.position x }
 
 abbrev pub passed : Reader → Reader
-passed r = passed_from r.text (ahead_of r.text.now r.at (held r))
+passed r = passed_by r (next_token r.text.now r.at)
 
 -- the answers of n passes, one after the other, from a place on
 unfoldable pub passes : ℕ → List ℕ → ℕ → List Next

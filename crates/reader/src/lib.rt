@@ -1,79 +1,25 @@
-// A reader that holds a text and a place: the token rules alone, for other tools. Each function over it only takes it apart; the work is done on the text and numbers.
+// A reader that holds a text and a place: the token rules alone, for other tools.
 #![tactic(auto)]
 
-ghost use Rattle.std.specs.Prelude.{◌≡◌, ◌+◌, ◌≤◌, length};
-ghost use Rattle.reader.specs.Pass.{seen as seen_of, ahead_of, ahead_at, held, standing, passed};
-ghost use Rattle.tokens.specs.Tokens.{found};
+ghost use Rattle.std.specs.Prelude.{◌≡◌};
+ghost use Rattle.reader.specs.Pass.{seen as seen_of, standing, passed};
 
-// Line and column are those of the place, moved on with it: each byte is counted once. Whatever they are, reading goes on from them.
+use columns::Position;
+use tokens::{Refusal, Token};
+
+// The position is that of the place, moved on with it: each byte is counted once. Whatever it is, reading goes on from it.
 #[derive(Clone, Copy)]
 pub struct Reader<'a> {
     pub text: &'a [u8],
     pub at: usize,
-    pub line: usize,
-    pub column: usize,
+    pub position: Position,
 }
 
-#[derive(Clone, Copy)]
-pub enum Seen {
-    // its place in the whole text, its length, its line and its column
-    Token(usize, usize, usize, usize),
-    Nothing,
-    // the number of the refusal, and the place
-    Refused(u8, usize),
-}
-
-// What is next, and the place behind it with its line and column.
-#[derive(Clone, Copy)]
-struct Ahead {
-    seen: Seen,
-    behind: usize,
-    line: usize,
-    column: usize,
-}
-
-// A token that was found, and its end.
-fn token_ahead(
-    text: &[u8],
-    at: usize,
-    line: usize,
-    column: usize,
-    place: usize,
-    long: usize,
-) -> Ahead
-    requires { (at ≤ place) × (place + long ≤ length text.now) }
-    ensures { result ≡ ahead_at text.now at (record { line = line; column = column }) (found place long) }
-{
-    let here = columns::onward(columns::Position { line, column }, &text[at..place]);
-    let behind = place + long;
-    let there = columns::onward(here, &text[place..behind]);
-    Ahead {
-        seen: Seen::Token(place, long, here.line, here.column),
-        behind,
-        line: there.line,
-        column: there.column,
-    }
-}
-
-// The next token from a place on, and its end; where there is none, or a refusal, the place itself.
-fn ahead_from(text: &[u8], at: usize, line: usize, column: usize) -> Ahead
-    ensures { result ≡ ahead_of text.now at (record { line = line; column = column }) }
-{
-    match tokens::next_token(text, at) {
-        tokens::Step::Token(p, l) => token_ahead(text, at, line, column, p, l),
-        tokens::Step::Nothing => Ahead {
-            seen: Seen::Nothing,
-            behind: at,
-            line,
-            column,
-        },
-        tokens::Step::Refused(no, place) => Ahead {
-            seen: Seen::Refused(no, place),
-            behind: at,
-            line,
-            column,
-        },
-    }
+// A token, with the line and the column of its first byte.
+#[derive(Clone, Copy, Debug, PartialEq, Eq)]
+pub struct Seen {
+    pub token: Token,
+    pub position: Position,
 }
 
 // A reader of a text, at its start.
@@ -83,8 +29,7 @@ pub fn new<'a>(text: &'a [u8]) -> Reader<'a>
     Reader {
         text,
         at: 0,
-        line: 1,
-        column: 1,
+        position: columns::start(),
     }
 }
 
@@ -92,30 +37,32 @@ pub fn new<'a>(text: &'a [u8]) -> Reader<'a>
 pub fn moved<'a>(r: Reader<'a>, at: usize) -> Reader<'a>
     ensures { result ≡ standing r.entry.text at }
 {
-    let p = columns::position_of(r.text, at);
     Reader {
         text: r.text,
         at,
-        line: p.line,
-        column: p.column,
+        position: columns::position_of(r.text, at),
     }
 }
 
 // The next token, as if reading began at the reader's place.
-pub fn next<'a>(r: Reader<'a>) -> Seen
-    ensures { result ≡ seen_of r.entry.text.now r.entry.at (held r.entry) }
+pub fn next<'a>(r: Reader<'a>) -> Result<Option<Seen>, Refusal>
+    ensures { result ≡ seen_of r.entry.text.now r.entry.at r.entry.position }
 {
-    let ahead = ahead_from(r.text, r.at, r.line, r.column);
-    ahead.seen
+    let mut ahead = r;
+    pass(&mut ahead)
 }
 
 // The next token, which the reader passes: a loop over this goes through all tokens. Where there is none, or a refusal, the reader stays.
-pub fn pass<'s, 'a>(r: &'s mut Reader<'a>) -> Seen
-    ensures { (result ≡ seen_of r.old.text.now r.old.at (held r.old)) × (r.new ≡ passed r.old) }
+pub fn pass<'s, 'a>(r: &'s mut Reader<'a>) -> Result<Option<Seen>, Refusal>
+    ensures { (result ≡ seen_of r.old.text.now r.old.at r.old.position) × (r.new ≡ passed r.old) }
 {
-    let ahead = ahead_from(r.text, r.at, r.line, r.column);
-    r.at = ahead.behind;
-    r.line = ahead.line;
-    r.column = ahead.column;
-    ahead.seen
+    let text = r.text;
+    let Some(token) = tokens::next_token(text, r.at)? else {
+        return Ok(None);
+    };
+    let position = columns::onward(r.position, &text[r.at..token.at]);
+    let behind = token.at + token.length;
+    r.at = behind;
+    r.position = columns::onward(position, &text[token.at..behind]);
+    Ok(Some(Seen { token, position }))
 }

@@ -2,9 +2,10 @@
 ghost use Rattle.std.specs.Prelude.{◌≡◌, ◌+◌, ◌≤◌, length};
 
 use commands::{answers, asked, files};
-use fails::Failures;
+use fails::Unanswered;
 use lines::LINE;
 use streams::{ROWS, System};
+use tokens::Refusal;
 
 // No report of 65,536 bytes has more answers: each has at least two bytes of it.
 const FAILS: usize = 32_768;
@@ -42,11 +43,9 @@ fn put_fails(
     requires { (length page.old ≡ 1048576) × (length cycles.now ≡ 32768) × (length signals.now ≡ 32768) × (length letters.now ≡ 32768) × (k ≤ 32768) }
 {
     let mut end = lines::fails(page, 0, k);
-    let mut i = 0;
-    while i < k {
+    for i in 0..k {
         let at = emptied(rt, page, end);
         end = put_fail(page, at, cycles[i], signals[i], letters[i]);
-        i += 1;
     }
     streams::write(rt, page, end);
 }
@@ -62,9 +61,9 @@ fn tell(rt: &impl System, cycles: &[u64], signals: &[u64], letters: &[u8], k: us
 }
 
 // The report's refusal says that it is the report's.
-fn faulty(rt: &impl System, report: &[u8], no: u8, place: usize) {
+fn faulty(rt: &impl System, report: &[u8], refusal: Refusal) {
     let mut page = asked::page();
-    let end = lines::hurt(&mut page, 0, b"REPORT", report, no, place);
+    let end = lines::hurt(&mut page, 0, b"REPORT", report, refusal.no, refusal.place);
     streams::write(rt, &page, end);
 }
 
@@ -73,23 +72,19 @@ fn answer<'a>(rt: &impl System, text: &'a [u8], report: &'a [u8]) {
     let mut signals = [0u64; FAILS];
     let mut letters = [0u8; FAILS];
     match fails::report(text, report, &mut cycles, &mut signals, &mut letters) {
-        Failures::Answers(k) => tell(rt, &cycles, &signals, &letters, k),
-        Failures::Refused(no, place) => answers::refused(rt, text, no, place),
-        Failures::ReportRefused(no, place) => faulty(rt, report, no, place),
+        Ok(k) => tell(rt, &cycles, &signals, &letters, k),
+        Err(Unanswered::Text(refusal)) => answers::refused(rt, text, refusal),
+        Err(Unanswered::Report(refusal)) => faulty(rt, report, refusal),
     }
 }
 
 fn both(rt: &impl System) {
     let mut text = streams::room();
-    let t = files::text(rt, 2, &mut text);
-    if !t.read {
+    let Some(n) = files::text(rt, 2, &mut text) else {
         return;
-    }
+    };
     let mut report = streams::room();
-    let r = files::text(rt, 3, &mut report);
-    if r.read {
-        let n = t.length;
-        let m = r.length;
+    if let Some(m) = files::text(rt, 3, &mut report) {
         answer(rt, &text[..n], &report[..m]);
     }
 }

@@ -1,23 +1,20 @@
 // fold FILE
 use commands::{answers, asked, files};
-use flats::Folded;
 use streams::System;
 
 fn answer(rt: &impl System, text: &[u8]) {
     let mut page = streams::room();
     match flats::fold(text, &mut page) {
-        Folded::Text(n) => {
+        Ok(n) => {
             streams::write(rt, &page, n);
         }
-        Folded::Refused(no, place) => answers::refused(rt, text, no, place),
+        Err(refusal) => answers::refused(rt, text, refusal),
     }
 }
 
 fn file(rt: &impl System) {
     let mut text = streams::room();
-    let t = files::text(rt, 2, &mut text);
-    if t.read {
-        let n = t.length;
+    if let Some(n) = files::text(rt, 2, &mut text) {
         answer(rt, &text[..n]);
     }
 }

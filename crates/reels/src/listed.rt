@@ -4,9 +4,7 @@ use streams::System;
 
 fn file(rt: &impl System) {
     let mut text = streams::room();
-    let t = files::text(rt, 2, &mut text);
-    if t.read {
-        let n = t.length;
+    if let Some(n) = files::text(rt, 2, &mut text) {
         listing::list(rt, &text[..n]);
     }
 }

@@ -15,67 +15,25 @@ fn help(rt: &impl System) {
     }
 }
 
-// The commands that ask for tokens, for what is stored of a raw text, for an index or the pattern that holds a cycle, for a listing, for a hurt text's saving,
-// for a text folded flat, for what a fail report says, or for what the commands are.
-fn other(rt: &impl System, command: &[u8]) -> bool {
-    if words::equal(command, b"tokens") {
-        split::tokens(rt);
-        return true;
-    }
-    if words::equal(command, b"intake") {
-        stored::intake(rt);
-        return true;
-    }
-    if words::equal(command, b"index") {
-        rebuilt::index(rt);
-        return true;
-    }
-    if words::equal(command, b"holds") {
-        holding::holds(rt);
-        return true;
-    }
-    if words::equal(command, b"list") {
-        listed::list(rt);
-        return true;
-    }
-    if words::equal(command, b"save") {
-        saved::save(rt);
-        return true;
-    }
-    if words::equal(command, b"fold") {
-        flattened::fold(rt);
-        return true;
-    }
-    if words::equal(command, b"report") {
-        failed::report(rt);
-        return true;
-    }
-    if words::equal(command, b"help") {
-        help(rt);
-        return true;
-    }
-    false
-}
-
 // Is it a command? Then it is answered.
 fn answered(rt: &impl System, command: &[u8]) -> bool {
-    if words::equal(command, b"check") {
-        checked::check(rt);
-        return true;
+    match command {
+        b"check" => checked::check(rt),
+        b"name" => named::name(rt),
+        b"window" => shown::window(rt),
+        b"waveform" => shaped::waveform(rt),
+        b"tokens" => split::tokens(rt),
+        b"intake" => stored::intake(rt),
+        b"index" => rebuilt::index(rt),
+        b"holds" => holding::holds(rt),
+        b"list" => listed::list(rt),
+        b"save" => saved::save(rt),
+        b"fold" => flattened::fold(rt),
+        b"report" => failed::report(rt),
+        b"help" => help(rt),
+        _ => return false,
     }
-    if words::equal(command, b"name") {
-        named::name(rt);
-        return true;
-    }
-    if words::equal(command, b"window") {
-        shown::window(rt);
-        return true;
-    }
-    if words::equal(command, b"waveform") {
-        shaped::waveform(rt);
-        return true;
-    }
-    other(rt, command)
+    true
 }
 
 fn main(rt: HostRuntime) {

@@ -3,29 +3,16 @@ ghost use Rattle.std.specs.Prelude.{◌+◌, ◌*◌, ◌≤◌, ◌<◌, length
 ghost use Rattle.meaning.specs.Bounds.{signals_most};
 
 use commands::{answers, asked, files};
-use lines::Value;
-use services::Checked;
 use streams::{ROWS, System};
-use views::Shown;
 
 // The mark for an unassigned pin where none is chosen: `?`.
-const QUESTION: u64 = 63;
-
-// Were the rows written? Then the visits at their first cycle.
-#[derive(Clone, Copy)]
-struct Piece {
-    going: bool,
-    visits: usize,
-}
+const QUESTION: u8 = 63;
 
 // min(wanted, cycles left).
 fn due(cycles: usize, first: usize, wanted: usize) -> usize
     ensures { first + result ≤ 18446744073709551615 }
 {
-    if cycles <= first {
-        return 0;
-    }
-    sets::least(wanted, cycles - first)
+    wanted.min(cycles.saturating_sub(first))
 }
 
 // Of the rows that are left, as many as a page holds.
@@ -33,18 +20,10 @@ fn fitting(left: usize, width: usize) -> usize
     requires { (2 ≤ width) × (width ≤ signals_most + 2) }
     ensures { (result ≤ left) × (result * width ≤ 1048576) × (0 < left → 0 < result) }
 {
-    sets::least(left, ROWS / width)
+    left.min(ROWS / width)
 }
 
-// Nothing more is written.
-fn over() -> Piece {
-    Piece {
-        going: false,
-        visits: 0,
-    }
-}
-
-// The rows of n cycles from the cycle `first` on.
+// The rows of n cycles from the cycle `first` on, and the visits at that cycle; none where the rows could not be written.
 fn some_rows(
     rt: &impl System,
     text: &[u8],
@@ -53,23 +32,20 @@ fn some_rows(
     width: usize,
     mark: u8,
     page: &mut [u8],
-) -> Piece
+) -> Option<usize>
     requires { n * width ≤ length page.old }
 {
     match views::window(text, first, n, mark, page) {
-        Shown::Rows(count, visits) => {
-            if count != n {
+        Ok(rows) => {
+            if rows.count != n {
                 streams::broken(rt, b"fewer rows than are due\n");
-                return over();
+                return None;
             }
-            Piece {
-                going: streams::write(rt, page, n * width),
-                visits,
-            }
+            streams::write(rt, page, n * width).then_some(rows.visits)
         }
-        Shown::Refused(no, place) => {
-            answers::refused(rt, text, no, place);
-            over()
+        Err(refusal) => {
+            answers::refused(rt, text, refusal);
+            None
         }
     }
 }
@@ -81,79 +57,60 @@ fn rows(rt: &impl System, text: &[u8], first: usize, due: usize, width: usize, m
     let mut space = streams::rows();
     let page: &mut [u8] = &mut space;
     let mut done = fitting(due, width);
-    let front = some_rows(rt, text, first, done, width, mark, page);
-    if !front.going {
+    let Some(visits) = some_rows(rt, text, first, done, width, mark, page) else {
         return;
-    }
+    };
     while done < due {
         let n = fitting(due - done, width);
         let piece = some_rows(rt, text, first + done, n, width, mark, page);
-        if !piece.going {
+        if piece.is_none() {
             return;
         }
         done += n;
     }
-    answers::visits(rt, front.visits);
+    answers::visits(rt, visits);
 }
 
 fn answer(rt: &impl System, text: &[u8], first: usize, wanted: usize, mark: u8) {
     match services::check(text) {
-        Checked::Counted(signals, _, _, cycles, _) => {
-            if sets::MOST < signals {
+        Ok(counts) => {
+            if sets::MOST < counts.signals {
                 return streams::broken(rt, b"more signals than a text has\n");
             }
             rows(
                 rt,
                 text,
                 first,
-                due(cycles, first, wanted),
-                signals + 2,
+                due(counts.cycles, first, wanted),
+                counts.signals + 2,
                 mark,
             );
         }
-        Checked::Refused(no, place) => {
-            answers::refused(rt, text, no, place);
-        }
+        Err(refusal) => answers::refused(rt, text, refusal),
     }
 }
 
 // The mark that was chosen, or else `?`.
-fn mark(rt: &impl System) -> Value
-    ensures { result.value < 256 }
-{
+fn mark(rt: &impl System) -> Option<u8> {
     if asked::given(rt) < 6 {
-        return Value {
-            right: true,
-            value: QUESTION,
-        };
+        return Some(QUESTION);
     }
     asked::byte(rt, 5)
 }
 
 fn file(rt: &impl System) {
-    let first = asked::number(rt, 3);
-    if !first.right {
+    let Some(first) = asked::number(rt, 3) else {
         return;
-    }
-    let wanted = asked::number(rt, 4);
-    if !wanted.right {
+    };
+    let Some(wanted) = asked::number(rt, 4) else {
         return;
-    }
-    let mark = mark(rt);
-    if !mark.right {
+    };
+    let Some(mark) = mark(rt) else {
         return;
-    }
+    };
     let mut text = streams::room();
-    let t = files::text(rt, 2, &mut text);
-    if t.read {
-        let n = t.length;
-        answer(
-            rt,
-            &text[..n],
-            first.value as usize,
-            wanted.value as usize,
-            mark.value as u8,
-        );
+    if let Some(n) = files::text(rt, 2, &mut text) {
+        answer(rt, &text[..n], first, wanted, mark);
     }
 }
 

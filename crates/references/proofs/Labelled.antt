@@ -16,7 +16,6 @@ use Rattle.held.specs.Held.{Holds}
 use Rattle.meaning.specs.Labels.{Here, begins, due, within, beginning, parting, labelling, behind, labelled, labels_from, labels, taken, used_by}
 use Rattle.meaning.proofs.Others.{same_eq}
 use Rattle.labels.specs.Table.{words_of, Gathers}
-use Rattle.labels.specs.declared.Gathered.{Gathered}
 use Rattle.labels.proofs.Chains.{taken_number}
 use Rattle.labels.proofs.Scanning.{behind_parting}
 use Rattle.references.specs.References.{behind as rest, behind_head, behind_body, next_at, name_at, referred}
@@ -107,12 +106,12 @@ module _ (w : List ℕ) where
       (n.1, (n.0, i.1))
 
 -- THE LAW: behind a pass over the tokens in which no name is used twice, each X name of a body that is held where it began is in the table
-pub names_labelled : {text : List ℕ} {from : ℕ} {burst places heads nexts : List ℕ} {r : Gathered} → Gathers text from burst places heads nexts r → r.again ≡ false
-    → (e : Env) (ts : Toks) (b : Body) (us : Toks) (n : ℕ) → toks text from ≡ ts → Holds e ts b us → Labelled text places r.count (referred e ts n b)
+pub names_labelled : {text : List ℕ} {from : ℕ} {burst places heads nexts : List ℕ} {count : ℕ} → Gathers text from burst places heads nexts count
+    → (e : Env) (ts : Toks) (b : Body) (us : Toks) (n : ℕ) → toks text from ≡ ts → Holds e ts b us → Labelled text places count (referred e ts n b)
 unfolding labels is_some
-names_labelled {text} {from} {burst} {places} {heads} {nexts} {r} g once e ts b us n p x = record {
+names_labelled {text} {from} {burst} {places} {heads} {nexts} {count} g e ts b us n p x = record {
   only = λ w q. (
-      let free : taken (words_of text places r.count) w ≡ false = taken_number (words_of text places r.count) w ∙ ap is_some q in
-      let all = none_used w [] (labels (toks text from)) (ap (λ (vs : List (List ℕ)). taken vs w) (sym (g.words once)) ∙ free) in
+      let free : taken (words_of text places count) w ≡ false = taken_number (words_of text places count) w ∙ ap is_some q in
+      let all = none_used w [] (labels (toks text from)) (ap (λ (vs : List (List ℕ)). taken vs w) (sym g.words) ∙ free) in
       names_none w e ts b us n x (subst (λ (vs : Toks). NoneIs w (labels_from begins vs)) p all.1));
 }

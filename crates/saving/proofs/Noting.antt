@@ -1,15 +1,11 @@
 -- Spans noted one by one are all of them noted; and where there is room for all, their numbers stand at the front.
 use Prim.Native.Nat.{ℕ, zero, suc, ◌+◌, ◌*◌, ◌≤◌, ◌<◌}
-use native.Mathlib.Numerals.{add-one}
 use native.Mathlib.Omega.{arith}
-use mathlib.Core.Path.{◌≡◌, refl, sym, ap, ◌∙◌}
-use mathlib.Core.Bool.{true, false}
+use mathlib.Core.Path.{◌≡◌, refl, sym, ap}
 use mathlib.Core.List.{List, [], ◌∷◌, ◌++◌}
-use lib.ListN.{length, get_or, take, drop, set, length-append, length-take, length-drop}
+use lib.ListN.{length, drop, set}
 use Rattle.saving.specs.Saving.{Span, numbers_of}
 use Rattle.saving.specs.Spans.{noted, noted_all, Notes}
-use Rattle.saving.specs.Found.{hurt_of}
-use Rattle.saving.specs.declared.Hurt.{Hurt}
 
 -- ---- one store after the other
 
@@ -70,26 +66,9 @@ all_front (s ∷ spans) (a ∷ b ∷ l) h = ap (λ (x : List ℕ). s.first ∷ s
 
 -- ---- what the code notes
 
-module _ (k : ℕ) (h : Hurt) (l : List ℕ) where
-  pub notes_nothing : h.found ≡ false → Notes k (hurt_of h) l k l
-  notes_nothing e = rw e (record { counted = refl; numbers = refl })
+module _ (k : ℕ) (s : Span) (l : List ℕ) where
+  pub notes_stored : k * 2 + 1 < length l → Notes k s l (k + 1) (set (set l (k * 2) s.first) (k * 2 + 1) s.behind)
+  notes_stored r = record { counted = omega arith; numbers = noted_stores k s l r }
 
-  pub notes_stored : h.found ≡ true → k * 2 + 1 < length l → Notes k (hurt_of h) l (k + 1) (set (set l (k * 2) h.first) (k * 2 + 1) h.behind)
-  notes_stored e r = rw e (record { counted = omega arith; numbers = noted_stores k (record { first = h.first; behind = h.behind }) l r })
-
-  pub notes_full : h.found ≡ true → length l ≤ k * 2 + 1 → Notes k (hurt_of h) l (k + 1) l
-  notes_full e r = rw e (record { counted = omega arith; numbers = sym (noted_full k (record { first = h.first; behind = h.behind }) l r) })
-
--- ---- numbers handed out one by one
-
-pub handed_on : (i : ℕ) (log l : List ℕ) → i < length log → i < length l → set (take i log ++ drop i l) i (get_or log i 0) ≡ take (i + 1) log ++ drop (i + 1) l
-handed_on i log l h k = rw add-one (by i log l h k)
-  where
-    by : (i : ℕ) (log l : List ℕ) → i < length log → i < length l → set (take i log ++ drop i l) i (get_or log i 0) ≡ take (suc i) log ++ drop (suc i) l
-    by i [] l h k = absurd (omega arith)
-    by i (a ∷ log) [] h k = absurd (omega arith)
-    by zero (a ∷ log) (b ∷ l) h k = refl
-    by (suc i) (a ∷ log) (b ∷ l) h k = ap (λ (x : List ℕ). a ∷ x) (by i log l (omega arith) (omega arith))
-
-pub handed_length : (i : ℕ) (log l : List ℕ) → i ≤ length log → i ≤ length l → length (take i log ++ drop i l) ≡ length l
-handed_length i log l h k = length-append (take i log) (drop i l) ∙ omega (arith, length-take i log, length-drop i l)
+  pub notes_full : length l ≤ k * 2 + 1 → Notes k s l (k + 1) l
+  notes_full r = record { counted = omega arith; numbers = sym (noted_full k s l r) }

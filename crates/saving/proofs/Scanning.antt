@@ -19,8 +19,7 @@ use Rattle.words.specs.Values.{told}
 use Rattle.words.specs.declared.Cursor.{Cursor}
 use Rattle.words.proofs.Flow.{stream_stop, token_here, fewer}
 use Rattle.saving.specs.Saving.{Span, Block, Turn, on, ends, closing, beginning, turn, following, blocks_from, blocks, in_block, block_at, semicolon, up_to, entry, of_block, hurt}
-use Rattle.saving.specs.Found.{span_if, hurt_of, begun_in, turned_to, Scans}
-use Rattle.saving.specs.declared.Hurt.{Hurt}
+use Rattle.saving.specs.Found.{begun_in, turned_to, Scans}
 use Rattle.saving.specs.declared.Scan.{Scan}
 
 -- ---- one token
@@ -225,21 +224,26 @@ module _ (text : List ℕ) (p : ℕ) where
       }
 
   -- no token is left
-  pub looks_end : {c : Cursor} {s : Scan} → Looks c s → c.end ≤ c.at
-      → span_if ((s.begun && leb s.first p) && leb p (length text)) (record { first = s.first; behind = length text }) ≡ block_at p (blocks text)
-  unfolding blocks_from block_at
-  looks_end {c} {s} l h = sym (l.still ∙ ap (λ (ts : Toks). block_at p (blocks_from (length text) s.depth (begun_in s) ts)) (stream_stop text c (le-ltb c.at c.end h)) ∙ by s.begun)
-    where
-      last : Span
-      last = record { first = s.first; behind = length text }
+  module _ {c : Cursor} {s : Scan} (l : Looks c s) (h : c.end ≤ c.at) where
+    abbrev last : Span
+    last = record { first = s.first; behind = length text }
 
-      picked : (y : Bool) → ◌≡◌ {A = Option Span} (elim y [ true ↦ some last | false ↦ none ]) (span_if y last)
-      picked true = refl
-      picked false = refl
+    abbrev open_at : Bool → Option Span
+    open_at y = elim y [ true ↦ some last | false ↦ none ]
 
-      by : (b : Bool) → block_at p (blocks_from (length text) s.depth (told b s.first) (stop (stop_no c) c.at)) ≡ span_if ((b && leb s.first p) && leb p (length text)) last
-      by false = refl
-      by true = let y = leb s.first p && leb p (length text) in block_if p y (record { span = last; whole = false }) [] (in_open p last) ∙ picked y
+    looks_end : block_at p (blocks text) ≡ open_at ((s.begun && leb s.first p) && leb p (length text))
+    unfolding blocks_from block_at
+    looks_end = l.still ∙ ap (λ (ts : Toks). block_at p (blocks_from (length text) s.depth (begun_in s) ts)) (stream_stop text c (le-ltb c.at c.end h)) ∙ by s.begun
+      where
+        by : (b : Bool) → block_at p (blocks_from (length text) s.depth (told b s.first) (stop (stop_no c) c.at)) ≡ open_at ((b && leb s.first p) && leb p (length text))
+        by false = refl
+        by true = let y = leb s.first p && leb p (length text) in block_if p y (record { span = last; whole = false }) [] (in_open p last)
+
+    pub looks_last : ((s.begun && leb s.first p) && leb p (length text)) ≡ true → some (record { first = s.first; behind = length text }) ≡ block_at p (blocks text)
+    looks_last e = sym (looks_end ∙ ap open_at e)
+
+    pub looks_none : ((s.begun && leb s.first p) && leb p (length text)) ≡ false → none ≡ block_at p (blocks text)
+    looks_none e = sym (looks_end ∙ ap open_at e)
 
 -- ---- an entry's `;`
 
@@ -273,9 +277,6 @@ upto_found a e = rw e
 pub upto_none : (a : ℕ) {o : Option ℕ} → o ≡ none → up_to a o ≡ none
 unfolding up_to
 upto_none a e = rw e
-
-pub nothing_found : (h : Hurt) → h.found ≡ false → hurt_of h ≡ none
-nothing_found h e = rw e
 
 -- ---- by the refusal's number
 

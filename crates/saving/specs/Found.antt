@@ -1,18 +1,18 @@
 -- What the code's functions promise: the span that a refusal overwrites, and the scan for it, token by token.
-use Rattle.std.specs.Prelude.{ℕ, ◌≡◌, Bool, true, false}
+use Rattle.std.specs.Prelude.{ℕ, ◌≡◌, Bool, true, false, Option as Maybe, Some, None}
 use Rattle.std.proofs.Math.Option.{Option, none, some}
 use Rattle.words.specs.Values.{told}
 use Rattle.saving.specs.Saving.{Span, Turn, on, ends}
 use Rattle.saving.specs.declared.Hurt.{Hurt}
 use Rattle.saving.specs.declared.Scan.{Scan}
 
--- a span, if there is one
-abbrev pub span_if : Bool → Span → Option Span
-span_if true s = some s
-span_if false s = none
+abbrev pub span_of : Hurt → Span
+span_of h = record { first = h.first; behind = h.behind }
 
-abbrev pub hurt_of : Hurt → Option Span
-hurt_of h = span_if h.found (record { first = h.first; behind = h.behind })
+-- a span, if there is one
+abbrev pub hurt_of : Maybe Hurt → Option Span
+hurt_of (Some h) = some (span_of h)
+hurt_of None = none
 
 -- where a block has begun, if one has
 abbrev pub begun_in : Scan → Option ℕ

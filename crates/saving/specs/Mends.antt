@@ -1,34 +1,26 @@
 -- What the code that repeats check and overwriting promises: one turn, and all of them.
-use Rattle.std.specs.Prelude.{ℕ, ◌≡◌, true, false, List, eqb, length}
-use Rattle.std.proofs.Math.Option.{Option, none, some}
-use Rattle.saving.specs.Saving.{Span, overwritten, Verdict, accepted, hurt_in, beyond_help, verdict}
+use Rattle.std.specs.Prelude.{ℕ, ◌≡◌, List, length, Option, Some, None, Result, Ok, Err}
+use Rattle.tokens.specs.declared.Refusal.{Refusal}
+use Rattle.saving.specs.Saving.{Span, overwritten, accepted, hurt_in, beyond_help, verdict}
 use Rattle.saving.specs.Steps.{Steps}
-use Rattle.saving.specs.Found.{hurt_of}
+use Rattle.saving.specs.Found.{span_of}
 use Rattle.saving.specs.Spans.{noted_all}
-use Rattle.saving.specs.declared.Turn.{Turn}
-use Rattle.saving.specs.declared.Mended.{Mended}
-
--- where nothing can be overwritten
-abbrev pub last_of : ℕ → ℕ → Verdict
-last_of n p = elim (eqb n 0) [ true ↦ accepted | false ↦ beyond_help n p ]
-
-abbrev pub verdict_of : Option Span → ℕ → ℕ → Verdict
-verdict_of none n p = last_of n p
-verdict_of (some s) n p = hurt_in s
-
-abbrev pub left_by : Option Span → List ℕ → List ℕ
-left_by none text = text
-left_by (some s) text = overwritten s text
+use Rattle.saving.specs.declared.Hurt.{Hurt}
 
 -- THE PROMISE of a turn: what the check makes of the text, and the text that it leaves
-pub record Turns (text behind : List ℕ) (t : Turn) : Type 0 where
-  pub told : verdict text ≡ verdict_of (hurt_of t.hurt) t.no t.place
-  pub left : behind ≡ left_by (hurt_of t.hurt) text
+abbrev pub Turns : (text behind : List ℕ) → Result (Option Hurt) Refusal → Type 0
+Turns text behind (Ok (Some h)) = (verdict text ≡ hurt_in (span_of h)) × (behind ≡ overwritten (span_of h) text)
+Turns text behind (Ok None) = (verdict text ≡ accepted) × (behind ≡ text)
+Turns text behind (Err r) = (verdict text ≡ beyond_help r.no r.place) × (behind ≡ text)
+
+-- how it ends: with so many spans overwritten, or with the last refusal
+abbrev pub Ends : List ℕ → List Span → Result ℕ Refusal → Type 0
+Ends behind spans (Ok n) = (verdict behind ≡ accepted) × (n ≡ length spans)
+Ends behind spans (Err r) = verdict behind ≡ beyond_help r.no r.place
 
 -- THE PROMISE of all of them: the spans in their order, as far as the numbers have room for them, and the last verdict
-pub record Mends (text behind numbers numbers' : List ℕ) (r : Mended) : Type 0 where
+pub record Mends (text behind numbers numbers' : List ℕ) (r : Result ℕ Refusal) : Type 0 where
   pub spans : List Span
   pub steps : Steps text spans behind
-  pub counted : r.count ≡ length spans
   pub noted : numbers' ≡ noted_all spans numbers
-  pub ended : verdict behind ≡ last_of r.no r.place
+  pub ended : Ends behind spans r

@@ -1,41 +1,25 @@
 // Hurt reels: the span that a refusal overwrites, and the overwriting.
 #![tactic(auto)]
 
-ghost use Rattle.std.specs.Prelude.{◌≡◌, ◌++◌, false, ◌+◌, ◌≤◌, ◌<◌, length, take, drop};
+ghost use Rattle.std.specs.Prelude.{◌≡◌, ◌++◌, ◌+◌, ◌≤◌, ◌<◌, length, take, drop};
 ghost use Rattle.tokens.specs.Written.{bytes, same};
 ghost use Rattle.tokens.specs.Refusals.{text_most};
 ghost use Rattle.tokens.specs.Tokens.{toks};
 ghost use Rattle.words.specs.Cursor.{stream, ahead};
 ghost use Rattle.saving.specs.Saving.{closing, beginning, turn, blocks, block_at, semicolon, entry, hurt, spaced};
-ghost use Rattle.saving.specs.Found.{hurt_of, begun_in, Scans};
+ghost use Rattle.saving.specs.Found.{span_of, hurt_of, begun_in, Scans};
 ghost use Rattle.saving.specs.Spans.{Notes};
 
+use tokens::Refusal;
 use words::Cursor;
 
 const SPACE: u8 = 32;
 
-// A span, if there is one (`found`): its first byte, and the one behind its last.
+// A span that is overwritten: its first byte, and the one behind its last.
 #[derive(Clone, Copy)]
 pub struct Hurt {
-    pub found: bool,
     pub first: usize,
     pub behind: usize,
-}
-
-// What the check makes of a text: what it overwrites (`hurt`), or the refusal's number, 0 for none, and its place.
-#[derive(Clone, Copy)]
-pub struct Turn {
-    pub hurt: Hurt,
-    pub no: u8,
-    pub place: usize,
-}
-
-// Turn after turn to the last refusal, its number 0 for none, and its place; and how many spans were overwritten.
-#[derive(Clone, Copy)]
-pub struct Mended {
-    pub no: u8,
-    pub place: usize,
-    pub count: usize,
 }
 
 // How many braces are open, and where a Pattern block has begun, if one has (`begun`); or (`ended`) one that began there has just ended.
@@ -45,16 +29,6 @@ struct Scan {
     begun: bool,
     first: usize,
     ended: bool,
-}
-
-fn nothing() -> Hurt
-    ensures { result.found ≡ false }
-{
-    Hurt {
-        found: false,
-        first: 0,
-        behind: 0,
-    }
 }
 
 // ---- Pattern blocks
@@ -130,7 +104,7 @@ fn scanned(text: &[u8], s: Scan, c: Cursor) -> Scan
 }
 
 // The block that a place lies in, in one pass over the text.
-fn block_at(text: &[u8], p: usize) -> Hurt
+fn block_at(text: &[u8], p: usize) -> Option<Hurt>
     ensures { hurt_of result ≡ block_at p (blocks text.now) }
 {
     let mut c = words::cursor_at(text, 0);
@@ -144,19 +118,20 @@ fn block_at(text: &[u8], p: usize) -> Hurt
         s = scanned(text, s, c);
         let behind = c.at + 1;
         if s.ended & (s.first <= p) & (p < behind) {
-            return Hurt {
-                found: true,
+            return Some(Hurt {
                 first: s.first,
                 behind,
-            };
+            });
         }
         c = words::cursor_at(text, c.end);
     }
-    Hurt {
-        found: s.begun & (s.first <= p) & (p <= text.len()),
-        first: s.first,
-        behind: text.len(),
+    if s.begun & (s.first <= p) & (p <= text.len()) {
+        return Some(Hurt {
+            first: s.first,
+            behind: text.len(),
+        });
     }
+    None
 }
 
 // ---- entries of the list
@@ -169,41 +144,41 @@ fn is_semicolon(text: &[u8], c: Cursor) -> bool
 }
 
 // From a name at the place p to its `;`.
-fn entry_at(text: &[u8], p: usize) -> Hurt
+fn entry_at(text: &[u8], p: usize) -> Option<Hurt>
     ensures { hurt_of result ≡ entry (toks text.now p) }
 {
     let name = words::cursor_at(text, p);
     if name.end <= name.at {
-        return nothing();
+        return None;
     }
     let first = name.at;
     let mut c = words::cursor_at(text, name.end);
     while c.at < c.end {
         if is_semicolon(text, c) {
-            return Hurt {
-                found: true,
+            return Some(Hurt {
                 first,
                 behind: c.at + 1,
-            };
+            });
         }
         c = words::cursor_at(text, c.end);
     }
-    nothing()
+    None
 }
 
 // ---- what a refusal overwrites
 
 // If anything.
-pub fn hurt_span(text: &[u8], no: u8, place: usize) -> Hurt
-    ensures { hurt_of result ≡ hurt text.now no place }
+pub fn hurt_span(text: &[u8], refusal: Refusal) -> Option<Hurt>
+    ensures { hurt_of result ≡ hurt text.now refusal.no refusal.place }
 {
+    let no = refusal.no;
     if ((4 <= no) & (no <= 14)) | (no == 17) | (no == 25) {
-        return block_at(text, place);
+        return block_at(text, refusal.place);
     }
     if no == 15 {
-        return entry_at(text, place);
+        return entry_at(text, refusal.place);
     }
-    nothing()
+    None
 }
 
 // Spaces from one place up to another.
@@ -219,14 +194,11 @@ pub fn overwrite(text: &mut [u8], first: usize, behind: usize)
 
 // ---- the list of spans
 
-// A span, if there is one, behind `count` of them, where the numbers have room for it; how many there are then.
+// A span behind `count` of them, where the numbers have room for it; how many there are then.
 pub fn note(numbers: &mut [u64], count: usize, h: Hurt) -> usize
     requires { count ≤ text_most }
-    ensures { Notes count (hurt_of h) numbers.old result numbers.new }
+    ensures { Notes count (span_of h) numbers.old result numbers.new }
 {
-    if !h.found {
-        return count;
-    }
     if numbers.len() / 2 <= count {
         return count + 1;
     }
@@ -240,9 +212,5 @@ pub fn hand_out(log: &[u64], n: usize, numbers: &mut [u64])
     requires { (n ≤ length log.now) × (n ≤ length numbers.old) }
     ensures { numbers.new ≡ take n log.now ++ drop n numbers.old }
 {
-    let mut i = 0;
-    while i < n {
-        numbers[i] = log[i];
-        i += 1;
-    }
+    numbers[..n].copy_from_slice(&log[..n]);
 }

@@ -7,8 +7,10 @@ use mathlib.Core.List.{List}
 use lib.Dec.{leb}
 use lib.ListN.{length}
 use borrow.Author.Tests.{leb-true, eq-eqb, ne_eqb}
+use Rattle.std.specs.Prelude.{Result, Ok, Err}
+use Rattle.tokens.specs.declared.Refusal.{Refusal}
 use Rattle.meaning.specs.Refusals.{too_many, no_room}
-use Rattle.meaning.specs.Meaning.{Answer, given, refused, answering}
+use Rattle.meaning.specs.Meaning.{Answer, given, refused, answering, Meaning, meaning}
 use Rattle.meaning.specs.Charts.{chart_most, asked_in, Chart, chart, waveforms}
 use Rattle.charts.specs.Serving.{Accepted, stopped_by, Serves}
 use Rattle.charts.specs.declared.Served.{Served}
@@ -17,28 +19,28 @@ use Rattle.verdicts.specs.Judged.{Judges}
 use Rattle.services.specs.Charts.{Plots}
 use Rattle.verdicts.specs.declared.Wanted.{Wanted}
 use Rattle.verdicts.specs.declared.Judged.{Judged}
-use Rattle.services.specs.declared.Charted.{Charted}
-use Rattle.services.specs.declared.Charted.TheVariants.{Drawn, Stopped, Refused}
+use Rattle.services.specs.declared.Undrawn.{Undrawn}
+use Rattle.services.specs.declared.Undrawn.TheVariants.{Stopped, Refused}
 use Rattle.verdicts.proofs.Sparing.{spared_all}
 
 -- ---- as the service answers it
 
 module _ {a : Answer Chart} {times letters counts : List ℕ} where
-  pub plots_refused : {n p : ℕ} → a ≡ refused n p → Plots a times times letters letters counts counts (Refused n p)
+  pub plots_refused : {x : Refusal} → a ≡ refused x.no x.place → Plots a times times letters letters counts counts (Err (Refused x))
   unfolding afterwards
   plots_refused e = rw e (record { answers = refl; times_are = refl; letters_are = refl; counts_are = refl })
 
   module _ {x : Chart} {times' letters' counts' : List ℕ} {s : Served} (e : a ≡ given x) (h : Serves x times' letters' counts' s) where
-    pub plots_drawn : s.no ≡ 0 → Plots a times times' letters letters' counts counts' (Drawn s.events)
+    pub plots_drawn : s.no ≡ 0 → Plots a times times' letters letters' counts counts' (Ok s.events)
     unfolding afterwards
     plots_drawn z = rw (e, h.is, eq-eqb s.no 0 z, stopped_by) (record { answers = refl; times_are = refl; letters_are = refl; counts_are = refl })
 
-    pub plots_stopped : (s.no ≡ 0 → ⊥) → Plots a times times' letters letters' counts counts' (Stopped s.no 0 s.served)
+    pub plots_stopped : (s.no ≡ 0 → ⊥) → Plots a times times' letters letters' counts counts' (Err (Stopped (record { no = s.no; place = 0 }) s.served))
     unfolding afterwards
     plots_stopped z = rw (e, h.is, ne_eqb s.no 0 z, stopped_by) (record { answers = refl; times_are = refl; letters_are = refl; counts_are = refl })
 
 -- nothing else is handed out
-pub plots_spared : {a : Answer Chart} {times times' letters letters' counts counts' : List ℕ} {r : Charted}
+pub plots_spared : {a : Answer Chart} {times times' letters letters' counts counts' : List ℕ} {r : Result ℕ Undrawn}
     → Plots (spared true a) times times' letters letters' counts counts' r → Plots a times times' letters letters' counts counts' r
 plots_spared {a} {times} {times'} {letters} {letters'} {counts} {counts'} {r} h =
     subst (λ (b : Answer Chart). Plots b times times' letters letters' counts counts' r) (spared_all a) h
@@ -50,8 +52,8 @@ both true true z = (refl, refl)
 both true false z = let y : ◌≡◌ {A = ℕ} 0 1 = cc in absurd (omega arith)
 both false b z = let y : ◌≡◌ {A = ℕ} 0 1 = cc in absurd (omega arith)
 
-pub text_accepted : {text : List ℕ} {w : Wanted} {r : Judged} → Judges text w r → r.no ≡ 0 → Accepted text
-text_accepted j h = record { meant = (j.accepts h).0; is = (j.accepts h).1 }
+pub text_accepted : {text : List ℕ} {w : Wanted} {r : Judged} → Judges text w (Ok r) → Accepted text
+text_accepted j = record { meant = j.0; is = j.1 }
 
 pub list_few : (list : List ℕ) {many : Bool} → leb (length (asked_in list)) chart_most ≡ not many → many ≡ false → length (asked_in list) ≤ chart_most
 list_few list e z = leb-true (length (asked_in list)) chart_most (e ∙ ap not z)
@@ -60,25 +62,25 @@ pub counts_roomy : (list counts : List ℕ) (spare : Bool) {roomy : Bool} → ro
     → length (asked_in list) ≤ length counts
 counts_roomy list counts spare {roomy} q z = leb-true (length (asked_in list)) (length counts) (sym q ∙ (both roomy spare z).0)
 
-module _ {text : List ℕ} {w : Wanted} {r : Judged} (j : Judges text w r) (list times letters counts : List ℕ) (spare : Bool) where
+module _ {text : List ℕ} (list times letters counts : List ℕ) (spare : Bool) where
   abbrev answer : Answer Chart
   answer = spared spare (waveforms text list times letters counts)
 
-  pub chart_refused : (r.no ≡ 0 → ⊥) → answer ≡ refused r.no r.place
+  pub chart_refused : {n p : ℕ} → meaning text ≡ refused n p → answer ≡ refused n p
   unfolding waveforms answering
-  chart_refused h = rw (j.refuses h)
+  chart_refused e = rw e
 
-  module _ (h : r.no ≡ 0) where
+  module _ {m : Meaning} (accepted : meaning text ≡ given m) where
     module _ {many : Bool} (e : leb (length (asked_in list)) chart_most ≡ not many) where
       -- above 64
       pub chart_many : many ≡ true → answer ≡ refused too_many 0
       unfolding waveforms answering
-      chart_many z = rw ((j.accepts h).1, answering, e ∙ ap not z)
+      chart_many z = rw (accepted, answering, e ∙ ap not z)
 
       module _ (few : many ≡ false) {roomy : Bool} (q : roomy ≡ leb (length (asked_in list)) (length counts)) where
         within_counts : answer ≡ spared spare (elim roomy [ false ↦ refused no_room 0 | true ↦ given (chart text (asked_in list) times letters counts) ])
         unfolding waveforms answering
-        within_counts = rw ((j.accepts h).1, answering, e ∙ ap not few, q)
+        within_counts = rw (accepted, answering, e ∙ ap not few, q)
 
         -- no room for the counts, or for what else is handed out
         pub chart_full : (not roomy || not spare) ≡ true → answer ≡ refused no_room 0

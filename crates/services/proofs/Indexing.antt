@@ -10,27 +10,25 @@ use lib.Dec.{leb, ltb}
 use lib.ListN.{length, take, drop, length-take}
 use lib.Seq.{take_at}
 use borrow.Author.Tests.{ltb-false, not-true, not-false}
+use Rattle.std.specs.Prelude.{Ok, Err}
+use Rattle.tokens.specs.declared.Refusal.{Refusal}
 use Rattle.tokens.specs.Written.{same}
 use Rattle.tokens.proofs.Bools.{neither}
 use Rattle.meaning.specs.Refusals.{no_room}
-use Rattle.meaning.specs.Meaning.{Answer, given, refused, answering, Meaning}
+use Rattle.meaning.specs.Meaning.{Answer, given, refused, answering, Meaning, meaning}
 use Rattle.timing.specs.declared.Watch.{Watch}
-use Rattle.texts.specs.Texts.{sound}
 use Rattle.texts.specs.Tables.{Found}
 use Rattle.texts.specs.declared.Verdict.{Verdict}
 use Rattle.texts.proofs.Sounds.{sound_runs}
-use Rattle.verdicts.specs.declared.Unfit.{Unfit}
 use Rattle.pages.specs.Pages.{Puts}
 use Rattle.sections.specs.Listing.{Fronts}
 use Rattle.index.specs.Index.{Index, lines_of, index_of, written, holder, rebuilt_in, index, not_the_index, taken_as, taken, belongs, holds, Rebuilt as Bytes}
 use Rattle.index.specs.Lines.{index_in, held_of}
 use Rattle.index.specs.declared.Held.{Held}
-use Rattle.verdicts.specs.Found.{meant_by, Plays}
+use Rattle.verdicts.specs.Found.{meant_by}
 use Rattle.verdicts.specs.Buffers.{afterwards, spared}
 use Rattle.services.specs.Indexes.{Stands, Rebuilds, Indexes}
 use Rattle.services.specs.declared.Rebuilt.{Rebuilt}
-use Rattle.services.specs.declared.Indexed.TheVariants.{Written, Refused}
-use Rattle.verdicts.proofs.Found.{meaning_refused}
 use Rattle.verdicts.proofs.Sparing.{room, spared_room}
 
 -- ---- a text that 1 to 16 leave
@@ -41,95 +39,84 @@ module _ {w : Watch} {text places lists tplaces waves book rows list : List ℕ}
   unfolding index_of lines_of
   index_is = rw ((sound_runs text f.is).read, f.tabled.listed_are, f.tabled.held.named)
 
-  module _ {a : Unfit} {r : Rebuilt} {cycle : ℕ} {page : List ℕ} (p : Plays text places lists tplaces waves book rows list v a) where
-    pub rebuild_failing : (a.no ≡ 0 → ⊥) → (r.no ≡ a.no) × (r.place ≡ a.place) → Rebuilds text cycle r page
-    rebuild_failing h k = record { refuses = λ z. p.refuses f h ∙ rw (k.0, k.1); accepts = λ z. absurd (h (sym k.0 ∙ z)) }
-
-    pub rebuild_stands : {before : List ℕ} → a.no ≡ 0 → r.no ≡ 0
-        → Fronts (written (index_in text list tplaces v.parts.listed v.parts.known.tables f.it.read.patterns)) before r.length page
-        → held_of r.holder ≡ holder cycle 0 (index_in text list tplaces v.parts.listed v.parts.known.tables f.it.read.patterns).patterns
-        → Rebuilds text cycle r page
-    rebuild_stands h z e q = record {
-      refuses = λ n. absurd (n z);
-      accepts = λ n. (
-        meant_by f.it,
-        p.accepts f h,
-        record {
-          front_is = ap (take r.length) e.page_is ∙ take_at _ _ r.length (sym e.length_is) ∙ ap written (sym index_is);
-          length_is = e.length_is ∙ ap (λ (x : Index). length (written x)) (sym index_is);
-          holder_is = q ∙ ap (λ (x : Index). holder cycle 0 x.patterns) (sym index_is);
-        },
-      );
-    }
-
-pub rebuild_refused : {text page : List ℕ} {n p cycle : ℕ} {r : Rebuilt} → sound text ≡ refused n p → (n ≡ 0 → ⊥) → (r.no ≡ n) × (r.place ≡ p) → Rebuilds text cycle r page
-rebuild_refused {text} e z k = record { refuses = λ h. meaning_refused text e ∙ rw (k.0, k.1); accepts = λ h. absurd (z (sym k.0 ∙ h)) }
+  pub rebuild_stands : {r : Rebuilt} {cycle : ℕ} {page before : List ℕ} → meaning text ≡ given (meant_by f.it)
+      → Fronts (written (index_in text list tplaces v.parts.listed v.parts.known.tables f.it.read.patterns)) before r.length page
+      → held_of r.holder ≡ holder cycle 0 (index_in text list tplaces v.parts.listed v.parts.known.tables f.it.read.patterns).patterns
+      → Rebuilds text cycle (Ok r) page
+  rebuild_stands {r} {cycle} m e q = (
+    meant_by f.it,
+    m,
+    record {
+      front_is = ap (take r.length) e.page_is ∙ take_at _ _ r.length (sym e.length_is) ∙ ap written (sym index_is);
+      length_is = e.length_is ∙ ap (λ (x : Index). length (written x)) (sym index_is);
+      holder_is = q ∙ ap (λ (x : Index). holder cycle 0 x.patterns) (sym index_is);
+    },
+  )
 
 -- ---- as the service Index answers it
 
 module _ {a : Answer Bytes} {buffer : List ℕ} where
-  indexes_refused : {n p : ℕ} → a ≡ refused n p → Indexes a buffer buffer (Refused n p)
+  indexes_refused : {x : Refusal} → a ≡ refused x.no x.place → Indexes a buffer buffer (Err x)
   unfolding afterwards
   indexes_refused e = rw e (record { answers = refl; buffer_is = refl })
 
-  indexes_given : {n : ℕ} {after : List ℕ} → a ≡ given (record { size = n; buffer = after }) → Indexes a buffer after (Written n)
+  indexes_given : {n : ℕ} {after : List ℕ} → a ≡ given (record { size = n; buffer = after }) → Indexes a buffer after (Ok n)
   unfolding afterwards
   indexes_given e = rw e (record { answers = refl; buffer_is = refl })
 
-module _ {text page : List ℕ} {cycle : ℕ} {r : Rebuilt} (h : Rebuilds text cycle r page) where
-  pub index_refused : (spare : Bool) (buffer : List ℕ) → (r.no ≡ 0 → ⊥) → Indexes (spared spare (index text buffer)) buffer buffer (Refused r.no r.place)
-  unfolding index answering
-  index_refused spare buffer z = indexes_refused (rw (h.refuses z, index))
+pub index_refused : {text : List ℕ} {x : Refusal} (spare : Bool) (buffer : List ℕ) → meaning text ≡ refused x.no x.place
+    → Indexes (spared spare (index text buffer)) buffer buffer (Err x)
+unfolding index answering
+index_refused spare buffer e = indexes_refused (rw (e, index))
 
-  module _ (on : r.no ≡ 0) where
-    abbrev it : Meaning
-    it = (h.accepts on).0
+pub holds_refused : {text : List ℕ} {x : Refusal} (bytes : List ℕ) (cycle : ℕ) → meaning text ≡ refused x.no x.place → refused x.no x.place ≡ holds text bytes cycle
+unfolding holds taken answering
+holds_refused bytes cycle e = sym (rw (e, taken, holds))
 
-    abbrev stands : Stands text cycle r page it
-    stands = (h.accepts on).2
+module _ {text page : List ℕ} {cycle : ℕ} {r : Rebuilt} (h : Rebuilds text cycle (Ok r) page) where
+  abbrev it : Meaning
+  it = h.0
 
-    module _ (spare : Bool) (buffer : List ℕ) {y : Bool} (e : (not spare || ltb (length buffer) r.length) ≡ y) where
-      enough : (spare && leb (length (written (index_of text it))) (length buffer)) ≡ not y
-      enough = ap (λ (n : ℕ). spare && leb n (length buffer)) (sym stands.length_is) ∙ room spare r.length (length buffer) ∙ ap not e
+  abbrev stands : Stands text cycle r page it
+  stands = h.2
 
-      answered : spared spare (index text buffer) ≡ elim (not y) [
-        | false ↦ refused no_room 0
-        | true ↦ given (record { size = length (written (index_of text it)); buffer = written (index_of text it) ++ drop (length (written (index_of text it))) buffer })
-      ]
-      unfolding index answering rebuilt_in
-      answered =
-          ap (λ (x : Answer Meaning). spared spare (answering x (λ m. rebuilt_in (written (index_of text m)) buffer))) (h.accepts on).1
-          ∙ spared_room spare (leb (length (written (index_of text it))) (length buffer)) _
-          ∙ rw enough
+  module _ (spare : Bool) (buffer : List ℕ) {y : Bool} (e : (not spare || ltb (length buffer) r.length) ≡ y) where
+    enough : (spare && leb (length (written (index_of text it))) (length buffer)) ≡ not y
+    enough = ap (λ (n : ℕ). spare && leb n (length buffer)) (sym stands.length_is) ∙ room spare r.length (length buffer) ∙ ap not e
 
-      pub index_full : y ≡ true → Indexes (spared spare (index text buffer)) buffer buffer (Refused no_room 0)
-      index_full z = indexes_refused (rw z at answered)
+    answered : spared spare (index text buffer) ≡ elim (not y) [
+      | false ↦ refused no_room 0
+      | true ↦ given (record { size = length (written (index_of text it)); buffer = written (index_of text it) ++ drop (length (written (index_of text it))) buffer })
+    ]
+    unfolding index answering rebuilt_in
+    answered =
+        ap (λ (x : Answer Meaning). spared spare (answering x (λ m. rebuilt_in (written (index_of text m)) buffer))) h.1
+        ∙ spared_room spare (leb (length (written (index_of text it))) (length buffer)) _
+        ∙ rw enough
 
-      pub index_given : {bytes after : List ℕ} {s : ℕ} → y ≡ false → bytes ≡ take r.length page → Puts buffer 0 bytes s after → Indexes (spared spare (index text buffer)) buffer after (Written r.length)
-      index_given {bytes} {after} z b p =
-          let xs = written (index_of text it) in
-          let q : bytes ≡ xs = b ∙ stands.front_is in
-          let is : after ≡ xs ++ drop (length xs) buffer = p.page ∙ (rw (q, zero-add (length xs))) in
-          indexes_given ((rw z at answered) ∙ rw (← is, ← stands.length_is))
+    pub index_full : y ≡ true → Indexes (spared spare (index text buffer)) buffer buffer (Err (record { no = no_room; place = 0 }))
+    index_full z = indexes_refused (rw z at answered)
+
+    pub index_given : {bytes after : List ℕ} {s : ℕ} → y ≡ false → bytes ≡ take r.length page → Puts buffer 0 bytes s after → Indexes (spared spare (index text buffer)) buffer after (Ok r.length)
+    index_given {bytes} {after} z b p =
+        let xs = written (index_of text it) in
+        let q : bytes ≡ xs = b ∙ stands.front_is in
+        let is : after ≡ xs ++ drop (length xs) buffer = p.page ∙ (rw (q, zero-add (length xs))) in
+        indexes_given ((rw z at answered) ∙ rw (← is, ← stands.length_is))
 
   -- ---- and of bytes that are lent as an index
 
-  module _ (bytes : List ℕ) where
-    pub holds_refused : (r.no ≡ 0 → ⊥) → refused r.no r.place ≡ holds text bytes cycle
-    unfolding holds taken answering
-    holds_refused z = sym (rw (h.refuses z, taken, holds))
+  module _ (bytes : List ℕ) {page-front : List ℕ} (front : page-front ≡ take r.length page) {y : Bool} (e : y ≡ same page-front bytes) where
+    tested : same (written (index_of text it)) bytes ≡ y
+    tested = sym (e ∙ ap (λ (l : List ℕ). same l bytes) (front ∙ stands.front_is))
 
-    module _ (on : r.no ≡ 0) {page-front : List ℕ} (front : page-front ≡ take r.length page) {y : Bool} (e : y ≡ same page-front bytes) where
-      tested : same (written (index_of text (it on))) bytes ≡ y
-      tested = sym (e ∙ ap (λ (l : List ℕ). same l bytes) (front ∙ (stands on).front_is))
+    pub holds_other : not y ≡ true → refused not_the_index 0 ≡ holds text bytes cycle
+    unfolding holds taken taken_as answering
+    holds_other z = sym (rw (h.1, taken, holds) (rw (tested ∙ not-true y z, taken_as)))
 
-      pub holds_other : not y ≡ true → refused not_the_index 0 ≡ holds text bytes cycle
-      unfolding holds taken taken_as answering
-      holds_other z = sym (rw ((h.accepts on).1, taken, holds) (rw (tested ∙ not-true y z, taken_as)))
-
-      pub holds_told : not y ≡ false → given (held_of r.holder) ≡ holds text bytes cycle
-      unfolding holds taken taken_as answering
-      holds_told z = sym (rw ((h.accepts on).1, taken, holds) (rw (tested ∙ not-false y z, taken_as) (ap given (sym (stands on).holder_is))))
+    pub holds_told : not y ≡ false → given (held_of r.holder) ≡ holds text bytes cycle
+    unfolding holds taken taken_as answering
+    holds_told z = sym (rw (h.1, taken, holds) (rw (tested ∙ not-false y z, taken_as) (ap given (sym stands.holder_is))))
 
 -- ---- belonging
 

@@ -5,54 +5,28 @@ use native.Mathlib.Nat.{zero-add}
 use mathlib.Core.Path.{◌≡◌, refl, sym, ap, ◌∙◌, subst}
 use mathlib.Core.Bool.{Bool, true, false, not, ◌||◌}
 use mathlib.Core.List.{List, ◌++◌, append-nil}
-use lib.Dec.{eqb, ltb}
+use lib.Dec.{ltb}
 use lib.ListN.{length, take, drop, length-take, drop_of_length-le}
 use lib.Seq.{take_at}
-use borrow.Author.Tests.{eqb-true, eqb-false, ltb-true, ltb-false, not-true, not-false}
+use borrow.Author.Tests.{ltb-true, ltb-false, not-false}
+use Rattle.std.specs.Prelude.{Result, Ok, Err}
+use Rattle.tokens.specs.declared.Refusal.{Refusal}
 use Rattle.tokens.specs.Refusals.{text_most, too_long}
 use Rattle.tokens.proofs.Bools.{neither}
 use Rattle.meaning.specs.Refusals.{no_room}
 use Rattle.meaning.specs.Meaning.{Answer, given, refused, answering}
 use Rattle.pages.specs.Pages.{Puts}
-use Rattle.saving.specs.Saving.{hurt, spaced, overwritten, verdict, Saved as SavedText, saving, Restored, save}
+use Rattle.saving.specs.Saving.{Saved as SavedText, saving, Restored, save}
 use Rattle.saving.specs.Steps.{Steps}
-use Rattle.saving.specs.Found.{hurt_of}
 use Rattle.saving.specs.Spans.{noted_all}
-use Rattle.saving.specs.Mends.{Turns, Mends}
-use Rattle.saving.specs.declared.Hurt.{Hurt}
-use Rattle.saving.specs.declared.Mended.{Mended}
+use Rattle.saving.specs.Mends.{Ends, Mends}
 use Rattle.saving.proofs.Repeating.{steps_length}
 use Rattle.saving.proofs.Saved.{saved_from}
 use Rattle.saving.proofs.Noting.{all_length}
-use Rattle.saving.proofs.Mending.{turn_accepted, turn_beyond, turn_hurt, hurt_never, mends_refused, mends_saved, log_front, too_long_saving, save_refused, save_full, save_given}
-use Rattle.verdicts.specs.Judged.{Judges}
+use Rattle.saving.proofs.Mending.{mends_refused, mends_saved, log_front, too_long_saving, save_refused, save_full, save_given}
 use Rattle.verdicts.specs.Buffers.{afterwards, spared}
 use Rattle.services.specs.Saves.{SomeCopy, Saves}
-use Rattle.verdicts.specs.declared.Wanted.{Wanted}
-use Rattle.verdicts.specs.declared.Judged.{Judged}
-use Rattle.services.specs.declared.Saved.TheVariants.{Spans, Refused}
 use Rattle.verdicts.proofs.Sparing.{spared_all}
-
--- ---- a turn
-
-module _ {text : List ℕ} {w : Wanted} {j : Judged} (judged : Judges text w j) {h : Hurt} (k : hurt_of h ≡ hurt text j.no j.place) where
-  pub turn_stays : not h.found ≡ true → Turns text text (record { hurt = h; no = j.no; place = j.place })
-  turn_stays e = by (eqb j.no 0) refl
-    where
-      by : (b : Bool) → eqb j.no 0 ≡ b → Turns text text (record { hurt = h; no = j.no; place = j.place })
-      by true z = let n = eqb-true j.no 0 z in turn_accepted text (judged.accepts n).1 n (not-true h.found e)
-      by false z = let n = eqb-false j.no 0 z in turn_beyond text (judged.refuses n) k (not-true h.found e) n
-
-  pub turn_goes : not h.found ≡ false → {behind : List ℕ} → behind ≡ spaced h.first h.behind text → Turns text behind (record { hurt = h; no = j.no; place = j.place })
-  unfolding overwritten
-  turn_goes e {behind} b = by (eqb j.no 0) refl
-    where
-      found : h.found ≡ true
-      found = not-false h.found e
-
-      by : (x : Bool) → eqb j.no 0 ≡ x → Turns text behind (record { hurt = h; no = j.no; place = j.place })
-      by true z = absurd (hurt_never text j.place h (ap (λ (n : ℕ). hurt text n j.place) (sym (eqb-true j.no 0 z)) ∙ sym k) found)
-      by false z = turn_hurt text (judged.refuses (eqb-false j.no 0 z)) k found b
 
 -- ---- a copy of the text, mended
 
@@ -62,13 +36,12 @@ copied_part {text} {before} {copied} p =
     let z : length text - 0 ≡ length text = omega arith in
     ap (λ (n : ℕ). take n copied) z ∙ ap (take (length text)) p.page ∙ take_at text (drop (0 + length text) before) (length text) refl
 
-pub copy_mended : {text part behind : List ℕ} (rest : List ℕ) {log log' : List ℕ} {r : Mended} → part ≡ text → Mends part behind log log' r → Mends text (take (length text) (behind ++ rest)) log log' r
+pub copy_mended : {text part behind : List ℕ} (rest : List ℕ) {log log' : List ℕ} {r : Result ℕ Refusal} → part ≡ text → Mends part behind log log' r → Mends text (take (length text) (behind ++ rest)) log log' r
 copy_mended {text} {part} {behind} rest {log} {log'} {r} e m = subst (λ (t : List ℕ). Mends t (take (length text) (behind ++ rest)) log log' r) e (record {
   spans = m.spans;
   steps = subst (Steps part m.spans) front m.steps;
-  counted = m.counted;
   noted = m.noted;
-  ended = ap verdict (sym front) ∙ m.ended;
+  ended = subst (λ (b : List ℕ). Ends b m.spans r) front m.ended;
 })
   where
     front : behind ≡ take (length text) (behind ++ rest)
@@ -91,17 +64,17 @@ handed_back {text} {text'} {spans} {spans'} {copy} {log} {bytes} {count} h k b p
       p.page ∙ ap (λ (n : ℕ). bytes ++ drop n text) (zero-add (length bytes) ∙ l) ∙ ap (λ (u : List ℕ). bytes ++ u) (drop_of_length-le text {i = length text} (omega arith)) ∙ append-nil bytes ∙ i
           ∙ ap (λ (u : SavedText). u.text) y,
       q ∙ ap (λ (u : List ℕ). take (count * 2) u ++ drop (count * 2) spans) h.logged
-          ∙ log_front h.saved.spans h.blank spans {n = count * 2} (omega (arith, h.counted)) (omega arith) (omega (arith, h.roomy)) ∙ ap (λ (u : SavedText). noted_all u.spans spans) y,
+          ∙ log_front h.saved.spans h.blank spans {n = count * 2} (omega (arith, h.ended.1)) (omega arith) (omega (arith, h.roomy)) ∙ ap (λ (u : SavedText). noted_all u.spans spans) y,
     )
 
 -- ---- as the service answers it
 
 module _ {a : Answer Restored} {text spans : List ℕ} where
-  saves_refused : {n p : ℕ} → a ≡ refused n p → Saves a text text spans spans (Refused n p)
+  saves_refused : {x : Refusal} → a ≡ refused x.no x.place → Saves a text text spans spans (Err x)
   unfolding afterwards
   saves_refused e = rw e (record { answers = refl; text_is = refl; spans_are = refl })
 
-  saves_given : {n : ℕ} {text' spans' : List ℕ} → a ≡ given (record { count = n; text = text'; spans = spans' }) → Saves a text text' spans spans' (Spans n)
+  saves_given : {n : ℕ} {text' spans' : List ℕ} → a ≡ given (record { count = n; text = text'; spans = spans' }) → Saves a text text' spans spans' (Ok n)
   unfolding afterwards
   saves_given e = rw e (record { answers = refl; text_is = refl; spans_are = refl })
 
@@ -115,38 +88,37 @@ unfolding answering
 spared_given e = rw e
 
 module _ (text spans : List ℕ) (spare : Bool) where
-  pub save_too_long : text_most < length text → Saves (spared spare (save text spans)) text text spans spans (Refused too_long 0)
+  pub save_too_long : text_most < length text → Saves (spared spare (save text spans)) text text spans spans (Err (record { no = too_long; place = 0 }))
   save_too_long h = saves_refused (spared_refused spare (save_refused text spans (too_long_saving text h)))
 
-  module _ (copy : List ℕ) {log log' : List ℕ} {m : Mended} (h : Mends text (take (length text) copy) log log' m) where
-    pub save_beyond : (m.no ≡ 0 → ⊥) → Saves (spared spare (save text spans)) text text spans spans (Refused m.no m.place)
-    save_beyond z = saves_refused (spared_refused spare (save_refused text spans (mends_refused h z)))
+  pub save_beyond : (copy : List ℕ) {log log' : List ℕ} {x : Refusal} → Mends text (take (length text) copy) log log' (Err x) → Saves (spared spare (save text spans)) text text spans spans (Err x)
+  save_beyond copy h = saves_refused (spared_refused spare (save_refused text spans (mends_refused h)))
 
-    module _ (on : m.no ≡ 0) where
+  module _ (copy : List ℕ) {log log' : List ℕ} {n : ℕ} (h : Mends text (take (length text) copy) log log' (Ok n)) where
       abbrev it : SavedText
       it = record { text = take (length text) copy; spans = h.spans }
 
       saves_it : saving text ≡ given it
-      saves_it = mends_saved h on
+      saves_it = mends_saved h
 
-      pub save_roomless : (not spare || ltb (length spans / 2) m.count) ≡ true → Saves (spared spare (save text spans)) text text spans spans (Refused no_room 0)
-      save_roomless e = saves_refused (by spare (ltb (length spans / 2) m.count) refl e)
+      pub save_roomless : (not spare || ltb (length spans / 2) n) ≡ true → Saves (spared spare (save text spans)) text text spans spans (Err (record { no = no_room; place = 0 }))
+      save_roomless e = saves_refused (by spare (ltb (length spans / 2) n) refl e)
         where
-          by : (s : Bool) (l : Bool) → ltb (length spans / 2) m.count ≡ l → (not s || l) ≡ true → spared s (save text spans) ≡ refused no_room 0
-          by s true q e = spared_refused s (save_full text spans saves_it (omega (arith, ltb-true (length spans / 2) m.count q, h.counted)))
-          by false false q e = spared_given (save_given text spans saves_it (omega (arith, ltb-false (length spans / 2) m.count q, h.counted)))
+          by : (s : Bool) (l : Bool) → ltb (length spans / 2) n ≡ l → (not s || l) ≡ true → spared s (save text spans) ≡ refused no_room 0
+          by s true q e = spared_refused s (save_full text spans saves_it (omega (arith, ltb-true (length spans / 2) n q, h.ended.1)))
+          by false false q e = spared_given (save_given text spans saves_it (omega (arith, ltb-false (length spans / 2) n q, h.ended.1)))
           by true false q e = let z : ◌≡◌ {A = ℕ} 0 1 = cc in absurd (omega arith)
 
-      module _ (e : (not spare || ltb (length spans / 2) m.count) ≡ false) where
-        enough : m.count ≤ length spans / 2
-        enough = ltb-false (length spans / 2) m.count (neither (not spare) (ltb (length spans / 2) m.count) e).1
+      module _ (e : (not spare || ltb (length spans / 2) n) ≡ false) where
+        enough : n ≤ length spans / 2
+        enough = ltb-false (length spans / 2) n (neither (not spare) (ltb (length spans / 2) n) e).1
 
-        pub some_copy : length text ≤ text_most → SomeCopy text spans copy log' m.count
-        some_copy s = record { saved = it; saves = saves_it; short = s; copied = refl; blank = log; logged = h.noted; counted = h.counted; roomy = enough }
+        pub some_copy : length text ≤ text_most → SomeCopy text spans copy log' n
+        some_copy s = record { saved = it; saves = saves_it; short = s; copied = refl; blank = log; logged = h.noted; counted = h.ended.1; roomy = enough }
 
         pub save_told : {text' spans' : List ℕ} → ((x : SavedText) → saving text ≡ given x → (text' ≡ x.text) × (spans' ≡ noted_all x.spans spans))
-            → Saves (spared spare (save text spans)) text text' spans spans' (Spans m.count)
+            → Saves (spared spare (save text spans)) text text' spans spans' (Ok n)
         save_told {text'} {spans'} f =
             let w = f it saves_it in
-            saves_given (ap (λ (b : Bool). spared b (save text spans)) (not-false spare (neither (not spare) (ltb (length spans / 2) m.count) e).0) ∙ spared_all (save text spans)
-            ∙ save_given text spans saves_it (omega (arith, enough, h.counted)) ∙ rw (← h.counted, ← w.0, ← w.1))
+            saves_given (ap (λ (b : Bool). spared b (save text spans)) (not-false spare (neither (not spare) (ltb (length spans / 2) n) e).0) ∙ spared_all (save text spans)
+            ∙ save_given text spans saves_it (omega (arith, enough, h.ended.1)) ∙ rw (← h.ended.1, ← w.0, ← w.1))

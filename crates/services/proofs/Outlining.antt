@@ -2,10 +2,11 @@
 use Prim.Native.Nat.{ℕ}
 use native.Mathlib.Omega.{arith}
 use mathlib.Core.Path.{◌≡◌, refl, sym, ◌∙◌}
-use mathlib.Core.Bool.{true, false}
+use Rattle.std.specs.Prelude.{Some, None, Ok, Err}
 use mathlib.Core.Option.{Option, none, some}
 use mathlib.Core.List.{List}
 use lib.ListN.{length}
+use Rattle.tokens.specs.declared.Refusal.{Refusal}
 use Rattle.meaning.specs.Refusals.{no_such}
 use Rattle.meaning.specs.Bounds.{entry_most}
 use Rattle.meaning.specs.Timing.{Event}
@@ -18,7 +19,7 @@ use Rattle.verdicts.specs.Judged.{Judges}
 use Rattle.services.specs.Waveforms.{events_of, Outlines}
 use Rattle.verdicts.specs.declared.Wanted.{Wanted}
 use Rattle.verdicts.specs.declared.Judged.{Judged}
-use Rattle.services.proofs.Answering.{answer_refused, answer_given, tells}
+use Rattle.services.proofs.Answering.{answer_refused, answer_given}
 
 -- the service is the events, and then 19
 pub waveform_events : (text : List ℕ) (k s c : ℕ) (times letters : List ℕ) → waveform text k s c times letters ≡ answering (events_of text k s c) (λ es. events_out es times letters)
@@ -37,37 +38,32 @@ waveform_events text k s c times letters = by (meaning text)
     by (given m) = on (wave_of s c (table_at m.tables k))
     by (refused n p) = refl
 
-module _ {text : List ℕ} {w : Wanted} {r : Judged} (j : Judges text w r) where
-  pub outline_refused : {ts ls : List ℕ} → (r.no ≡ 0 → ⊥) → Outlines text w.watch.table w.watch.signal w.watch.char ts ls (record { no = r.no; place = r.place; count = 0 })
+pub outline_refused : {text : List ℕ} {k s c : ℕ} {ts ls : List ℕ} {x : Refusal} → meaning text ≡ refused x.no x.place → Outlines text k s c ts ls (Err x)
+unfolding events_of
+outline_refused e = sym (answer_refused e _)
+
+module _ {text : List ℕ} {w : Wanted} {r : Judged} (j : Judges text w (Ok r)) where
+  seen : {o : Option (List Event)} → wave_of w.watch.signal w.watch.char (table_at j.0.tables w.watch.table) ≡ o
+      → events_of text w.watch.table w.watch.signal w.watch.char ≡ elim o [ none ↦ refused no_such 0 | some es ↦ given es ]
   unfolding events_of
-  outline_refused h = record { refuses = λ z. sym (answer_refused j _ h); finds = λ z. absurd (h z) }
+  seen e = answer_given j _ ∙ rw e
 
-  module _ (h : r.no ≡ 0) where
-    seen : {o : Option (List Event)} → wave_of w.watch.signal w.watch.char (table_at (j.accepts h).0.tables w.watch.table) ≡ o
-        → events_of text w.watch.table w.watch.signal w.watch.char ≡ elim o [ none ↦ refused no_such 0 | some es ↦ given es ]
-    unfolding events_of
-    seen e = answer_given j h _ ∙ rw e
+  pub outline_none : r.sight ≡ None → events_of text w.watch.table w.watch.signal w.watch.char ≡ refused no_such 0
+  outline_none e = seen (j.2.watched.no e)
 
-    pub outline_none : {ts ls : List ℕ} → r.found ≡ false → Outlines text w.watch.table w.watch.signal w.watch.char ts ls (record { no = no_such; place = 0; count = 0 })
-    outline_none e = record { refuses = λ z. seen ((tells j h).watched.no e); finds = λ z. absurd (omega arith) }
+  module _ {at : ℕ} (e : r.sight ≡ Some at) where
+    abbrev pub entry : (es : List Event) × EntryAt text at w.watch.char es
+    entry = let f = j.2.watched.yes at e in (_, entry_found f f.wave)
 
-    module _ (e : r.found ≡ true) where
-      abbrev pub entry : (es : List Event) × EntryAt text r.entry w.watch.char es
-      entry = let f = (tells j h).watched.yes e in (_, entry_found f f.wave)
-
-      pub outline_read : {n : ℕ} {ts ts' ls ls' : List ℕ} → length ts ≡ entry_most → length ls ≡ entry_most → Reads entry.0 n ts ts' ls ls'
-          → Outlines text w.watch.table w.watch.signal w.watch.char ts' ls' (record { no = 0; place = 0; count = n })
-      outline_read p q d =
-          record {
-            refuses = λ z. absurd (z refl);
-            finds = λ z. (
-              entry.0,
-              seen ((tells j h).watched.yes e).wave,
-              record {
-                count_is = d.count;
-                few = omega (arith, d.count, d.few);
-                times_are = times_front d p;
-                letters_are = letters_front d q;
-              },
-            );
-          }
+    pub outline_read : {n : ℕ} {ts ts' ls ls' : List ℕ} → length ts ≡ entry_most → length ls ≡ entry_most → Reads entry.0 n ts ts' ls ls'
+        → Outlines text w.watch.table w.watch.signal w.watch.char ts' ls' (Ok n)
+    outline_read p q d = (
+      entry.0,
+      seen (j.2.watched.yes at e).wave,
+      record {
+        count_is = d.count;
+        few = omega (arith, d.count, d.few);
+        times_are = times_front d p;
+        letters_are = letters_front d q;
+      },
+    )

@@ -1,25 +1,21 @@
--- The services' answers, case by case, as the definitions' answers: document 01's numbers and values.
-use Rattle.std.specs.Prelude.{ℕ, List}
-use Rattle.meaning.specs.Meaning.{Answer, given, refused}
+-- The services' answers as the definitions' answers: document 01's numbers and values.
+use Rattle.std.specs.Prelude.{ℕ, List, Result}
+use Rattle.tokens.specs.declared.Refusal.{Refusal}
+use Rattle.meaning.specs.Meaning.{Answer}
+use Rattle.meaning.specs.Results.{answer_of}
 use Rattle.meaning.specs.Services.{Counts, Waveform}
-use Rattle.services.specs.declared.Checked.{Checked}
-use Rattle.services.specs.declared.Checked.TheVariants.{Counted, Refused as CheckRefused}
-use Rattle.services.specs.declared.Located.{Located}
-use Rattle.services.specs.declared.Located.TheVariants.{Found, Refused as NameRefused}
-use Rattle.services.specs.declared.Shaped.{Shaped}
-use Rattle.services.specs.declared.Shaped.TheVariants.{Events, Refused as WaveformRefused}
+use Rattle.texts.specs.Told.{decided_of}
+use Rattle.texts.specs.declared.Counts.{Counts as Five}
+use Rattle.verdicts.specs.declared.Name.{Name}
 
 -- Check
-abbrev pub checked_of : Checked → Answer Counts
-checked_of (Counted s t l c z) = given (record { signals = s; tables = t; listed = l; cycles = c; size = z })
-checked_of (CheckRefused n p) = refused n p
+abbrev pub checked_of : Result Five Refusal → Answer Counts
+checked_of = decided_of
 
 -- Name
-abbrev pub located_of : Located → Answer (ℕ × ℕ)
-located_of (Found at length) = given (at, length)
-located_of (NameRefused n p) = refused n p
+abbrev pub located_of : Result Name Refusal → Answer (ℕ × ℕ)
+located_of = answer_of (λ x. (x.at, x.length))
 
 -- Waveform, with the two buffers as they are afterwards
-abbrev pub shaped_of : Shaped → List ℕ → List ℕ → Answer Waveform
-shaped_of (Events n) times letters = given (record { count = n; times = times; letters = letters })
-shaped_of (WaveformRefused n p) times letters = refused n p
+abbrev pub shaped_of : Result ℕ Refusal → List ℕ → List ℕ → Answer Waveform
+shaped_of r times letters = answer_of (λ n. record { count = n; times = times; letters = letters }) r

@@ -1,6 +1,7 @@
 -- The events of a waveform by its numbers, and what the service promises of its answer and its two buffers.
-use Rattle.std.specs.Prelude.{ℕ, ◌≤◌, ◌≡◌, List, length, take}
+use Rattle.std.specs.Prelude.{ℕ, ◌≤◌, ◌≡◌, List, length, take, Result, Ok, Err}
 use Rattle.std.proofs.Math.Option.{none, some}
+use Rattle.tokens.specs.declared.Refusal.{Refusal}
 use Rattle.meaning.specs.Refusals.{no_such}
 use Rattle.meaning.specs.Bounds.{entry_most}
 use Rattle.meaning.specs.Timing.{Event}
@@ -9,8 +10,6 @@ use Rattle.meaning.specs.Services.{wave_of, letters_of, Waveform}
 use Rattle.waves.specs.Waves.{counts_of}
 use Rattle.verdicts.specs.Buffers.{afterwards}
 use Rattle.services.specs.Answers.{shaped_of}
-use Rattle.services.specs.declared.Shaped.{Shaped}
-use Rattle.services.specs.declared.Outline.{Outline}
 
 -- 1 to 18
 unfoldable pub events_of : List ℕ → ℕ → ℕ → ℕ → Answer (List Event)
@@ -23,12 +22,12 @@ pub record Shows (ts ls : List ℕ) (n : ℕ) (es : List Event) : Type 0 where
   pub times_are : take n ts ≡ counts_of es
   pub letters_are : take n ls ≡ letters_of es
 
-pub record Outlines (text : List ℕ) (k s c : ℕ) (ts ls : List ℕ) (r : Outline) : Type 0 where
-  pub refuses : (r.no ≡ 0 → ⊥) → events_of text k s c ≡ refused r.no r.place
-  pub finds : r.no ≡ 0 → (es : List Event) × (events_of text k s c ≡ given es) × Shows ts ls r.count es
+abbrev pub Outlines : List ℕ → (k s c : ℕ) → (ts ls : List ℕ) → Result ℕ Refusal → Type 0
+Outlines text k s c ts ls (Ok n) = (es : List Event) × (events_of text k s c ≡ given es) × Shows ts ls n es
+Outlines text k s c ts ls (Err r) = events_of text k s c ≡ refused r.no r.place
 
 -- THE PROMISE of the service, whose answer is a: the two buffers are those of the answer, or as they were
-pub record Shapes (a : Answer Waveform) (times times' letters letters' : List ℕ) (r : Shaped) : Type 0 where
+pub record Shapes (a : Answer Waveform) (times times' letters letters' : List ℕ) (r : Result ℕ Refusal) : Type 0 where
   pub answers : shaped_of r times' letters' ≡ a
   pub times_are : times' ≡ afterwards (λ w. w.times) a times
   pub letters_are : letters' ≡ afterwards (λ w. w.letters) a letters

@@ -16,6 +16,7 @@ ghost use Rattle.saving.specs.Mends.{Turns, Mends};
 ghost use Rattle.verdicts.specs.Judged.{which_of};
 ghost use Rattle.verdicts.specs.Found.{SomeFound};
 ghost use Rattle.verdicts.specs.Buffers.{spared};
+ghost use Rattle.services.specs.declared.Undrawn.TheVariants.{Refused};
 ghost use Rattle.services.specs.Answers.{checked_of, located_of};
 ghost use Rattle.services.specs.Waveforms.{Outlines, Shapes};
 ghost use Rattle.services.specs.Charts.{Plots};
@@ -23,12 +24,11 @@ ghost use Rattle.services.specs.Indexes.{Rebuilds, belonging_of, holding_of, Ind
 ghost use Rattle.services.specs.Saves.{SomeCopy, Saves};
 
 use charts::NO_SUCH;
-use index::Held;
-use saving::{Hurt, Mended, Turn};
-use texts::Verdict;
+use saving::Hurt;
+use texts::{Counts, Verdict};
 use timing::Watch;
-use tokens::{TEXT_MOST, TOO_LONG};
-use verdicts::Wanted;
+use tokens::{Refusal, TEXT_MOST, TOO_LONG};
+use verdicts::{Name, Wanted};
 use words::{NO_ROOM, TOO_MANY};
 
 // The numbers of 64 spans: more are rare.
@@ -37,86 +37,33 @@ const LOG: usize = 128;
 // Refusal: an index that is not the text's.
 const NOT_THE_INDEX: u8 = 21;
 
-// The refusal's number, 0 for none, and its place; or else how many events there are.
-#[derive(Clone, Copy)]
-pub struct Outline {
-    pub no: u8,
-    pub place: usize,
-    pub count: usize,
-}
-
-// The refusal's number, 0 for none, and its place; or else the length of the index, and the listed pattern that holds a cycle.
+// The length of an index, and the listed pattern that holds a cycle.
 #[derive(Clone, Copy)]
 struct Rebuilt {
-    no: u8,
-    place: usize,
     length: usize,
-    holder: Held,
+    holder: Option<usize>,
 }
 
+// Why not all waveforms of a list are served.
 #[derive(Clone, Copy)]
-pub enum Checked {
-    // signals, tables, listed patterns, cycles, size of the run
-    Counted(usize, usize, usize, usize, usize),
-    // the number of the refusal, and the place
-    Refused(u8, usize),
-}
-
-#[derive(Clone, Copy)]
-pub enum Located {
-    // the name's place in the text, and its length
-    Found(usize, usize),
-    Refused(u8, usize),
-}
-
-#[derive(Clone, Copy)]
-pub enum Shaped {
-    // how many events were written
-    Events(usize),
-    Refused(u8, usize),
-}
-
-#[derive(Clone, Copy)]
-pub enum Charted {
-    // all were served: how many events were written
-    Drawn(usize),
-    // the first that is refused, its number and place; and how many were served before it
-    Stopped(u8, usize, usize),
+pub enum Undrawn {
     // refused before any of them
-    Refused(u8, usize),
+    Refused(Refusal),
+    // the first that is refused, and how many were served before it
+    Stopped(Refusal, usize),
 }
 
-#[derive(Clone, Copy)]
-pub enum Indexed {
-    // the index's length
-    Written(usize),
-    Refused(u8, usize),
-}
+impl From<Refusal> for Undrawn {
+    ghost from_gives = { λ x r. r ≡ Refused x };
 
-#[derive(Clone, Copy)]
-pub enum Belonging {
-    Belongs,
-    Refused(u8, usize),
-}
-
-#[derive(Clone, Copy)]
-pub enum Holding {
-    // the pattern's number in the list
-    Pattern(usize),
-    NoPattern,
-    Refused(u8, usize),
-}
-
-#[derive(Clone, Copy)]
-pub enum Saved {
-    // how many spans were overwritten
-    Spans(usize),
-    Refused(u8, usize),
+    fn from(refusal: Refusal) -> Undrawn {
+        Undrawn::Refused(refusal)
+    }
 }
 
 // ---- Check
 
-pub fn check(text: &[u8]) -> Checked
+pub fn check(text: &[u8]) -> Result<Counts, Refusal>
     ensures { checked_of result ≡ check_of text.now }
 {
     let watch = verdicts::nowhere();
@@ -127,17 +74,14 @@ pub fn check(text: &[u8]) -> Checked
             number: 0,
             watch,
         },
-    );
-    if j.no != 0 {
-        return Checked::Refused(j.no, j.place);
-    }
-    Checked::Counted(j.signals, j.tables, j.listed, j.cycles, j.size)
+    )?;
+    Ok(j.counts)
 }
 
 // ---- Name
 
 // The name of a signal, or of a table, by its number.
-pub fn name(text: &[u8], table: bool, number: usize) -> Located
+pub fn name(text: &[u8], table: bool, number: usize) -> Result<Name, Refusal>
     ensures { located_of result ≡ name_of text.now (which_of table) number }
 {
     let watch = verdicts::nowhere();
@@ -148,15 +92,11 @@ pub fn name(text: &[u8], table: bool, number: usize) -> Located
             number,
             watch,
         },
-    );
-    if j.no != 0 {
-        return Located::Refused(j.no, j.place);
-    }
-    let name = j.name;
-    if name.named {
-        return Located::Found(name.at, name.length);
-    }
-    Located::Refused(NO_SUCH, 0)
+    )?;
+    j.name.ok_or(Refusal {
+        no: NO_SUCH,
+        place: 0,
+    })
 }
 
 // ---- Waveform
@@ -169,7 +109,7 @@ pub fn events(
     char: u8,
     ts: &mut [u64],
     ls: &mut [u8],
-) -> Outline
+) -> Result<usize, Refusal>
     requires { (length ts.old ≡ entry_most) × (length ls.old ≡ entry_most) }
     ensures { Outlines text.now table signal char ts.new ls.new result }
 {
@@ -185,27 +125,14 @@ pub fn events(
             number: 0,
             watch,
         },
-    );
-    if j.no != 0 {
-        return Outline {
-            no: j.no,
-            place: j.place,
-            count: 0,
-        };
-    }
-    if j.found {
-        let count = waves::read(text, j.entry, char, ts, ls);
-        return Outline {
-            no: 0,
+    )?;
+    let Some(entry) = j.sight else {
+        return Err(Refusal {
+            no: NO_SUCH,
             place: 0,
-            count,
-        };
-    }
-    Outline {
-        no: NO_SUCH,
-        place: 0,
-        count: 0,
-    }
+        });
+    };
+    Ok(waves::read(text, entry, char, ts, ls))
 }
 
 // The waveform of a table, signal and character: its events' times in ps, each the 64 bits of a signed number, and their letters, to the front of both buffers.
@@ -216,21 +143,20 @@ pub fn waveform(
     char: u8,
     times: &mut [u64],
     letters: &mut [u8],
-) -> Shaped
+) -> Result<usize, Refusal>
     ensures { Shapes (waveform_of text.now table signal char times.old letters.old) times.old times.new letters.old letters.new result }
 {
     let mut ts = [0u64; waves::EVENTS];
     let mut ls = [0u8; waves::EVENTS];
-    let e = events(text, table, signal, char, &mut ts, &mut ls);
-    if e.no != 0 {
-        return Shaped::Refused(e.no, e.place);
-    }
-    let n = e.count;
+    let n = events(text, table, signal, char, &mut ts, &mut ls)?;
     if (times.len() < n) | (letters.len() < n) {
-        return Shaped::Refused(NO_ROOM, 0);
+        return Err(Refusal {
+            no: NO_ROOM,
+            place: 0,
+        });
     }
     charts::put(&ts, &ls, n, times, letters);
-    Shaped::Events(n)
+    Ok(n)
 }
 
 // ---- Waveforms by the list
@@ -243,33 +169,37 @@ pub fn plotted(
     times: &mut [u64],
     letters: &mut [u8],
     counts: &mut [u64],
-) -> Charted
+) -> Result<usize, Undrawn>
     ensures { Plots (spared spare (waveforms_of text.now asked.now times.old letters.old counts.old)) times.old times.new letters.old letters.new counts.old counts.new result }
 {
     let watch = verdicts::nowhere();
-    let j = verdicts::judge(
+    verdicts::judge(
         text,
         Wanted {
             table: false,
             number: 0,
             watch,
         },
-    );
-    if j.no != 0 {
-        return Charted::Refused(j.no, j.place);
-    }
+    )?;
     if charts::too_many(asked) {
-        return Charted::Refused(TOO_MANY, 0);
+        return Err(Undrawn::Refused(Refusal {
+            no: TOO_MANY,
+            place: 0,
+        }));
     }
     let roomy = charts::within(asked, counts.len());
     if !roomy | !spare {
-        return Charted::Refused(NO_ROOM, 0);
+        return Err(Undrawn::Refused(Refusal {
+            no: NO_ROOM,
+            place: 0,
+        }));
     }
     let s = charts::serve(text, asked, times, letters, counts);
     if s.no != 0 {
-        return Charted::Stopped(s.no, 0, s.served);
+        let refusal = Refusal { no: s.no, place: 0 };
+        return Err(Undrawn::Stopped(refusal, s.served));
     }
-    Charted::Drawn(s.events)
+    Ok(s.events)
 }
 
 // The waveforms that a list asks for, a table, a signal and a character for each, as single calls in order give them: their events one group behind the
@@ -280,7 +210,7 @@ pub fn waveforms(
     times: &mut [u64],
     letters: &mut [u8],
     counts: &mut [u64],
-) -> Charted
+) -> Result<usize, Undrawn>
     ensures { Plots (waveforms_of text.now asked.now times.old letters.old counts.old) times.old times.new letters.old letters.new counts.old counts.new result }
 {
     plotted(text, asked, true, times, letters, counts)
@@ -302,18 +232,15 @@ fn rebuild_found<'a>(
     v: Verdict,
     cycle: usize,
     page: &mut [u8],
-) -> Rebuilt
+) -> Result<Rebuilt, Refusal>
     requires { SomeFound text.now places.now lists.now tplaces.now waves.now book.now rows.now list.now used.now v × (index_most ≤ length page.old) }
     ensures { Rebuilds text.now cycle result page.new }
 {
     let parts = v.parts;
     let known = parts.known;
-    let f = verdicts::failing(
+    verdicts::failing(
         text, places, lists, tplaces, waves, book, rows, list, used, v,
-    );
-    if f.no != 0 {
-        return unbuilt(f.no, f.place);
-    }
+    )?;
     let holder = index::holder(text, book, list, parts.listed, parts.patterns, cycle);
     let length = index::write(
         page,
@@ -325,30 +252,11 @@ fn rebuild_found<'a>(
         parts.patterns,
         known.tables,
     );
-    Rebuilt {
-        no: 0,
-        place: 0,
-        length,
-        holder,
-    }
-}
-
-fn unbuilt(no: u8, place: usize) -> Rebuilt
-    ensures { (result.no ≡ no) × (result.place ≡ place) }
-{
-    Rebuilt {
-        no,
-        place,
-        length: 0,
-        holder: Held {
-            held: false,
-            number: 0,
-        },
-    }
+    Ok(Rebuilt { length, holder })
 }
 
 // Of any text.
-fn rebuild(text: &[u8], cycle: usize, page: &mut [u8]) -> Rebuilt
+fn rebuild(text: &[u8], cycle: usize, page: &mut [u8]) -> Result<Rebuilt, Refusal>
     requires { index_most ≤ length page.old }
     ensures { Rebuilds text.now cycle result page.new }
 {
@@ -371,132 +279,92 @@ fn rebuild(text: &[u8], cycle: usize, page: &mut [u8]) -> Rebuilt
         &mut list,
         verdicts::nowhere(),
         &mut used,
-    );
-    if v.no != 0 {
-        return unbuilt(v.no, v.place);
-    }
+    )?;
     rebuild_found(
         text, &places, &lists, &tplaces, &waves, &book, &rows, &list, &used, v, cycle, page,
     )
 }
 
 // There is room for what else is handed out (`spare`), or that is 19 too.
-pub fn write_index(text: &[u8], spare: bool, buffer: &mut [u8]) -> Indexed
+pub fn write_index(text: &[u8], spare: bool, buffer: &mut [u8]) -> Result<usize, Refusal>
     ensures { Indexes (spared spare (index_of text.now buffer.old)) buffer.old buffer.new result }
 {
     let mut page = [0u8; index::INDEX];
-    let x = rebuild(text, 0, &mut page);
-    if x.no != 0 {
-        return Indexed::Refused(x.no, x.place);
-    }
-    let n = x.length;
+    let n = rebuild(text, 0, &mut page)?.length;
     if !spare | (buffer.len() < n) {
-        return Indexed::Refused(NO_ROOM, 0);
+        return Err(Refusal {
+            no: NO_ROOM,
+            place: 0,
+        });
     }
     pages::put(buffer, 0, words::bytes_of(&page, 0, n));
-    Indexed::Written(n)
+    Ok(n)
 }
 
 // A text's index to the front of the buffer.
-pub fn index(text: &[u8], buffer: &mut [u8]) -> Indexed
+pub fn index(text: &[u8], buffer: &mut [u8]) -> Result<usize, Refusal>
     ensures { Indexes (index_of text.now buffer.old) buffer.old buffer.new result }
 {
     write_index(text, true, buffer)
 }
 
 // The number in the list of the pattern that holds a cycle, by an index that is byte for byte what a rebuild writes; past the end no pattern.
-pub fn holds(text: &[u8], bytes: &[u8], cycle: usize) -> Holding
+pub fn holds(text: &[u8], bytes: &[u8], cycle: usize) -> Result<Option<usize>, Refusal>
     ensures { holding_of result ≡ holds_in text.now bytes.now cycle }
 {
     let mut page = [0u8; index::INDEX];
-    let x = rebuild(text, cycle, &mut page);
-    if x.no != 0 {
-        return Holding::Refused(x.no, x.place);
-    }
+    let x = rebuild(text, cycle, &mut page)?;
     if !words::equal(words::bytes_of(&page, 0, x.length), bytes) {
-        return Holding::Refused(NOT_THE_INDEX, 0);
+        return Err(Refusal {
+            no: NOT_THE_INDEX,
+            place: 0,
+        });
     }
-    let holder = x.holder;
-    if holder.held {
-        return Holding::Pattern(holder.number);
-    }
-    Holding::NoPattern
+    Ok(x.holder)
 }
 
 // Does an index belong to a text: is it byte for byte what a rebuild writes?
-pub fn belongs(text: &[u8], bytes: &[u8]) -> Belonging
+pub fn belongs(text: &[u8], bytes: &[u8]) -> Result<(), Refusal>
     ensures { belonging_of result ≡ belongs_to text.now bytes.now }
 {
-    match holds(text, bytes, 0) {
-        Holding::Refused(n, p) => Belonging::Refused(n, p),
-        Holding::Pattern(k) => Belonging::Belongs,
-        Holding::NoPattern => Belonging::Belongs,
-    }
+    holds(text, bytes, 0)?;
+    Ok(())
 }
 
 // ---- hurt texts
 
 // The check, and the overwriting of what it refuses, if that helps.
-fn mend_once(text: &mut [u8]) -> Turn
+fn mend_once(text: &mut [u8]) -> Result<Option<Hurt>, Refusal>
     ensures { Turns text.old text.new result }
 {
     let watch = verdicts::nowhere();
-    let j = verdicts::judge(
+    let Err(refusal) = verdicts::judge(
         text,
         Wanted {
             table: false,
             number: 0,
             watch,
         },
-    );
-    let hurt = saving::hurt_span(text, j.no, j.place);
-    if !hurt.found {
-        return Turn {
-            hurt,
-            no: j.no,
-            place: j.place,
-        };
-    }
+    ) else {
+        return Ok(None);
+    };
+    let Some(hurt) = saving::hurt_span(text, refusal) else {
+        return Err(refusal);
+    };
     saving::overwrite(text, hurt.first, hurt.behind);
-    Turn {
-        hurt,
-        no: j.no,
-        place: j.place,
-    }
+    Ok(Some(hurt))
 }
 
-// Before the first turn.
-fn unseen() -> Turn
-    ensures { result.hurt.found ≡ true }
-{
-    Turn {
-        hurt: Hurt {
-            found: true,
-            first: 0,
-            behind: 0,
-        },
-        no: 0,
-        place: 0,
-    }
-}
-
-// Turn after turn; the spans to the front of the numbers, as far as there is room.
-fn mend(text: &mut [u8], spans: &mut [u64]) -> Mended
+// Turn after turn; the spans to the front of the numbers, as far as there is room; how many they are.
+fn mend(text: &mut [u8], spans: &mut [u64]) -> Result<usize, Refusal>
     requires { length text.old ≤ text_most }
     ensures { Mends text.old text.new spans.old spans.new result }
 {
-    let mut t = unseen();
     let mut count = 0;
-    while t.hurt.found {
-        t = mend_once(text);
-        let hurt = t.hurt;
+    while let Some(hurt) = mend_once(text)? {
         count = saving::note(spans, count, hurt);
     }
-    Mended {
-        no: t.no,
-        place: t.place,
-        count,
-    }
+    Ok(count)
 }
 
 // Room for a text; made here alone, so that a caller's proof sees its length and no zeros.
@@ -507,7 +375,7 @@ fn room() -> [u8; TEXT_MOST]
 }
 
 // A copy of a text, mended; its spans to a log, as far as that has room.
-fn mend_copy(text: &[u8], copy: &mut [u8], log: &mut [u64]) -> Mended
+fn mend_copy(text: &[u8], copy: &mut [u8], log: &mut [u64]) -> Result<usize, Refusal>
     requires { (length text.now ≤ text_most) × (text_most ≤ length copy.old) }
     ensures { Mends text.now (take (length text.now) copy.new) log.old log.new result }
 {
@@ -522,7 +390,7 @@ fn hand_back(text: &mut [u8], spans: &mut [u64], copy: &[u8], log: &[u64], count
     ensures { (x : SavedText) → saving text.old ≡ given x → (text.new ≡ x.text) × (spans.new ≡ noted_all x.spans spans.old) }
 {
     if log.len() / 2 < count {
-        mend(text, spans);
+        let _ = mend(text, spans);
         return;
     }
     let n = text.len();
@@ -531,28 +399,30 @@ fn hand_back(text: &mut [u8], spans: &mut [u64], copy: &[u8], log: &[u64], count
 }
 
 // There is room for what else is handed out (`spare`), or that is 19 too.
-pub fn save_text(text: &mut [u8], spare: bool, spans: &mut [u64]) -> Saved
+pub fn save_text(text: &mut [u8], spare: bool, spans: &mut [u64]) -> Result<usize, Refusal>
     ensures { Saves (spared spare (save_of text.old spans.old)) text.old text.new spans.old spans.new result }
 {
     if TEXT_MOST < text.len() {
-        return Saved::Refused(TOO_LONG, 0);
+        return Err(Refusal {
+            no: TOO_LONG,
+            place: 0,
+        });
     }
     let mut copy = room();
     let mut log = [0u64; LOG];
-    let m = mend_copy(text, &mut copy, &mut log);
-    if m.no != 0 {
-        return Saved::Refused(m.no, m.place);
-    }
-    let count = m.count;
+    let count = mend_copy(text, &mut copy, &mut log)?;
     if !spare | (spans.len() / 2 < count) {
-        return Saved::Refused(NO_ROOM, 0);
+        return Err(Refusal {
+            no: NO_ROOM,
+            place: 0,
+        });
     }
     hand_back(text, spans, &copy, &log, count);
-    Saved::Spans(count)
+    Ok(count)
 }
 
 // A hurt text saved where it stands; two numbers for each overwritten span, its first byte and the one behind its last, to the front of `spans`.
-pub fn save(text: &mut [u8], spans: &mut [u64]) -> Saved
+pub fn save(text: &mut [u8], spans: &mut [u64]) -> Result<usize, Refusal>
     ensures { Saves (save_of text.old spans.old) text.old text.new spans.old spans.new result }
 {
     save_text(text, true, spans)

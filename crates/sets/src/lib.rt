@@ -41,59 +41,45 @@ pub fn is_empty(s: Set) -> bool
 pub fn least(a: usize, b: usize) -> usize
     ensures { result ≡ min a b }
 {
-    if a < b { a } else { b }
+    a.min(b)
 }
 
-// Is x one of the first n numbers of v?
-fn among(v: &[u16], n: usize, x: u16) -> bool
-    ensures { result ≡ has_of x (take n v.now) }
+// The numbers, as a part of the array.
+fn numbers(s: &Set) -> &[u16]
+    ensures numbers { result.now ≡ list_of s.now }
+    ensures within { length result.now ≤ signals_most }
 {
-    let n = least(n, v.len());
-    let mut i = 0;
-    while i < n {
-        if v[i] == x {
-            return true;
-        }
-        i += 1;
-    }
-    false
+    &s.v[..s.n.min(MOST)]
+}
+
+// Is x among some numbers?
+fn among(x: u16, numbers: &[u16]) -> bool
+    ensures { result ≡ has_of x numbers.now }
+{
+    numbers.contains(&x)
 }
 
 // Is x one of the numbers?
 pub fn has(s: Set, x: u16) -> bool
     ensures { result ≡ has_of x (list_of s) }
 {
-    among(&s.v, s.n, x)
+    among(x, numbers(&s))
 }
 
 // Is some number of x in g?
 pub fn meets(x: Set, g: Set) -> bool
     ensures { result ≡ meets_of (list_of x) (list_of g) }
 {
-    let n = least(x.n, MOST);
-    let mut i = 0;
-    while i < n {
-        if among(&g.v, g.n, x.v[i]) {
-            return true;
-        }
-        i += 1;
-    }
-    false
+    let others = numbers(&g);
+    numbers(&x).iter().any(|s| among(*s, others))
 }
 
 // Are all numbers of x in g?
 pub fn inside(x: Set, g: Set) -> bool
     ensures { result ≡ inside_of (list_of x) (list_of g) }
 {
-    let n = least(x.n, MOST);
-    let mut i = 0;
-    while i < n {
-        if !among(&g.v, g.n, x.v[i]) {
-            return false;
-        }
-        i += 1;
-    }
-    true
+    let others = numbers(&g);
+    numbers(&x).iter().all(|s| among(*s, others))
 }
 
 // x behind the numbers, if there is room.
@@ -113,14 +99,10 @@ pub fn push(s: Set, x: u16) -> Set
 pub fn append(g: Set, x: Set) -> Set
     ensures { length (list_of g) + length (list_of x) ≤ signals_most → list_of result ≡ list_of g ++ list_of x }
 {
-    let k = least(g.n, MOST);
-    let n = least(x.n, MOST - k);
+    let k = g.n.min(MOST);
+    let n = x.n.min(MOST - k);
     let mut v = g.v;
-    let mut i = 0;
-    while i < n {
-        v[k + i] = x.v[i];
-        i += 1;
-    }
+    v[k..k + n].copy_from_slice(&x.v[..n]);
     Set { n: k + n, v }
 }
 
@@ -128,17 +110,14 @@ pub fn append(g: Set, x: Set) -> Set
 pub fn without(g: Set, x: Set) -> Set
     ensures { list_of result ≡ without_of (list_of g) (list_of x) }
 {
-    let n = least(g.n, MOST);
+    let taken = numbers(&x);
     let mut v = [0; MOST];
     let mut k = 0;
-    let mut i = 0;
-    while i < n {
-        let b = g.v[i];
-        if !among(&x.v, x.n, b) {
-            v[k] = b;
+    for s in numbers(&g) {
+        if !among(*s, taken) {
+            v[k] = *s;
             k += 1;
         }
-        i += 1;
     }
     Set { n: k, v }
 }

@@ -8,8 +8,7 @@ use mathlib.Core.Bool.{Bool, true, false, cond}
 use mathlib.Core.Option.{Option, none, some, or_else}
 use mathlib.Core.List.{List, [], ◌∷◌, ◌++◌}
 use lib.Dec.{eqb, ltb}
-use lib.ListN.{length, get_or, set, length-set}
-use lib.Seq.{get_or-set_same, get_or-set_other}
+use lib.ListN.{length}
 use borrow.Author.Tests.{lt-ltb, le-ltb, ltb-true, ltb-false, eqb-true, eqb-false}
 use Rattle.tokens.specs.Written.{same}
 use Rattle.tokens.specs.Tokens.{Tok}
@@ -211,47 +210,6 @@ module _ {text : List ℕ} where
         by k l false e =
             let z = eqb-false k h e in
             subst (λ (n : ℕ). Linked text q k n (count + 1)) (sym (put.lasts k l z)) (linked_past (λ n. z (sym n ∙ new_chain)) (kept k l))
-
--- the four numbers of a name were stored
-module _ (p : List ℕ) (i at end h : ℕ) where
-  abbrev placed : List ℕ
-  placed = set (set p (i * 2) at) (i * 2 + 1) end
-
-  abbrev linking : List ℕ
-  linking = set placed (names_most * 2 + i) (last_at p h)
-
-  pub put_all : length p ≡ places_length → i < names_most → h < chains_most → Put p i at end h (set linking (names_most * 3 + h) (i + 1))
-  put_all e l m =
-      let placed_long : length placed ≡ length p = simp length-set in
-      let linking_long : length linking ≡ length p = simp length-set in
-      let links : (j : ℕ) → j < names_most * 3 → get_or (set linking (names_most * 3 + h) (i + 1)) j 0 ≡ get_or linking j 0 = λ j b.
-      get_or-set_other linking (names_most * 3 + h) j (i + 1) 0 (λ z. omega arith) in
-      let names : (j : ℕ) → j < names_most * 2 → get_or (set linking (names_most * 3 + h) (i + 1)) j 0 ≡ get_or placed j 0 = λ j b.
-      links j (omega arith) ∙ get_or-set_other placed (names_most * 2 + i) j (last_at p h) 0 (λ z. omega arith) in
-      let behind : (j : ℕ) → names_most * 2 ≤ j → get_or placed j 0 ≡ get_or p j 0 = λ j b.
-      get_or-set_other (set p (i * 2) at) (i * 2 + 1) j end 0 (λ z. omega arith) ∙ get_or-set_other p (i * 2) j at 0 (λ z. omega arith) in
-      record {
-        long = length-set linking (names_most * 3 + h) (i + 1) ∙ linking_long;
-        place =
-            names (i * 2) (omega arith)
-            ∙ get_or-set_other (set p (i * 2) at) (i * 2 + 1) (i * 2) end 0 (λ z. omega arith)
-            ∙ get_or-set_same p (i * 2) at 0 (omega arith);
-        end_is = names (i * 2 + 1) (omega arith) ∙ get_or-set_same (set p (i * 2) at) (i * 2 + 1) end 0 (omega (arith, length-set p (i * 2) at));
-        names = λ j b.
-            names j (omega arith)
-            ∙ get_or-set_other (set p (i * 2) at) (i * 2 + 1) j end 0 (λ z. omega arith)
-            ∙ get_or-set_other p (i * 2) j at 0 (λ z. omega arith);
-        linked = links (names_most * 2 + i) (omega arith) ∙ get_or-set_same placed (names_most * 2 + i) (last_at p h) 0 (omega arith);
-        links = λ j b.
-            links (names_most * 2 + j) (omega arith)
-            ∙ get_or-set_other placed (names_most * 2 + i) (names_most * 2 + j) (last_at p h) 0 (λ z. omega arith)
-            ∙ behind (names_most * 2 + j) (omega arith);
-        last = get_or-set_same linking (names_most * 3 + h) (i + 1) 0 (omega arith) ∙ add-one i;
-        lasts = λ k b n.
-            get_or-set_other linking (names_most * 3 + h) (names_most * 3 + k) (i + 1) 0 (λ z. n (omega arith))
-            ∙ get_or-set_other placed (names_most * 2 + i) (names_most * 3 + k) (last_at p h) 0 (λ z. omega arith)
-            ∙ behind (names_most * 3 + k) (omega arith);
-      }
 
 -- no name stands in a chain yet
 pub chained_none : {text places : List ℕ} → length places ≡ places_length → Unchained places → Chained text places 0

@@ -1,7 +1,7 @@
 // The blocks Signals and SignalGroups, read into two tables that the caller lends: place and end of each name, and its signals in a row.
 #![tactic(auto)]
 
-ghost use Rattle.std.specs.Prelude.{◌≡◌, true, false, cond, ◌&&◌, List, ℕ, ◌+◌, ◌*◌, ◌≤◌, ◌<◌, min, length, ltb};
+ghost use Rattle.std.specs.Prelude.{◌≡◌, true, false, ◌&&◌, List, ℕ, ◌+◌, ◌*◌, ◌≤◌, ◌<◌, min, length, ltb};
 ghost use Rattle.meaning.specs.Bounds.{signals_most};
 ghost use Rattle.meaning.specs.Lists.{meets};
 ghost use Rattle.meaning.specs.Names.{among, due_among, find as find_of, new_name, old_name};
@@ -111,11 +111,7 @@ fn put_set(lists: &mut [u16], i: usize, set: Set)
 {
     let at = i * ROW;
     lists[at] = held(set.n);
-    let mut j = 0;
-    while j < sets::MOST {
-        lists[at + 1 + j] = set.v[j];
-        j += 1;
-    }
+    lists[at + 1..at + ROW].copy_from_slice(&set.v);
 }
 
 // The name at the cursor and its signals, behind `count` names.
@@ -138,11 +134,7 @@ pub fn set_at(lists: &[u16], i: usize) -> Set
     }
     let at = i * ROW;
     let mut v = [0; sets::MOST];
-    let mut j = 0;
-    while j < sets::MOST {
-        v[j] = lists[at + 1 + j];
-        j += 1;
-    }
+    v.copy_from_slice(&lists[at + 1..at + ROW]);
     Set {
         n: lists[at] as usize,
         v,
@@ -150,13 +142,6 @@ pub fn set_at(lists: &[u16], i: usize) -> Set
 }
 
 // ---- names in their name space
-
-// The nearer one of two names.
-fn nearer(is: bool, i: usize, found: usize) -> usize
-    ensures { result ≡ cond is i found }
-{
-    if is { i } else { found }
-}
 
 // The number of the first of `count` names that is w; `count` where none is. The names of its chain are looked at, the last one first.
 fn find<'a>(text: &'a [u8], w: &'a [u8], places: &'a [usize], count: usize) -> usize
@@ -172,7 +157,9 @@ fn find<'a>(text: &'a [u8], w: &'a [u8], places: &'a [usize], count: usize) -> u
     let mut k = places[LAST + words::chain(w)];
     while 0 < k {
         let i = k - 1;
-        found = nearer(words::is_named(text, w, last, places, i * 2), i, found);
+        if words::is_named(text, w, last, places, i * 2) {
+            found = i;
+        }
         k = places[EARLIER + i];
     }
     found

@@ -1,8 +1,8 @@
 -- Numbers put one by one, slot by slot, table by table.
-use Prim.Native.Nat.{ℕ, ◌+◌, ◌-◌, ◌*◌, ◌/◌, ◌%◌, ◌<◌}
+use Prim.Native.Nat.{ℕ, ◌+◌, ◌*◌, ◌/◌, ◌%◌, ◌<◌}
 use native.Mathlib.Omega.{arith}
 use mathlib.Core.Path.{◌≡◌, refl, sym, ap, ap₂, ◌∙◌, subst}
-use mathlib.Core.Bool.{Bool, true, false, not}
+use mathlib.Core.Bool.{Bool, true, false}
 use mathlib.Core.Option.{Option, none}
 use mathlib.Core.List.{List, []}
 use lib.Dec.{leb, eqb}
@@ -11,7 +11,7 @@ use lib.ListN.{length, get_or, set, length-set}
 use lib.Seq.{get_or-set_same, get_or-set_other}
 use Rattle.meaning.specs.Timing.{Event, Wave}
 use Rattle.timing.specs.Watch.{Watched}
-use Rattle.spots.specs.Spots.{spot_at, watch_of, Spots}
+use Rattle.spots.specs.Spots.{spot_at, watch_of, sight_of, Spots}
 use Rattle.meaning.specs.Edges.{Category, drive, compare, times_in, first_of, last_behind, first_time, last_time, events_of}
 use Rattle.spans.specs.Spans.{char_first, chars_wide, table_wide, slots_most, times_most, inside, coded, time_at}
 use Rattle.spans.specs.Parts.{Spanned, Put, Filled, Clear, Upto}
@@ -102,7 +102,7 @@ earlier_slot {text} {spots} ws j i earlier x a b h e g =
     let k : m < i = omega arith in
     let p : m / chars_wide ≡ earlier = omega arith in
     let q : char_first + m % chars_wide ≡ c = omega arith in
-    let there = subst (λ (v : ℕ). Watched text (watch_of earlier c) (not (eqb v 0)) (v - 1) ws) e (x.each earlier c (omega arith)) in
+    let there = subst (λ (v : ℕ). Watched text (watch_of earlier c) (sight_of v) ws) e (x.each earlier c (omega arith)) in
     let same : events_of (m / chars_wide) (char_first + m % chars_wide) ws ≡ events_of (i / chars_wide) c ws =
     ap₂ (λ (s b : ℕ). events_of s b ws) p q ∙ spot_same (i / chars_wide) c (spot_at spots (i / chars_wide) c) ws (x.each (i / chars_wide) c (omega arith)) earlier there in
     record {

@@ -1,7 +1,8 @@
 -- Waveforms that were read fit: each time has a number, and each character a place; and what that tells of a spot.
-use Prim.Native.Nat.{ℕ, suc, ◌-◌, ◌≤◌, ◌<◌}
+use Prim.Native.Nat.{ℕ, zero, suc, ◌-◌, ◌≤◌, ◌<◌}
 use native.Mathlib.Omega.{arith}
 use mathlib.Core.Path.{◌≡◌, refl, sym, ap, ◌∙◌, subst}
+use Rattle.std.proofs.Common.{Some}
 use mathlib.Core.Bool.{Bool, true, false, not, ◌&&◌, ◌||◌}
 use mathlib.Core.Option.{Option, none, some}
 use mathlib.Core.List.{List, [], ◌∷◌, ◌++◌}
@@ -23,7 +24,7 @@ use Rattle.meaning.proofs.Signs.{gives_signed}
 use Rattle.timing.specs.Watch.{number_of, Watched}
 use Rattle.waves.specs.Waves.{EntryAt}
 use Rattle.waves.proofs.Entries.{entry_found}
-use Rattle.spots.specs.Spots.{watch_of}
+use Rattle.spots.specs.Spots.{watch_of, sight_of}
 use Rattle.meaning.specs.Edges.{events_of}
 use Rattle.spans.specs.Spans.{char_first, inside}
 use Rattle.spans.specs.Parts.{times_below, Timely, Fit}
@@ -175,26 +176,30 @@ outside_none s b ws g h = by (wave_of s b ws) refl
 
 -- ---- a spot
 
-module _ {text : List ℕ} (s b : ℕ) (spot : ℕ) (ws : List Wave) (x : Watched text (watch_of s b) (not (eqb spot 0)) (spot - 1) ws) where
+module _ {text : List ℕ} (s b : ℕ) (spot : ℕ) (ws : List Wave) (x : Watched text (watch_of s b) (sight_of spot) ws) where
   pub spot_nothing : spot ≡ 0 → events_of s b ws ≡ []
-  spot_nothing e = events_none s b ws (x.no (rw e))
+  spot_nothing e = events_none s b ws (x.no (ap sight_of e))
 
   -- another signal with the same spot has the same events
-  pub spot_same : (o : ℕ) → Watched text (watch_of o b) (not (eqb spot 0)) (spot - 1) ws → events_of o b ws ≡ events_of s b ws
+  pub spot_same : (o : ℕ) → Watched text (watch_of o b) (sight_of spot) ws → events_of o b ws ≡ events_of s b ws
   unfolding events_of
   spot_same o y =
-      ap (λ (w : Option (List Event)). elim (eqb b unassigned) as (λ z. List Event) [ true ↦ [] | false ↦ elim w [ none ↦ [] | some es ↦ es ] ]) (by (not (eqb spot 0)) x y)
+      ap (λ (w : Option (List Event)). elim (eqb b unassigned) as (λ z. List Event) [ true ↦ [] | false ↦ elim w [ none ↦ [] | some es ↦ es ] ]) (by spot x y)
     where
-      by : (f : Bool) → Watched text (watch_of s b) f (spot - 1) ws → Watched text (watch_of o b) f (spot - 1) ws → wave_of o b ws ≡ wave_of s b ws
-      by false x y = y.no refl ∙ sym (x.no refl)
-      by true x y =
-          let u = x.yes refl in
-          let v = y.yes refl in
+      by : (v : ℕ) → Watched text (watch_of s b) (sight_of v) ws → Watched text (watch_of o b) (sight_of v) ws → wave_of o b ws ≡ wave_of s b ws
+      by zero x y = y.no refl ∙ sym (x.no refl)
+      by (suc place) x y =
+          let u = x.yes place refl in
+          let v = y.yes place refl in
           let e = sym v.there ∙ u.there in
-          let q : ◌≡◌ {A = Tok × Events} (record { at = spot - 1; word = v.chars }, v.events) (record { at = spot - 1; word = u.chars }, u.events) = cc in
+          let q : ◌≡◌ {A = Tok × Events} (record { at = place; word = v.chars }, v.events) (record { at = place; word = u.chars }, u.events) = cc in
           v.wave ∙ ap (λ (p : Tok × Events). some (get_or p.1.0 (number_of b p.0.word) [])) q ∙ sym u.wave
 
   pub spot_entry : (spot ≡ 0 → ⊥) → (es : List Event) × EntryAt text (spot - 1) b es × (Fit ws → inside b ≡ true → Timely es × (events_of s b ws ≡ es))
   spot_entry h =
-      let f = x.yes (ap not (ne_eqb spot 0 h)) in
+      let f = x.yes (spot - 1) (there spot h) in
       (_, entry_found f f.wave, λ g k. ((wave_fits s b ws g _ f.wave).1, events_some s b ws k f.wave))
+    where
+      there : (v : ℕ) → (v ≡ 0 → ⊥) → sight_of v ≡ Some (v - 1)
+      there zero n = absurd (n refl)
+      there (suc place) n = ap Some (omega arith)

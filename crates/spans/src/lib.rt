@@ -12,7 +12,7 @@ ghost use Rattle.meaning.specs.Meaning.{table_at};
 ghost use Rattle.timing.specs.Watch.{Watched};
 ghost use Rattle.waves.specs.Waves.{EntryAt};
 ghost use Rattle.spots.specs.Answers.{Answers, Behind};
-ghost use Rattle.spots.specs.Spots.{spots_most, spot_at, watch_of, names_in, Spots, Listed};
+ghost use Rattle.spots.specs.Spots.{spots_most, spot_at, watch_of, sight_of, names_in, Spots, Listed};
 ghost use Rattle.meaning.specs.Edges.{Category, belongs, first_time, last_time, before as before_of, follows, events_of, period_at};
 ghost use Rattle.spans.specs.Spans.{char_first, chars_wide, inside as inside_of, table_wide, times_most, slots_most, slot_of, coded as coded_of, Sized, Spans};
 ghost use Rattle.spans.specs.Parts.{times_below, Timely, Fit, Spanning, Spanned, Put, Filled, Clear, Upto, owners_most, Held};
@@ -174,8 +174,8 @@ fn read(text: &[u8], place: usize, char: u8) -> Both
 
 // Those of a spot, which has none where it is 0.
 fn of_spot(text: &[u8], spot: usize, char: u8) -> Both
-    requires { (s : ℕ) × (ws : List Wave) × Watched text.now (watch_of s char) (not (eqb spot 0)) (spot - 1) ws }
-    ensures { (s : ℕ) (ws : List Wave) → Watched text.now (watch_of s char) (not (eqb spot 0)) (spot - 1) ws → Fit ws → inside_of char ≡ true → Spanned result (events_of s char ws) }
+    requires { (s : ℕ) × (ws : List Wave) × Watched text.now (watch_of s char) (sight_of spot) ws }
+    ensures { (s : ℕ) (ws : List Wave) → Watched text.now (watch_of s char) (sight_of spot) ws → Fit ws → inside_of char ≡ true → Spanned result (events_of s char ws) }
 {
     if spot == 0 {
         return nothing();

@@ -1,14 +1,16 @@
 -- Spots: stored one by one, and those of an entry more.
-use Prim.Native.Nat.{ℕ, ◌+◌, ◌-◌, ◌*◌, ◌≤◌, ◌<◌, min}
+use Prim.Native.Nat.{ℕ, zero, suc, ◌+◌, ◌*◌, ◌≤◌, ◌<◌, min}
 use native.Mathlib.Omega.{arith}
 use mathlib.Core.Path.{◌≡◌, refl, sym, ap, ◌∙◌}
-use mathlib.Core.Bool.{Bool, true, false, cond, not, ◌&&◌, ◌||◌}
+use Rattle.std.proofs.Common.{None, Some}
+use native.Mathlib.Numerals.{add-one}
+use mathlib.Core.Bool.{Bool, true, false, cond, ◌&&◌, ◌||◌}
 use mathlib.Core.Option.{Option, some}
 use mathlib.Core.List.{List, [], ◌∷◌, ◌++◌}
 use lib.Dec.{eqb, leb}
 use lib.ListN.{length, get_or, replicate, take, set}
 use lib.Seq.{get_or-set_same, get_or-set_other, take_all}
-use borrow.Author.Tests.{eqb-true, eqb-false, ne_eqb, leb-true, leb-false}
+use borrow.Author.Tests.{eqb-true, eqb-false, leb-true, leb-false}
 use Rattle.tokens.specs.Tokens.{Toks, toks}
 use Rattle.meaning.specs.Bounds.{entry_most, signals_most}
 use Rattle.meaning.specs.Lists.{has}
@@ -18,9 +20,9 @@ use Rattle.meaning.specs.Services.{wave_of}
 use Rattle.words.proofs.Words.{zeros}
 use Rattle.timing.specs.Watch.{chars_events, Watched}
 use Rattle.timing.specs.Marks.{Below}
-use Rattle.timing.proofs.Watching.{watched_more}
+use Rattle.timing.proofs.Watching.{watched_more, watched_none}
 use Rattle.timing.proofs.Marking.{has_taken}
-use Rattle.spots.specs.Spots.{bytes_most, spots_most, spot_at, watch_of, Spots, Stored}
+use Rattle.spots.specs.Spots.{bytes_most, spots_most, spot_at, watch_of, sight_of, Spots, Stored}
 
 -- ---- one spot more
 
@@ -137,10 +139,7 @@ taken_there s b sigs cs (x ∷ ws) {es} t p q w =
     by false f e g w u h t ih = ih (rest u t) w
 
 spots_none : (text spots : List ℕ) → ((i : ℕ) → get_or spots i 0 ≡ 0) → Spots text spots []
-unfolding wave_of
-spots_none text spots z = record {
-  each = λ s b q. rw (z (s * bytes_most + b)) (record { no = λ k. refl; yes = λ k. absurd (let z : ◌≡◌ {A = ℕ} 0 1 = cc in omega arith) });
-}
+spots_none text spots z = record { each = λ s b q. rw (z (s * bytes_most + b)) (watched_none text (watch_of s b)) }
 
 -- spots before any entry is read
 pub blank_spots : (text : List ℕ) → Spots text (replicate spots_most 0) []
@@ -150,32 +149,26 @@ module _ {text spots spots' : List ℕ} {ws : List Wave} {us : Toks} (sigs cs : 
   pub spots_more : Spots text spots ws → Stored spots sigs cs (place + 1) spots' → taken sigs cs ws ≡ false → length es.0 ≡ length cs → length cs ≤ entry_most
       → chars_events (toks text place) ≡ ok (record { at = place; word = cs }, es) us → Spots text spots' (ws ++ waves_for sigs cs es.0)
   spots_more a st free sized few there = record {
-    each = λ s b q. rw (st.each s b q) (by s b (spot_at spots s b) (not (eqb (spot_at spots s b) 0)) refl (a.each s b q) (has s sigs) (has b cs) refl refl);
+    each = λ s b q. rw (st.each s b q) (by s b (spot_at spots s b) (a.each s b q) (has s sigs) (has b cs) refl refl);
   }
     where
       all : List Wave
       all = ws ++ waves_for sigs cs es.0
 
       -- it was found before
-      before : {s b : ℕ} (v : ℕ) → Watched text (watch_of s b) true (v - 1) ws → Watched text (watch_of s b) true (v - 1) all
-      before {s} {b} v o = watched_more {w = watch_of s b} {s = record { found = true; place = v - 1 }} sigs cs es place sized few there refl o
+      before : {s b : ℕ} (v : ℕ) → Watched text (watch_of s b) (Some v) ws → Watched text (watch_of s b) (Some v) all
+      before {s} {b} v o = watched_more {w = watch_of s b} {s = Some v} sigs cs es place sized few there refl o
 
       -- it was not: it is found here, or not at all
-      here : {s b : ℕ} (v : ℕ) → Watched text (watch_of s b) false (v - 1) ws → Watched text (watch_of s b) (has b cs && has s sigs) place all
-      here {s} {b} v o = watched_more {w = watch_of s b} {s = record { found = false; place = v - 1 }} sigs cs es place sized few there refl o
+      here : {s b : ℕ} → Watched text (watch_of s b) None ws → Watched text (watch_of s b) (cond (has b cs && has s sigs) (Some place) None) all
+      here {s} {b} o = watched_more {w = watch_of s b} {s = None} sigs cs es place sized few there refl o
 
-      lost : {s b : ℕ} (v : ℕ) → Watched text (watch_of s b) false place all → Watched text (watch_of s b) false (v - 1) all
-      lost v m = record { no = m.no; yes = λ k. absurd (let z : ◌≡◌ {A = ℕ} 0 1 = cc in omega arith) }
-
-      by : (s b v : ℕ) (f : Bool) → not (eqb v 0) ≡ f → Watched text (watch_of s b) f (v - 1) ws → (x y : Bool) → has s sigs ≡ x → has b cs ≡ y
-          → Watched text (watch_of s b) (not (eqb (cond (x && y) (place + 1) v) 0)) (cond (x && y) (place + 1) v - 1) all
-      by s b v true e o true true p q = absurd (taken_there s b sigs cs ws free p q (o.yes refl).wave)
-      by s b v true e o true false p q = rw e (before v o)
-      by s b v true e o false y p q = rw e (before v o)
-      by s b v false e o true true p q =
-          let n : eqb (place + 1) 0 ≡ false = ne_eqb (place + 1) 0 (λ z. omega arith) in
-          let k : place + 1 - 1 ≡ place = omega arith in
-          rw (n, k) (rw (q, p) at (here v o))
-      by s b v false e o true false p q = rw e (lost v (rw q at (here v o)))
-      by s b v false e o false true p q = rw e (lost v (rw (q, p) at (here v o)))
-      by s b v false e o false false p q = rw e (lost v (rw q at (here v o)))
+      by : (s b v : ℕ) → Watched text (watch_of s b) (sight_of v) ws → (x y : Bool) → has s sigs ≡ x → has b cs ≡ y
+          → Watched text (watch_of s b) (sight_of (cond (x && y) (place + 1) v)) all
+      by s b (suc v) o true true p q = absurd (taken_there s b sigs cs ws free p q (o.yes v refl).wave)
+      by s b (suc v) o true false p q = before v o
+      by s b (suc v) o false y p q = before v o
+      by s b zero o true true p q = rw add-one (rw (q, p) at (here o))
+      by s b zero o true false p q = rw q at (here o)
+      by s b zero o false true p q = rw (q, p) at (here o)
+      by s b zero o false false p q = rw q at (here o)

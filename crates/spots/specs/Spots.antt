@@ -1,5 +1,5 @@
 -- Where the entries of a table stand: for each signal and character one more than the place of its CHARS, 0 where it has no waveform.
-use Rattle.std.specs.Prelude.{ℕ, ◌+◌, ◌-◌, ◌*◌, ◌<◌, ◌≡◌, cond, not, ◌&&◌, List, length, get_or, eqb}
+use Rattle.std.specs.Prelude.{ℕ, zero, suc, ◌+◌, ◌*◌, ◌<◌, ◌≡◌, cond, ◌&&◌, List, length, get_or, Option as Maybe, None, Some}
 use Rattle.tokens.specs.Tokens.{Tok}
 use Rattle.meaning.specs.Bounds.{signals_most}
 use Rattle.meaning.specs.Lists.{has}
@@ -27,9 +27,14 @@ spot_at spots s b = get_or spots (s * bytes_most + b) 0
 abbrev pub watch_of : ℕ → ℕ → Watch
 watch_of s b = record { table = 0; signal = s; char = b }
 
+-- the sight that a spot tells
+abbrev pub sight_of : ℕ → Maybe ℕ
+sight_of zero = None
+sight_of (suc place) = Some place
+
 -- of these waveforms each is found where its spot says, and none where that is 0
 pub record Spots (text spots : List ℕ) (ws : List Wave) : Type 0 where
-  pub each : (s b : ℕ) → b < bytes_most → Watched text (watch_of s b) (not (eqb (spot_at spots s b) 0)) (spot_at spots s b - 1) ws
+  pub each : (s b : ℕ) → b < bytes_most → Watched text (watch_of s b) (sight_of (spot_at spots s b)) ws
 
 -- v for each of these signals and characters, and nothing else changed
 pub record Stored (before sigs w : List ℕ) (v : ℕ) (after : List ℕ) : Type 0 where

@@ -8,6 +8,7 @@ use lib.ListN.{length, set}
 use borrow.Author.Tests.{le-leb, lt-leb}
 use Rattle.tokens.specs.Refusals.{text_most}
 use Rattle.meaning.specs.Refusals.{no_room}
+use Rattle.meaning.specs.Timing.{Event}
 use Rattle.meaning.specs.Meaning.{Answer, given, refused, answering}
 use Rattle.meaning.specs.Services.{Waveform, waveform}
 use Rattle.data.specs.Filled.{over}
@@ -15,8 +16,7 @@ use Rattle.data.proofs.Over.{over_set, over_fits}
 use Rattle.texts.specs.Told.{packed_refusal}
 use Rattle.verdicts.specs.Buffers.{afterwards}
 use Rattle.stil.specs.Interface.{with_room, packed, fronted, Hands, Draws}
-use Rattle.services.specs.Waveforms.{Outlines}
-use Rattle.services.specs.declared.Outline.{Outline}
+use Rattle.services.specs.Waveforms.{events_of, Shows}
 use Rattle.services.proofs.Shaping.{waveform_full, waveform_given}
 
 -- ---- a refusal as one number
@@ -129,10 +129,10 @@ module _ {a : Answer Waveform} {times letters count : List ℕ} where
   draws_all e h q = let g = room_enough 1 count e h in record { counted = hands_all g q; times_are = rw g; letters_are = rw g }
 
 -- no room for the count: without room for the events it is 19 already
-module _ {text : List ℕ} {k s c : ℕ} {ts ls : List ℕ} {o : Outline} (h : Outlines text k s c ts ls o) (times letters count : List ℕ) (on : o.no ≡ 0) where
+module _ {text : List ℕ} {k s c n : ℕ} {ts ls : List ℕ} {es : List Event} (e : events_of text k s c ≡ given es) (shows : Shows ts ls n es) (times letters count : List ℕ) where
   pub room_uncounted : length count < 1 → with_room 1 count (waveform text k s c times letters) ≡ refused no_room 0
-  room_uncounted few = by (ltb (length times) o.count || ltb (length letters) o.count) refl
+  room_uncounted few = by (ltb (length times) n || ltb (length letters) n) refl
     where
-      by : (y : Bool) → (ltb (length times) o.count || ltb (length letters) o.count) ≡ y → with_room 1 count (waveform text k s c times letters) ≡ refused no_room 0
-      by true e = room_refused 1 count (waveform_full h times letters on e refl)
-      by false e = room_none 1 count (waveform_given h times letters on e refl (refl, refl)) few
+      by : (y : Bool) → (ltb (length times) n || ltb (length letters) n) ≡ y → with_room 1 count (waveform text k s c times letters) ≡ refused no_room 0
+      by true r = room_refused 1 count (waveform_full times letters e shows r refl)
+      by false r = room_none 1 count (waveform_given times letters e shows r refl (refl, refl)) few

@@ -13,8 +13,9 @@ use Rattle.texts.specs.Told.{packed_refusal}
 use Rattle.verdicts.specs.Buffers.{afterwards, spared}
 use Rattle.views.specs.Views.{shown_of, Views}
 use Rattle.stil.specs.Interface.{with_room, fronted, Opens}
-use Rattle.views.specs.declared.Shown.{Shown}
-use Rattle.views.specs.declared.Shown.TheVariants.{Rows, Refused}
+use Rattle.std.specs.Prelude.{Result, Ok, Err}
+use Rattle.tokens.specs.declared.Refusal.{Refusal}
+use Rattle.views.specs.declared.Rows.{Rows}
 use Rattle.stil.proofs.Handing.{hands_none, hands_all}
 
 -- without room for what else is handed out, nothing is given
@@ -30,7 +31,7 @@ some_room a k numbers {x} e = by (leb k (length numbers)) refl e
     by true t e = leb-true k (length numbers) t
     by false t e = absurd (spared_none a x e)
 
-module _ (a : Answer Window) {rows rows' : List ℕ} {r : Shown} (numbers : List ℕ) (h : Views (spared (leb 2 (length numbers)) a) rows rows' r) where
+module _ (a : Answer Window) {rows rows' : List ℕ} {r : Result Rows Refusal} (numbers : List ℕ) (h : Views (spared (leb 2 (length numbers)) a) rows rows' r) where
   answered : shown_of r rows' ≡ with_room 2 numbers a
   unfolding with_room
   answered = h.answers
@@ -39,12 +40,12 @@ module _ (a : Answer Window) {rows rows' : List ℕ} {r : Shown} (numbers : List
   unfolding with_room
   written = h.buffer_is
 
-  pub opens_none : {n p s : ℕ} → r ≡ Refused n p → s ≡ packed_refusal n p → Opens a rows rows' numbers s numbers
-  opens_none e q = record { counted = hands_none (sym answered ∙ ap (λ (x : Shown). shown_of x rows') e) q; rows_are = written }
+  pub opens_none : {x : Refusal} {s : ℕ} → r ≡ Err x → s ≡ packed_refusal x.no x.place → Opens a rows rows' numbers s numbers
+  opens_none e q = record { counted = hands_none (sym answered ∙ ap (λ (x : Result Rows Refusal). shown_of x rows') e) q; rows_are = written }
 
-  module _ {n v : ℕ} (e : r ≡ Rows n v) where
+  module _ {x : Rows} (e : r ≡ Ok x) where
     pub opens_room : 2 ≤ length numbers
-    opens_room = some_room a 2 numbers (sym h.answers ∙ ap (λ (x : Shown). shown_of x rows') e)
+    opens_room = some_room a 2 numbers (sym h.answers ∙ ap (λ (x : Result Rows Refusal). shown_of x rows') e)
 
-    pub opens_all : {numbers' : List ℕ} → numbers' ≡ fronted (n ∷ v ∷ []) numbers → Opens a rows rows' numbers 0 numbers'
-    opens_all q = record { counted = hands_all (sym answered ∙ ap (λ (x : Shown). shown_of x rows') e) q; rows_are = written }
+    pub opens_all : {numbers' : List ℕ} → numbers' ≡ fronted (x.count ∷ x.visits ∷ []) numbers → Opens a rows rows' numbers 0 numbers'
+    opens_all q = record { counted = hands_all (sym answered ∙ ap (λ (x : Result Rows Refusal). shown_of x rows') e) q; rows_are = written }

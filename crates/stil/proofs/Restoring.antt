@@ -9,14 +9,14 @@ use Rattle.texts.specs.Told.{packed_refusal}
 use Rattle.saving.specs.Saving.{Restored}
 use Rattle.verdicts.specs.Buffers.{afterwards, spared}
 use Rattle.services.specs.Saves.{saved_of, Saves}
-use Rattle.services.specs.declared.Saved.{Saved}
-use Rattle.services.specs.declared.Saved.TheVariants.{Spans, Refused}
+use Rattle.std.specs.Prelude.{Result, Ok, Err}
+use Rattle.tokens.specs.declared.Refusal.{Refusal}
 use Rattle.stil.specs.Interface.{with_room, fronted}
 use Rattle.stil.specs.Saves.{Restores}
 use Rattle.stil.proofs.Handing.{hands_none, hands_all}
 use Rattle.stil.proofs.Opening.{some_room}
 
-module _ (a : Answer Restored) {text text' spans spans' : List ℕ} {r : Saved} (numbers : List ℕ) (h : Saves (spared (leb 1 (length numbers)) a) text text' spans spans' r) where
+module _ (a : Answer Restored) {text text' spans spans' : List ℕ} {r : Result ℕ Refusal} (numbers : List ℕ) (h : Saves (spared (leb 1 (length numbers)) a) text text' spans spans' r) where
   answered : saved_of r text' spans' ≡ with_room 1 numbers a
   unfolding with_room
   answered = h.answers
@@ -29,12 +29,12 @@ module _ (a : Answer Restored) {text text' spans spans' : List ℕ} {r : Saved} 
   unfolding with_room
   the_spans = h.spans_are
 
-  pub restores_none : {n p s : ℕ} → r ≡ Refused n p → s ≡ packed_refusal n p → Restores a text text' spans spans' numbers s numbers
-  restores_none e q = record { counted = hands_none (sym answered ∙ ap (λ (x : Saved). saved_of x text' spans') e) q; text_is = the_text; spans_are = the_spans }
+  pub restores_none : {x : Refusal} {s : ℕ} → r ≡ Err x → s ≡ packed_refusal x.no x.place → Restores a text text' spans spans' numbers s numbers
+  restores_none e q = record { counted = hands_none (sym answered ∙ ap (λ (x : Result ℕ Refusal). saved_of x text' spans') e) q; text_is = the_text; spans_are = the_spans }
 
-  module _ {n : ℕ} (e : r ≡ Spans n) where
+  module _ {n : ℕ} (e : r ≡ Ok n) where
     pub restores_room : 1 ≤ length numbers
-    restores_room = some_room a 1 numbers (sym h.answers ∙ ap (λ (x : Saved). saved_of x text' spans') e)
+    restores_room = some_room a 1 numbers (sym h.answers ∙ ap (λ (x : Result ℕ Refusal). saved_of x text' spans') e)
 
     pub restores_all : {numbers' : List ℕ} → numbers' ≡ fronted (n ∷ []) numbers → Restores a text text' spans spans' numbers 0 numbers'
-    restores_all q = record { counted = hands_all (sym answered ∙ ap (λ (x : Saved). saved_of x text' spans') e) q; text_is = the_text; spans_are = the_spans }
+    restores_all q = record { counted = hands_all (sym answered ∙ ap (λ (x : Result ℕ Refusal). saved_of x text' spans') e) q; text_is = the_text; spans_are = the_spans }

@@ -7,24 +7,26 @@ use mathlib.Core.List.{List, [], ◌∷◌}
 use lib.Dec.{leb}
 use lib.ListN.{length}
 use borrow.Author.Tests.{leb-true}
+use Rattle.std.specs.Prelude.{Result, Ok, Err}
+use Rattle.tokens.specs.declared.Refusal.{Refusal}
 use Rattle.meaning.specs.Refusals.{no_room}
 use Rattle.meaning.specs.Meaning.{Answer, given, refused, answering}
 use Rattle.meaning.specs.Charts.{Chart}
 use Rattle.texts.specs.Told.{packed_refusal}
 use Rattle.verdicts.specs.Buffers.{spared}
 use Rattle.services.specs.Charts.{charted_of, Plots}
-use Rattle.services.specs.declared.Charted.{Charted}
-use Rattle.services.specs.declared.Charted.TheVariants.{Drawn, Stopped, Refused}
+use Rattle.services.specs.declared.Undrawn.{Undrawn}
+use Rattle.services.specs.declared.Undrawn.TheVariants.{Stopped, Refused}
 use Rattle.stil.specs.Interface.{with_room, fronted}
 use Rattle.stil.specs.Charts.{chart_number, chart_told, Sketches}
 
 -- without room for what else is handed out, no call is made
-refused_without : (a : Answer Chart) → (n : ℕ) × (p : ℕ) × (charted_of (spared false a) ≡ Refused n p)
+refused_without : (a : Answer Chart) → (x : Refusal) × (charted_of (spared false a) ≡ Err (Refused x))
 unfolding answering
-refused_without (given x) = (no_room, 0, refl)
-refused_without (refused n p) = (n, p, refl)
+refused_without (given x) = (record { no = no_room; place = 0 }, refl)
+refused_without (refused n p) = (record { no = n; place = p }, refl)
 
-module _ (a : Answer Chart) {times times' letters letters' counts counts' : List ℕ} {r : Charted} (numbers : List ℕ)
+module _ (a : Answer Chart) {times times' letters letters' counts counts' : List ℕ} {r : Result ℕ Undrawn} (numbers : List ℕ)
     (h : Plots (spared (leb 1 (length numbers)) a) times times' letters letters' counts counts' r) where
   answered : r ≡ charted_of (with_room 1 numbers a)
   unfolding with_room
@@ -36,35 +38,35 @@ module _ (a : Answer Chart) {times times' letters letters' counts counts' : List
   sketches e q =
       record {
         number = e ∙ ap chart_number answered;
-        told = q ∙ ap (λ (x : Charted). chart_told x numbers) answered;
+        told = q ∙ ap (λ (x : Result ℕ Undrawn). chart_told x numbers) answered;
         times_are = h.times_are;
         letters_are = h.letters_are;
         counts_are = h.counts_are;
       }
 
-  pub sketch_refused : {n p s : ℕ} → r ≡ Refused n p → s ≡ packed_refusal n p → Sketches a times times' letters letters' counts counts' numbers s numbers
-  sketch_refused e q = sketches (q ∙ sym (ap chart_number e)) (sym (ap (λ (x : Charted). chart_told x numbers) e))
+  pub sketch_refused : {x : Refusal} {s : ℕ} → r ≡ Err (Refused x) → s ≡ packed_refusal x.no x.place → Sketches a times times' letters letters' counts counts' numbers s numbers
+  sketch_refused e q = sketches (q ∙ sym (ap chart_number e)) (sym (ap (λ (x : Result ℕ Undrawn). chart_told x numbers) e))
 
-  pub sketch_stopped : {n p k s : ℕ} {numbers' : List ℕ} → r ≡ Stopped n p k → s ≡ packed_refusal n p → numbers' ≡ fronted (k ∷ []) numbers
+  pub sketch_stopped : {x : Refusal} {k s : ℕ} {numbers' : List ℕ} → r ≡ Err (Stopped x k) → s ≡ packed_refusal x.no x.place → numbers' ≡ fronted (k ∷ []) numbers
       → Sketches a times times' letters letters' counts counts' numbers s numbers'
-  sketch_stopped e q f = sketches (q ∙ sym (ap chart_number e)) (f ∙ sym (ap (λ (x : Charted). chart_told x numbers) e))
+  sketch_stopped e q f = sketches (q ∙ sym (ap chart_number e)) (f ∙ sym (ap (λ (x : Result ℕ Undrawn). chart_told x numbers) e))
 
-  pub sketch_drawn : {k : ℕ} {numbers' : List ℕ} → r ≡ Drawn k → numbers' ≡ fronted (k ∷ []) numbers
+  pub sketch_drawn : {k : ℕ} {numbers' : List ℕ} → r ≡ Ok k → numbers' ≡ fronted (k ∷ []) numbers
       → Sketches a times times' letters letters' counts counts' numbers 0 numbers'
-  sketch_drawn e f = sketches (sym (ap chart_number e)) (f ∙ sym (ap (λ (x : Charted). chart_told x numbers) e))
+  sketch_drawn e f = sketches (sym (ap chart_number e)) (f ∙ sym (ap (λ (x : Result ℕ Undrawn). chart_told x numbers) e))
 
   -- where calls were made there is room for a number
-  called_room : ((n p : ℕ) → r ≡ Refused n p → ⊥) → 1 ≤ length numbers
+  called_room : ((x : Refusal) → r ≡ Err (Refused x) → ⊥) → 1 ≤ length numbers
   called_room z = by (leb 1 (length numbers)) refl
     where
       by : (y : Bool) → leb 1 (length numbers) ≡ y → 1 ≤ length numbers
       by true t = leb-true 1 (length numbers) t
       by false t =
           let f = refused_without a in
-          absurd (z f.0 f.1 (h.answers ∙ ap (λ (y : Bool). charted_of (spared y a)) t ∙ f.2))
+          absurd (z f.0 (h.answers ∙ ap (λ (y : Bool). charted_of (spared y a)) t ∙ f.1))
 
-  pub stopped_room : {n p k : ℕ} → r ≡ Stopped n p k → 1 ≤ length numbers
-  stopped_room e = called_room (λ n p q. (let z : ◌≡◌ {A = ℕ} 0 1 = cc in omega arith))
+  pub stopped_room : {x : Refusal} {k : ℕ} → r ≡ Err (Stopped x k) → 1 ≤ length numbers
+  stopped_room e = called_room (λ n q. (let z : ◌≡◌ {A = ℕ} 0 1 = cc in omega arith))
 
-  pub drawn_room : {k : ℕ} → r ≡ Drawn k → 1 ≤ length numbers
-  drawn_room e = called_room (λ n p q. (let z : ◌≡◌ {A = ℕ} 0 1 = cc in omega arith))
+  pub drawn_room : {k : ℕ} → r ≡ Ok k → 1 ≤ length numbers
+  drawn_room e = called_room (λ n q. (let z : ◌≡◌ {A = ℕ} 0 1 = cc in omega arith))

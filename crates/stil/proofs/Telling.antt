@@ -7,12 +7,14 @@ use mathlib.Core.List.{List, [], ◌∷◌}
 use lib.Dec.{leb}
 use lib.ListN.{length}
 use borrow.Author.Tests.{leb-true}
+use Rattle.std.specs.Prelude.{Result, Ok, Err}
+use Rattle.tokens.specs.declared.Refusal.{Refusal}
 use Rattle.tokens.specs.Refusals.{text_most}
 use Rattle.texts.specs.Told.{packed_refusal}
 use Rattle.fails.specs.Fails.{Told, answers, refuses, Failed}
 use Rattle.fails.specs.Service.{told_of, spared_told, Reports}
-use Rattle.fails.specs.declared.Failures.{Failures}
-use Rattle.fails.specs.declared.Failures.TheVariants.{Answers, Refused, ReportRefused}
+use Rattle.fails.specs.declared.Unanswered.{Unanswered}
+use Rattle.fails.specs.declared.Unanswered.TheVariants.{Text, Report}
 use Rattle.stil.specs.Interface.{fronted}
 use Rattle.stil.specs.Reports.{report_refusal, report_number, report_count, Replies}
 
@@ -29,25 +31,25 @@ unfolding spared_told
 never_answered (answers y) e = let z : ◌≡◌ {A = ℕ} 0 1 = cc in absurd (omega arith)
 never_answered (refuses its n p) e = let z : ◌≡◌ {A = ℕ} 0 1 = cc in absurd (omega arith)
 
-module _ (a : Told Failed) {c c' s s' l l' : List ℕ} {r : Failures} (numbers : List ℕ) (h : Reports (spared_told (leb 1 (length numbers)) a) c c' s s' l l' r) where
+module _ (a : Told Failed) {c c' s s' l l' : List ℕ} {r : Result ℕ Unanswered} (numbers : List ℕ) (h : Reports (spared_told (leb 1 (length numbers)) a) c c' s s' l l' r) where
   abbrev given : Told Failed
   given = spared_told (leb 1 (length numbers)) a
 
   tells : {n : ℕ} {numbers' : List ℕ} → n ≡ report_number given → numbers' ≡ report_count given numbers → Replies a c c' s s' l l' numbers n numbers'
   tells e q = record { number = e; told = q; cycles_are = h.cycles_are; signals_are = h.signals_are; letters_are = h.letters_are }
 
-  is : {x : Failures} → r ≡ x → told_of x c' s' l' ≡ given
-  is e = ap (λ (y : Failures). told_of y c' s' l') (sym e) ∙ h.told
+  is : {x : Result ℕ Unanswered} → r ≡ x → told_of x c' s' l' ≡ given
+  is e = ap (λ (y : Result ℕ Unanswered). told_of y c' s' l') (sym e) ∙ h.told
 
-  pub tells_refused : {n p k : ℕ} → r ≡ Refused n p → k ≡ packed_refusal n p → Replies a c c' s s' l l' numbers k numbers
+  pub tells_refused : {x : Refusal} {k : ℕ} → r ≡ Err (Text x) → k ≡ packed_refusal x.no x.place → Replies a c c' s s' l l' numbers k numbers
   unfolding report_number report_count
   tells_refused e q = tells (q ∙ ap report_number (is e)) (ap (λ (y : Told Failed). report_count y numbers) (is e))
 
-  pub tells_of : {n p k : ℕ} → r ≡ ReportRefused n p → k ≡ report_refusal n p → Replies a c c' s s' l l' numbers k numbers
+  pub tells_of : {x : Refusal} {k : ℕ} → r ≡ Err (Report x) → k ≡ report_refusal x.no x.place → Replies a c c' s s' l l' numbers k numbers
   unfolding report_number report_count
   tells_of e q = tells (q ∙ ap report_number (is e)) (ap (λ (y : Told Failed). report_count y numbers) (is e))
 
-  module _ {n : ℕ} (e : r ≡ Answers n) where
+  module _ {n : ℕ} (e : r ≡ Ok n) where
     pub tells_room : 1 ≤ length numbers
     tells_room = by (leb 1 (length numbers)) refl
       where

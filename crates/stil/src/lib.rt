@@ -24,37 +24,43 @@ ghost use Rattle.stil.specs.Saves.{Restores};
 ghost use Rattle.stil.specs.Folds.{Flattens};
 ghost use Rattle.stil.specs.Reports.{report_refusal, Replies};
 
+use fails::Unanswered;
 use intake::{Intake, Progress};
-use services::{Belonging, Charted, Checked, Holding, Indexed, Located, Saved};
-use tokens::TEXT_MOST;
-use views::Shown;
+use services::Undrawn;
+use tokens::{Refusal, TEXT_MOST};
 use words::NO_ROOM;
 
 // A refusal as one number: 32 times its place and its number.
-fn pack(no: u8, place: usize) -> u64
-    ensures { result ≡ packed_refusal no place }
+fn pack(refusal: Refusal) -> u64
+    ensures { result ≡ packed_refusal refusal.no refusal.place }
 {
-    if place <= TEXT_MOST {
-        return place as u64 * 32 + no as u64;
+    if refusal.place <= TEXT_MOST {
+        return refusal.place as u64 * 32 + refusal.no as u64;
     }
-    no as u64
+    refusal.no as u64
 }
+
+// A buffer has no room for its part.
+const FULL: Refusal = Refusal {
+    no: NO_ROOM,
+    place: 0,
+};
 
 // Check: signals, tables, listed patterns, cycles and the size of the run. A buffer of less than five numbers is 19.
 pub fn lutemeteor_check(text: &[u8], numbers: &mut [u64]) -> u64
     ensures { Hands 5 five_of (check_of text.now) numbers.old result numbers.new }
 {
     match services::check(text) {
-        Checked::Refused(n, p) => pack(n, p),
-        Checked::Counted(a, b, c, d, e) => {
+        Err(refusal) => pack(refusal),
+        Ok(counts) => {
             if numbers.len() < 5 {
-                return pack(NO_ROOM, 0);
+                return pack(FULL);
             }
-            numbers[0] = a as u64;
-            numbers[1] = b as u64;
-            numbers[2] = c as u64;
-            numbers[3] = d as u64;
-            numbers[4] = e as u64;
+            numbers[0] = counts.signals as u64;
+            numbers[1] = counts.tables as u64;
+            numbers[2] = counts.listed as u64;
+            numbers[3] = counts.cycles as u64;
+            numbers[4] = counts.size as u64;
             0
         }
     }
@@ -65,15 +71,8 @@ pub fn lutemeteor_name(text: &[u8], table: u8, number: usize, numbers: &mut [u64
     ensures { Hands 2 two_of (name_of text.now (which_of (not (eqb table 0))) number) numbers.old result numbers.new }
 {
     match services::name(text, table != 0, number) {
-        Located::Refused(n, p) => pack(n, p),
-        Located::Found(at, length) => {
-            if numbers.len() < 2 {
-                return pack(NO_ROOM, 0);
-            }
-            numbers[0] = at as u64;
-            numbers[1] = length as u64;
-            0
-        }
+        Err(refusal) => pack(refusal),
+        Ok(name) => hand_two(name.at, name.length, numbers),
     }
 }
 
@@ -89,10 +88,10 @@ pub fn lutemeteor_window(
     ensures { Opens (window_of text.now first wanted mark buffer.old) buffer.old buffer.new numbers.old result numbers.new }
 {
     match views::viewed(text, first, wanted, mark, 2 <= numbers.len(), buffer) {
-        Shown::Refused(n, p) => pack(n, p),
-        Shown::Rows(count, visits) => {
-            numbers[0] = count as u64;
-            numbers[1] = visits as u64;
+        Err(refusal) => pack(refusal),
+        Ok(rows) => {
+            numbers[0] = rows.count as u64;
+            numbers[1] = rows.visits as u64;
             0
         }
     }
@@ -112,20 +111,20 @@ pub fn lutemeteor_waveform(
 {
     let mut ts = [0u64; waves::EVENTS];
     let mut ls = [0u8; waves::EVENTS];
-    let e = services::events(text, table, signal, char, &mut ts, &mut ls);
-    if e.no != 0 {
-        return pack(e.no, e.place);
+    match services::events(text, table, signal, char, &mut ts, &mut ls) {
+        Err(refusal) => pack(refusal),
+        Ok(due) => {
+            if count.len() < 1 {
+                return pack(FULL);
+            }
+            if (times.len() < due) | (letters.len() < due) {
+                return pack(FULL);
+            }
+            charts::put(&ts, &ls, due, times, letters);
+            count[0] = due as u64;
+            0
+        }
     }
-    if count.len() < 1 {
-        return pack(NO_ROOM, 0);
-    }
-    let due = e.count;
-    if (times.len() < due) | (letters.len() < due) {
-        return pack(NO_ROOM, 0);
-    }
-    charts::put(&ts, &ls, due, times, letters);
-    count[0] = due as u64;
-    0
 }
 
 // Waveforms by the list: what `waveforms` writes; and how many events there are, or where one was refused how many were served before it. A buffer without
@@ -141,12 +140,12 @@ pub fn lutemeteor_waveforms(
     ensures { Sketches (waveforms_of text.now asked.now times.old letters.old counts.old) times.old times.new letters.old letters.new counts.old counts.new numbers.old result numbers.new }
 {
     match services::plotted(text, asked, 1 <= numbers.len(), times, letters, counts) {
-        Charted::Refused(n, p) => pack(n, p),
-        Charted::Stopped(n, p, served) => {
+        Err(Undrawn::Refused(refusal)) => pack(refusal),
+        Err(Undrawn::Stopped(refusal, served)) => {
             numbers[0] = served as u64;
-            pack(n, p)
+            pack(refusal)
         }
-        Charted::Drawn(events) => {
+        Ok(events) => {
             numbers[0] = events as u64;
             0
         }
@@ -158,7 +157,7 @@ fn hand_two(first: usize, second: usize, numbers: &mut [u64]) -> u64
     ensures { Hands 2 two_of (given (first, second)) numbers.old result numbers.new }
 {
     if numbers.len() < 2 {
-        return pack(NO_ROOM, 0);
+        return pack(FULL);
     }
     numbers[0] = first as u64;
     numbers[1] = second as u64;
@@ -170,8 +169,8 @@ pub fn lutemeteor_index(text: &[u8], buffer: &mut [u8], numbers: &mut [u64]) -> 
     ensures { Writes (index_of text.now buffer.old) buffer.old buffer.new numbers.old result numbers.new }
 {
     match services::write_index(text, 1 <= numbers.len(), buffer) {
-        Indexed::Refused(n, p) => pack(n, p),
-        Indexed::Written(length) => {
+        Err(refusal) => pack(refusal),
+        Ok(length) => {
             numbers[0] = length as u64;
             0
         }
@@ -183,8 +182,8 @@ pub fn lutemeteor_belongs(text: &[u8], bytes: &[u8]) -> u64
     ensures { result ≡ packed (belongs_to text.now bytes.now) }
 {
     match services::belongs(text, bytes) {
-        Belonging::Refused(n, p) => pack(n, p),
-        Belonging::Belongs => 0,
+        Err(refusal) => pack(refusal),
+        Ok(()) => 0,
     }
 }
 
@@ -193,9 +192,9 @@ pub fn lutemeteor_holds(text: &[u8], bytes: &[u8], cycle: usize, numbers: &mut [
     ensures { Hands 2 holder_two (holds_in text.now bytes.now cycle) numbers.old result numbers.new }
 {
     match services::holds(text, bytes, cycle) {
-        Holding::Refused(n, p) => pack(n, p),
-        Holding::NoPattern => hand_two(0, 0, numbers),
-        Holding::Pattern(k) => hand_two(1, k, numbers),
+        Err(refusal) => pack(refusal),
+        Ok(None) => hand_two(0, 0, numbers),
+        Ok(Some(k)) => hand_two(1, k, numbers),
     }
 }
 
@@ -204,8 +203,8 @@ pub fn lutemeteor_save(text: &mut [u8], spans: &mut [u64], numbers: &mut [u64]) 
     ensures { Restores (save_of text.old spans.old) text.old text.new spans.old spans.new numbers.old result numbers.new }
 {
     match services::save_text(text, 1 <= numbers.len(), spans) {
-        Saved::Refused(n, p) => pack(n, p),
-        Saved::Spans(count) => {
+        Err(refusal) => pack(refusal),
+        Ok(count) => {
             numbers[0] = count as u64;
             0
         }
@@ -217,8 +216,8 @@ pub fn lutemeteor_fold(text: &[u8], folded: &mut [u8], numbers: &mut [u64]) -> u
     ensures { Flattens (fold_of text.now folded.old) folded.old folded.new numbers.old result numbers.new }
 {
     match flats::fold_text(text, 1 <= numbers.len(), folded) {
-        flats::Folded::Refused(n, p) => pack(n, p),
-        flats::Folded::Text(length) => {
+        Err(refusal) => pack(refusal),
+        Ok(length) => {
             numbers[0] = length as u64;
             0
         }
@@ -229,10 +228,10 @@ pub fn lutemeteor_fold(text: &[u8], folded: &mut [u8], numbers: &mut [u64]) -> u
 const OF_REPORT: u64 = 4_294_967_296;
 
 // A refusal of a fail report as one number.
-fn pack_report(no: u8, place: usize) -> u64
-    ensures { result ≡ report_refusal no place }
+fn pack_report(refusal: Refusal) -> u64
+    ensures { result ≡ report_refusal refusal.no refusal.place }
 {
-    OF_REPORT + pack(no, place)
+    OF_REPORT + pack(refusal)
 }
 
 // A fail report: for each offset the run's cycle, the signal's number and the letter, 0 for none; and how many there are. A buffer without room for its part is
@@ -248,9 +247,9 @@ pub fn lutemeteor_report<'a>(
     ensures { Replies (fails_of text.now report.now (rows_of cycles.old signals.old letters.old)) cycles.old cycles.new signals.old signals.new letters.old letters.new numbers.old result numbers.new }
 {
     match fails::answer_report(text, report, 1 <= numbers.len(), cycles, signals, letters) {
-        fails::Failures::Refused(n, p) => pack(n, p),
-        fails::Failures::ReportRefused(n, p) => pack_report(n, p),
-        fails::Failures::Answers(n) => {
+        Err(Unanswered::Text(refusal)) => pack(refusal),
+        Err(Unanswered::Report(refusal)) => pack_report(refusal),
+        Ok(n) => {
             numbers[0] = n as u64;
             0
         }
@@ -262,7 +261,7 @@ fn hand_three(first: usize, second: usize, third: usize, numbers: &mut [u64]) ->
     ensures { Hands 3 three_of (given (first, second, third)) numbers.old result numbers.new }
 {
     if numbers.len() < 3 {
-        return pack(NO_ROOM, 0);
+        return pack(FULL);
     }
     numbers[0] = first as u64;
     numbers[1] = second as u64;
@@ -276,9 +275,9 @@ pub fn lutemeteor_token(text: &[u8], at: usize, numbers: &mut [u64]) -> u64
     ensures { Hands 3 three_of (token_of (next_token text.now at)) numbers.old result numbers.new }
 {
     match tokens::next_token(text, at) {
-        tokens::Step::Refused(n, p) => pack(n, p),
-        tokens::Step::Nothing => hand_three(0, 0, 0, numbers),
-        tokens::Step::Token(p, l) => hand_three(1, p, l, numbers),
+        Err(refusal) => pack(refusal),
+        Ok(None) => hand_three(0, 0, 0, numbers),
+        Ok(Some(token)) => hand_three(1, token.at, token.length, numbers),
     }
 }
 
@@ -288,7 +287,7 @@ pub fn lutemeteor_line(text: &[u8], place: usize, numbers: &mut [u64]) -> u64
 {
     let p = columns::position_of(text, place);
     if numbers.len() < 2 {
-        return pack(NO_ROOM, 0);
+        return pack(FULL);
     }
     numbers[0] = p.line as u64;
     numbers[1] = p.column as u64;
@@ -397,7 +396,7 @@ pub fn lutemeteor_intake(state: &mut [u64], chunk: &[u8], store: &mut [u8]) -> u
     ensures { Carries (λ p s. chunked p chunk.now s) state.old store.old result state.new store.new }
 {
     if state.len() < STATE {
-        return pack(NO_ROOM, 0);
+        return pack(FULL);
     }
     let p = progress_of(state[0], state[1], state[2], state[3], state[4], state[5]);
     let answer = intake::take(p, chunk, store);
@@ -409,7 +408,7 @@ pub fn lutemeteor_intake_close(state: &mut [u64], store: &mut [u8]) -> u64
     ensures { Carries closed_of state.old store.old result state.new store.new }
 {
     if state.len() < STATE {
-        return pack(NO_ROOM, 0);
+        return pack(FULL);
     }
     let p = progress_of(state[0], state[1], state[2], state[3], state[4], state[5]);
     let answer = intake::close(p, store);

@@ -3,7 +3,7 @@
 
 mod why;
 
-ghost use Rattle.std.specs.Prelude.{◌≡◌, IfOk, length};
+ghost use Rattle.std.specs.Prelude.{◌≡◌, IfOk, IfSome, length};
 ghost use Rattle.streams.specs.Pages.{room_most, raw_room, rows_most};
 ghost use Rattle.streams.specs.Counts.{IsPrefixLen};
 
@@ -68,22 +68,6 @@ pub fn rows() -> [u8; ROWS]
     [0; ROWS]
 }
 
-// Was the text read to its end, or to the buffer's? Then so many bytes stand at the buffer's front.
-#[derive(Clone, Copy)]
-pub struct Text {
-    pub read: bool,
-    pub length: usize,
-}
-
-fn unread() -> Text
-    ensures { result.length ≡ 0 }
-{
-    Text {
-        read: false,
-        length: 0,
-    }
-}
-
 // So many bytes stand at the buffer's front; or why the reading failed.
 pub fn fill(from: &mut impl Read, text: &mut [u8]) -> io::Result<usize>
     ensures { IfOk result (λ n. IsPrefixLen n text.new) }
@@ -99,14 +83,11 @@ pub fn fill(from: &mut impl Read, text: &mut [u8]) -> io::Result<usize>
     Ok(done)
 }
 
-// A read that fails in the middle is a text that cannot be read, never a shorter one.
-pub fn read(from: &mut impl Read, text: &mut [u8]) -> Text
-    ensures { IsPrefixLen result.length text.new }
+// So many bytes stand at the buffer's front. A read that fails in the middle is a text that cannot be read, never a shorter one.
+pub fn read(from: &mut impl Read, text: &mut [u8]) -> Option<usize>
+    ensures { IfSome result (λ n. IsPrefixLen n text.new) }
 {
-    match fill(from, text) {
-        Ok(length) => Text { read: true, length },
-        Err(_) => unread(),
-    }
+    fill(from, text).ok()
 }
 
 // ---- pages to standard output and standard error

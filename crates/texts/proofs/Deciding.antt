@@ -26,10 +26,9 @@ use Rattle.measures.specs.Measures.{Measures}
 use Rattle.measures.proofs.Within.{size_within, cycles_within}
 use Rattle.bursts.proofs.Entries.{listed_length}
 use Rattle.texts.specs.Texts.{Sound, sound, counts_of}
-use Rattle.texts.specs.Tables.{Tabled, Reads, NotesRead, Found, Decides, NotesSound}
-use Rattle.texts.specs.Run.{Tells, sound_of, ReadAs}
+use Rattle.texts.specs.Tables.{Tabled, Reads, NotesRead, Found, NotesSound}
+use Rattle.texts.specs.Run.{sound_of, ReadAs}
 use Rattle.texts.specs.declared.Parts.{Parts}
-use Rattle.texts.specs.declared.Total.{Total}
 use Rattle.texts.specs.declared.Verdict.{Verdict}
 use Rattle.texts.proofs.Sounds.{sound_fault, sound_refused, sound_runs}
 
@@ -51,7 +50,7 @@ module _ {text places lists tplaces waves book rows list : List ℕ} {w : Watch}
   Held =
       (d : Read)
       × (length text ≤ text_most → ReadAs text book list r d)
-      × (length text ≤ text_most → r.cursor.no ≡ 0 → Tabled text places lists tplaces waves book rows list r d × Watched text w r.found r.place (table_at d.tables w.table))
+      × (length text ≤ text_most → r.cursor.no ≡ 0 → Tabled text places lists tplaces waves book rows list r d × Watched text w r.sight (table_at d.tables w.table))
 
   nothing : Read
   nothing = record { signals = []; tables = []; listed = []; patterns = [] }
@@ -89,20 +88,14 @@ module _ {text places lists tplaces waves book rows list : List ℕ} {w : Watch}
           absurd (omega arith)
       by false f (some p) g = let q = sym e ∙ sound_fault text g in let z : ◌≡◌ {A = ℕ} 0 1 = cc in absurd (omega arith)
 
-  pub decides : {t : Total} → Tells (sound text) (sound_of held.0) t
-      → Decides text w places lists tplaces waves book rows list (record { no = t.no; place = t.place; parts = r; total = t.measure })
-  decides t =
-      record {
-        refuses = t.refuses;
-        finds = λ z. (
-            let x = t.finds z in
-            let k = held.2 (short_sound text x.1) (read_sound x.1) in
-            record { it = sound_of held.0 x.0; is = x.1; tabled = k.0; measured = x.2; watched = k.1 });
-      }
+  pub decides : {b : Body} {m : Measure} → sound text ≡ given (sound_of held.0 b) → Measures b m
+      → Found text w places lists tplaces waves book rows list (record { parts = r; total = m })
+  decides {b} e m =
+      let k = held.2 (short_sound text e) (read_sound e) in
+      record { it = sound_of held.0 b; is = e; tabled = k.0; measured = m; watched = k.1 }
 
   -- what was noted of it is noted of what is left
-  pub notes_sound : {used : List ℕ} {t : Total} → (length text ≤ text_most → NotesRead text used r)
-      → NotesSound text used (record { no = t.no; place = t.place; parts = r; total = t.measure })
+  pub notes_sound : {used : List ℕ} {m : Measure} → (length text ≤ text_most → NotesRead text used r) → NotesSound text used (record { parts = r; total = m })
   notes_sound n = record { noted = λ x e. (let k = sound_runs text e in (n (short_sound text e)).noted (read_sound e) x.read k.rest k.read) }
 
 -- ---- the numbers that are told

@@ -12,9 +12,7 @@ use Rattle.meaning.specs.Body.{Body}
 use Rattle.meaning.specs.Document.{Read, document}
 use Rattle.meaning.specs.Meaning.{Answer, given, refused, answering, run_of, fitting}
 use Rattle.texts.specs.Texts.{Sound, sized, runnable, sound}
-use Rattle.texts.specs.Run.{Refuses, Tells, sound_of}
-use Rattle.texts.specs.declared.Total.{Total}
-use Rattle.texts.proofs.Ends.{fault_some}
+use Rattle.texts.specs.Run.{sound_of}
 
 module _ (text : List ℕ) where
   pub sound_fault : {n p : ℕ} → fault_of text ≡ some (n, p) → sound text ≡ refused n p
@@ -81,17 +79,3 @@ sound_runs text {x} e = by_fault (fault_of text) e
         → ◌≡◌ {A = Answer Sound} (elim o [ some f ↦ refused f.0 f.1 | none ↦ runnable (document (toks text 0)) ]) (given x) → Runs text x
     by_fault none e = by_read (document (toks text 0)) refl e
     by_fault (some f) e = let z : ◌≡◌ {A = ℕ} 0 1 = cc in absurd (omega arith)
-
--- ---- as the code tells it
-
-pub told_refused : {A : Type 0} {a : Answer A} {f : Body → A} {n p : ℕ} {r : Total} → Refuses n p r → a ≡ refused n p → (n ≡ 0 → ⊥) → Tells a f r
-told_refused {A} {a} h e z =
-    record { refuses = λ k. rw (h.no_is, h.place_is) e; finds = λ k. absurd (z (sym h.no_is ∙ k)) }
-
--- a text with a fault in its bytes; one that could not be read
-pub told_fault : (text : List ℕ) {n p : ℕ} {f : Body → Sound} {r : Total} → Refuses n p r → fault_of text ≡ some (n, p) → Tells (sound text) f r
-told_fault text {n} {p} h e = told_refused h (sound_fault text e) (fault_some text n p e)
-
-pub told_unread : (text : List ℕ) {n p : ℕ} {f : Body → Sound} {r : Total} → Refuses n p r → fault_of text ≡ none → document (toks text 0) ≡ refuse n p
-    → (n ≡ 0 → ⊥) → Tells (sound text) f r
-told_unread text h e d z = told_refused h (sound_refused text e d) z

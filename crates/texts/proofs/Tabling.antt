@@ -2,7 +2,8 @@
 use Prim.Native.Nat.{ℕ, ◌*◌}
 use native.Mathlib.Omega.{arith}
 use mathlib.Core.Path.{◌≡◌, refl, sym, ap, ◌∙◌, subst}
-use mathlib.Core.Bool.{Bool, true, false, true≢false}
+use Rattle.std.proofs.Common.{Option as Maybe}
+use mathlib.Core.Bool.{true, false, true≢false}
 use mathlib.Core.List.{List, []}
 use lib.ListN.{length}
 use borrow.Author.Tests.{eq-eqb, ne_eqb}
@@ -47,7 +48,7 @@ whole_from {text} {c} s g = g.same ∙ from_on text c blocks (eq-eqb c.no 0 s.on
 pub reads_from : {text places lists tplaces waves book rows list : List ℕ} {w : Watch} {c : Cursor} {r : Parts} {d : Read} → Stands text 0 c
     → Goes text c blocks r.cursor d
     → (alive r.cursor ≡ true → Tabled text places lists tplaces waves book rows list r d
-    × Watched text w r.found r.place (table_at d.tables w.table))
+    × Watched text w r.sight (table_at d.tables w.table))
     → Reads text w places lists tplaces waves book rows list r
 unfolding give
 reads_from {text} {r = r} {d = d} s g h =
@@ -82,8 +83,8 @@ refused_from : {text places lists tplaces waves book rows list : List ℕ} {w : 
     → Goes text c blocks b nothing → r ≡ stopped_at b k → alive b ≡ false → Reads text w places lists tplaces waves book rows list r
 refused_from {b = b} {k = k} s g e off = rw e (reads_from {r = stopped_at b k} s g (λ live. absurd (true≢false (sym live ∙ off))))
 
-module _ {text places lists tplaces waves : List ℕ} {c a : Cursor} {signals names tables : ℕ} {w : Watch} {found : Bool} {place : ℕ} (s : Stands text 0 c)
-    (d : Declares text c a places lists tplaces waves signals names tables w found place) where
+module _ {text places lists tplaces waves : List ℕ} {c a : Cursor} {signals names tables : ℕ} {w : Watch} {sight : Maybe ℕ} (s : Stands text 0 c)
+    (d : Declares text c a places lists tplaces waves signals names tables w sight) where
   abbrev ss : Names
   ss = names_of text places lists signals
 
@@ -149,7 +150,7 @@ module _ {text places lists tplaces waves : List ℕ} {c a : Cursor} {signals na
         pub reads_all : {book' rows' list used' : List ℕ} {n : Ended} → length waves ≡ tables_most * table_size
             → Makes text b (ending f.it) n.cursor (Ends text places lists tplaces book' rows' list known n f.it used used')
             → Reads text w places lists tplaces waves book' rows' list
-            (record { cursor = n.cursor; signals = signals; known = n.known; listed = n.listed; patterns = n.patterns; found = found; place = place })
+            (record { cursor = n.cursor; signals = signals; known = n.known; listed = n.listed; patterns = n.patterns; sight = sight })
         unfolding blocks parts_of Listed
         reads_all {book' = book'} {rows' = rows'} {n = n} long g =
             reads_from s (then _ d.goes (then _ f.goes (then _ g.goes given)))
@@ -178,10 +179,10 @@ module _ {text places lists tplaces waves : List ℕ} {c a : Cursor} {signals na
             ))
 
         -- and all that it assigns is noted: no body is known before the first
-        pub notes_all : {book' rows' list used' : List ℕ} {n : Ended} {found : Bool} {place : ℕ}
+        pub notes_all : {book' rows' list used' : List ℕ} {n : Ended} {sight : Maybe ℕ}
             → Makes text b (ending f.it) n.cursor (Ends text places lists tplaces book' rows' list known n f.it used used')
             → NotesRead text used'
-            (record { cursor = n.cursor; signals = signals; known = n.known; listed = n.listed; patterns = n.patterns; found = found; place = place })
+            (record { cursor = n.cursor; signals = signals; known = n.known; listed = n.listed; patterns = n.patterns; sight = sight })
         unfolding blocks All
         notes_all g =
             notes_from s (then _ d.goes (then _ f.goes (then _ g.goes given)))

@@ -1,28 +1,23 @@
 -- What the code says of the run: a refusal, or the run's measure.
-use Rattle.std.specs.Prelude.{ℕ, ◌≡◌, List, length}
+use Rattle.std.specs.Prelude.{ℕ, ◌≡◌, List, length, Result, Ok, Err}
 use Rattle.tokens.specs.Tokens.{toks}
+use Rattle.tokens.specs.declared.Refusal.{Refusal}
 use Rattle.meaning.specs.Reader.{ok, refuse}
-use Rattle.meaning.specs.Body.{Body, done}
+use Rattle.meaning.specs.Body.{Body}
 use Rattle.meaning.specs.Document.{Read, document}
 use Rattle.meaning.specs.Meaning.{Answer, given, refused}
 use Rattle.words.specs.Cursor.{stream}
+use Rattle.measures.specs.declared.Measure.{Measure}
 use Rattle.measures.specs.Measures.{Measures}
 use Rattle.measures.specs.Book.{first_pattern, Entry, Listed}
 use Rattle.bursts.specs.Listed.{listed_in}
 use Rattle.texts.specs.Texts.{Sound}
 use Rattle.texts.specs.declared.Parts.{Parts}
-use Rattle.texts.specs.declared.Total.{Total}
 
--- an answer of which the code has the refusal, or the measure of a run
-pub record Tells {A : Type 0} (a : Answer A) (f : Body → A) (r : Total) : Type 0 where
-  pub refuses : (r.no ≡ 0 → ⊥) → a ≡ refused r.no r.place
-  pub finds : r.no ≡ 0 → (b : Body) × (a ≡ given (f b)) × Measures b r.measure
-
--- it is refused
-pub record Refuses (no place : ℕ) (r : Total) : Type 0 where
-  pub no_is : r.no ≡ no
-  pub place_is : r.place ≡ place
-  pub measured : Measures done r.measure
+-- an answer of which the code has the measure of a run, or the refusal
+abbrev pub Tells : {A : Type 0} → Answer A → (Body → A) → Result Measure Refusal → Type 0
+Tells a f (Ok m) = (b : Body) × (a ≡ given (f b)) × Measures b m
+Tells a f (Err r) = a ≡ refused r.no r.place
 
 -- a text that was read, with its run
 abbrev pub sound_of : Read → Body → Sound

@@ -1,6 +1,7 @@
 -- What the code's tables hold of a text that was read, and what is promised of the readers of whole texts.
-use Rattle.std.specs.Prelude.{ℕ, ◌*◌, ◌≤◌, ◌≡◌, false, List, length}
+use Rattle.std.specs.Prelude.{ℕ, ◌*◌, ◌≤◌, ◌≡◌, List, length, None, Result, Ok, Err}
 use Rattle.tokens.specs.Tokens.{Toks, toks}
+use Rattle.tokens.specs.declared.Refusal.{Refusal}
 use Rattle.meaning.specs.Bounds.{signals_most, tables_most, patterns_most, list_most}
 use Rattle.meaning.specs.Reader.{ok, refuse}
 use Rattle.meaning.specs.Document.{Read, document}
@@ -43,7 +44,7 @@ pub record Tabled (text places lists tplaces waves book rows list : List ℕ) (r
 
 -- nothing of it was read
 abbrev pub stopped_at : Cursor → Known → Parts
-stopped_at c known = record { cursor = c; signals = 0; known = known; listed = 0; patterns = 0; found = false; place = 0 }
+stopped_at c known = record { cursor = c; signals = 0; known = known; listed = 0; patterns = 0; sight = None }
 
 -- THE PROMISE of the function that reads a whole text: it was refused, or the tables hold it, and the watched waveform is where it is said to be
 pub record Reads (text : List ℕ) (w : Watch) (places lists tplaces waves book rows list : List ℕ) (r : Parts) : Type 0 where
@@ -52,7 +53,7 @@ pub record Reads (text : List ℕ) (w : Watch) (places lists tplaces waves book 
       → (d : Read)
       × (document (toks text 0) ≡ ok d (stream text r.cursor))
       × Tabled text places lists tplaces waves book rows list r d
-      × Watched text w r.found r.place (table_at d.tables w.table)
+      × Watched text w r.sight (table_at d.tables w.table)
 
 -- beside it: all that the patterns of a text assign is noted
 pub record NotesRead (text used : List ℕ) (r : Parts) : Type 0 where
@@ -64,13 +65,13 @@ pub record Found (text : List ℕ) (w : Watch) (places lists tplaces waves book 
   pub is : sound text ≡ given it
   pub tabled : Tabled text places lists tplaces waves book rows list r.parts it.read
   pub measured : Measures it.run r.total
-  pub watched : Watched text w r.parts.found r.parts.place (table_at it.read.tables w.table)
+  pub watched : Watched text w r.parts.sight (table_at it.read.tables w.table)
 
--- THE PROMISE of the function that decides 1 to 16 and fills the tables
-pub record Decides (text : List ℕ) (w : Watch) (places lists tplaces waves book rows list : List ℕ) (r : Verdict) : Type 0 where
-  pub refuses : (r.no ≡ 0 → ⊥) → sound text ≡ refused r.no r.place
-  pub finds : r.no ≡ 0 → Found text w places lists tplaces waves book rows list r
-
--- beside it: all that the patterns of a text that 1 to 16 leave assign is noted
+-- all that its patterns assign is noted
 pub record NotesSound (text used : List ℕ) (r : Verdict) : Type 0 where
   pub noted : (x : Sound) → sound text ≡ given x → AllNoted r.parts.known.tables used x.read.patterns
+
+-- THE PROMISE of the function that decides 1 to 16 and fills the tables
+abbrev pub Decides : (text : List ℕ) → Watch → (places lists tplaces waves book rows list used : List ℕ) → Result Verdict Refusal → Type 0
+Decides text w places lists tplaces waves book rows list used (Ok v) = Found text w places lists tplaces waves book rows list v × NotesSound text used v
+Decides text w places lists tplaces waves book rows list used (Err r) = sound text ≡ refused r.no r.place

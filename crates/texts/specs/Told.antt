@@ -1,15 +1,18 @@
 -- What callers without tables are told: an answer, or for callers in C a number and the numbers of a buffer.
-use Rattle.std.specs.Prelude.{ℕ, ◌+◌, ◌*◌, ◌≡◌, true, false, List, ◌∷◌, length, drop, leb}
+use Rattle.std.specs.Prelude.{ℕ, ◌+◌, ◌*◌, ◌≡◌, true, false, List, ◌∷◌, length, drop, leb, Result}
 use Rattle.tokens.specs.Refusals.{text_most}
+use Rattle.tokens.specs.declared.Refusal.{Refusal}
 use Rattle.meaning.specs.Refusals.{no_room}
 use Rattle.meaning.specs.Meaning.{Answer, given, refused}
+use Rattle.meaning.specs.Results.{answer_of}
 use Rattle.meaning.specs.Services.{Counts}
-use Rattle.texts.specs.declared.Finding.{Finding}
-use Rattle.texts.specs.declared.Finding.TheVariants.{Sound, Refused}
+use Rattle.texts.specs.declared.Counts.{Counts as Five}
 
-abbrev pub decided_of : Finding → Answer Counts
-decided_of (Sound a b c d e) = given (record { signals = a; tables = b; listed = c; cycles = d; size = e })
-decided_of (Refused n p) = refused n p
+abbrev pub counts_in : Five → Counts
+counts_in c = record { signals = c.signals; tables = c.tables; listed = c.listed; cycles = c.cycles; size = c.size }
+
+abbrev pub decided_of : Result Five Refusal → Answer Counts
+decided_of = answer_of counts_in
 
 -- a refusal as one number: 32 times the place and the number. A place lies within the text; one that didn't would not be told
 abbrev pub packed_refusal : ℕ → ℕ → ℕ

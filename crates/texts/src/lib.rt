@@ -8,7 +8,7 @@ ghost use Rattle.meaning.specs.Bounds.{signals_most, patterns_most, list_most};
 ghost use Rattle.meaning.specs.Reader.{refuse};
 ghost use Rattle.meaning.specs.Statements.{Decls, Env};
 ghost use Rattle.meaning.specs.Document.{Read, document as document_due, patterns as patterns_due, pattern as pattern_due};
-ghost use Rattle.meaning.specs.Meaning.{given, answering, run_of};
+ghost use Rattle.meaning.specs.Meaning.{given, refused, answering, run_of};
 ghost use Rattle.words.specs.Cursor.{stop_no};
 ghost use Rattle.timing.specs.Marks.{table_size};
 ghost use Rattle.timing.specs.Makes.{Makes};
@@ -20,14 +20,14 @@ ghost use Rattle.heads.specs.Known.{Describes, Described};
 ghost use Rattle.bursts.specs.Listed.{listed_in, list_length};
 ghost use Rattle.texts.specs.Texts.{sound, counts_of};
 ghost use Rattle.texts.specs.Patterns.{Patterned, Begun, ending as ending_due, Ends};
-ghost use Rattle.texts.specs.Tables.{stopped_at, Reads, NotesRead, Decides, NotesSound};
-ghost use Rattle.texts.specs.Run.{Refuses, Tells, sound_of, Recorded, ReadAs};
+ghost use Rattle.texts.specs.Tables.{stopped_at, Reads, NotesRead, Decides};
+ghost use Rattle.texts.specs.Run.{Tells, sound_of, Recorded, ReadAs};
 ghost use Rattle.texts.specs.Told.{decided_of, Packs};
 
 use heads::Known;
 use measures::{CYCLES_MOST, DEPTH, Measure, SIZE_MOST};
 use timing::Watch;
-use tokens::{TEXT_MOST, TOO_LONG};
+use tokens::{Refusal, TEXT_MOST, TOO_LONG};
 use words::{Cursor, NOT_HERE, TOO_MANY};
 
 // The most patterns of a text.
@@ -40,7 +40,7 @@ const TOO_LARGE: u8 = 16;
 
 const NO_ROOM: usize = words::NO_ROOM as usize;
 
-// The blocks of a text: the cursor behind them, how many there are of what they declare, and where the watched waveform is found.
+// The blocks of a text: the cursor behind them, how many there are of what they declare, and where the watched waveform is.
 #[derive(Clone, Copy)]
 pub struct Parts {
     pub cursor: Cursor,
@@ -48,8 +48,7 @@ pub struct Parts {
     pub known: Known,
     pub listed: usize,
     pub patterns: usize,
-    pub found: bool,
-    pub place: usize,
+    pub sight: Option<usize>,
 }
 
 // How many patterns were read, and the cursor behind them.
@@ -68,19 +67,9 @@ struct Ended {
     known: Known,
 }
 
-// What refuses a text, 0 for nothing, and its place; else the measure of the listed patterns as one run.
-#[derive(Clone, Copy)]
-struct Total {
-    no: u8,
-    place: usize,
-    measure: Measure,
-}
-
-// What was decided: the refusal's number, 0 for none, and its place; the blocks, and the measure of the run.
+// What was decided of a text that is not refused: the blocks, and the measure of the run.
 #[derive(Clone, Copy)]
 pub struct Verdict {
-    pub no: u8,
-    pub place: usize,
     pub parts: Parts,
     pub total: Measure,
 }
@@ -209,8 +198,7 @@ fn stopped(cursor: Cursor, known: Known) -> Parts
         known,
         listed: 0,
         patterns: 0,
-        found: false,
-        place: 0,
+        sight: None,
     }
 }
 
@@ -260,31 +248,20 @@ pub fn document(
         known: inside,
         listed: e.listed,
         patterns: e.patterns,
-        found: d.found,
-        place: d.place,
+        sight: d.sight,
     }
 }
 
 // ---- the run
 
-fn refused(no: u8, place: usize) -> Total
-    ensures { Refuses no place result }
-{
-    Total {
-        no,
-        place,
-        measure: measures::nothing(),
-    }
-}
-
-// The listed patterns in order: the first that is not defined is refused.
+// The measure of the listed patterns as one run: the first that is not defined is refused.
 fn run_of<'a>(
     text: &'a [u8],
     book: &'a [usize],
     list: &'a [usize],
     listed: usize,
     patterns: usize,
-) -> Total
+) -> Result<Measure, Refusal>
     requires { (length book.now ≡ book_length) × (length list.now ≡ list_length) × (listed ≤ list_most) × (patterns ≤ patterns_most) }
     ensures { (ps : Decls) → Listed (Entry text.now book.now) first_pattern ps → length ps ≡ patterns → Tells (run_of ps (listed_in text.now list.now listed)) (λ b. b) result }
 {
@@ -294,28 +271,30 @@ fn run_of<'a>(
     while k < listed {
         let i = words::find(text, words::name_bytes(text, list, k), names, patterns);
         if patterns <= i {
-            return refused(NOT_DEFINED, list[k * 2]);
+            return Err(Refusal {
+                no: NOT_DEFINED,
+                place: list[k * 2],
+            });
         }
         let x = measures::measure_at(book, measures::PATTERNS + i);
         measure = measures::plus(measure, measures::used(0, x));
         k += 1;
     }
-    Total {
-        no: 0,
-        place: 0,
-        measure,
-    }
+    Ok(measure)
 }
 
 // ---- 1 to 16
 
 // What refuses a text that could not be read: a fault of its bytes comes first.
-fn unread(text: &[u8], c: Cursor) -> Total
-    ensures { (c.no ≡ 0 → ⊥) → document_due (toks text.now 0) ≡ refuse c.no c.at → (d : Read) → Tells (sound text.now) (sound_of d) result }
+fn unread(text: &[u8], c: Cursor) -> Refusal
+    ensures { document_due (toks text.now 0) ≡ refuse c.no c.at → sound text.now ≡ refused result.no result.place }
 {
     match tokens::fault_in(text) {
-        tokens::Fault::Clean => refused(c.no, c.at),
-        tokens::Fault::Faulty(n, p) => refused(n, p),
+        Ok(()) => Refusal {
+            no: c.no,
+            place: c.at,
+        },
+        Err(fault) => fault,
     }
 }
 
@@ -327,37 +306,49 @@ fn stop_no(c: Cursor) -> u8
 }
 
 // What refuses a text that was read to its end: a fault where its tokens stop, a listed pattern that isn't there, a run that is too large.
-fn judged<'a>(text: &'a [u8], book: &'a [usize], list: &'a [usize], parts: Parts) -> Total
+fn judged<'a>(
+    text: &'a [u8],
+    book: &'a [usize],
+    list: &'a [usize],
+    parts: Parts,
+) -> Result<Measure, Refusal>
     requires { (length book.now ≡ book_length) × (length list.now ≡ list_length) × (parts.listed ≤ list_most) × (parts.patterns ≤ patterns_most) }
     ensures { length text.now ≤ text_most → (d : Read) → Recorded text.now book.now list.now parts d → Tells (sound text.now) (sound_of d) result }
 {
     let c = parts.cursor;
-    let n = stop_no(c);
-    if n != NOT_HERE {
-        return refused(n, c.at);
+    let no = stop_no(c);
+    if no != NOT_HERE {
+        return Err(Refusal { no, place: c.at });
     }
-    let t = run_of(text, book, list, parts.listed, parts.patterns);
-    if t.no != 0 {
-        return t;
+    let total = run_of(text, book, list, parts.listed, parts.patterns)?;
+    if (total.size <= SIZE_MOST) & (total.cycles <= CYCLES_MOST) {
+        return Ok(total);
     }
-    let m = t.measure;
-    if (m.size <= SIZE_MOST) & (m.cycles <= CYCLES_MOST) {
-        return t;
-    }
-    refused(TOO_LARGE, 0)
+    Err(Refusal {
+        no: TOO_LARGE,
+        place: 0,
+    })
 }
 
-// What refuses a text of which these parts were read.
-fn refusal<'a>(text: &'a [u8], book: &'a [usize], list: &'a [usize], parts: Parts) -> Total
+// The measure of the run of a text of which these parts were read, or what refuses it.
+fn measured<'a>(
+    text: &'a [u8],
+    book: &'a [usize],
+    list: &'a [usize],
+    parts: Parts,
+) -> Result<Measure, Refusal>
     requires { (length book.now ≡ book_length) × (length list.now ≡ list_length) × (length text.now ≤ text_most → parts.cursor.no ≡ 0 → (parts.listed ≤ list_most) × (parts.patterns ≤ patterns_most)) }
     ensures { (d : Read) → (length text.now ≤ text_most → ReadAs text.now book.now list.now parts d) → Tells (sound text.now) (sound_of d) result }
 {
     if TEXT_MOST < text.len() {
-        return refused(TOO_LONG, 0);
+        return Err(Refusal {
+            no: TOO_LONG,
+            place: 0,
+        });
     }
     let c = parts.cursor;
     if c.no != 0 {
-        return unread(text, c);
+        return Err(unread(text, c));
     }
     judged(text, book, list, parts)
 }
@@ -374,35 +365,31 @@ pub fn decide(
     list: &mut [usize],
     watch: Watch,
     used: &mut [u8],
-) -> Verdict
+) -> Result<Verdict, Refusal>
     requires { Blank places.old lists.old tplaces.old waves.old × (length book.old ≡ book_length) × (length rows.old ≡ rows_length) × (length list.old ≡ list_length) × (length used.old ≡ table_size) }
-    ensures { Decides text.now watch places.new lists.new tplaces.new waves.new book.new rows.new list.new result × NotesSound text.now used.new result }
+    ensures { Decides text.now watch places.new lists.new tplaces.new waves.new book.new rows.new list.new used.new result }
 {
     let parts = document(
         text, places, lists, tplaces, waves, book, rows, list, watch, used,
     );
-    let t = refusal(text, book, list, parts);
-    let total = t.measure;
-    Verdict {
-        no: t.no,
-        place: t.place,
-        parts,
-        total,
-    }
+    let total = measured(text, book, list, parts)?;
+    Ok(Verdict { parts, total })
 }
 
 // ---- for a caller without tables
 
+// Signals, tables, listed patterns, cycles, and the size of the run.
 #[derive(Clone, Copy)]
-pub enum Finding {
-    // signals, tables, listed patterns, cycles, size
-    Sound(usize, usize, usize, usize, usize),
-    // the number of the refusal, and the place
-    Refused(u8, usize),
+pub struct Counts {
+    pub signals: usize,
+    pub tables: usize,
+    pub listed: usize,
+    pub cycles: usize,
+    pub size: usize,
 }
 
 // 1 to 16 of any text.
-pub fn decided(text: &[u8]) -> Finding
+pub fn decided(text: &[u8]) -> Result<Counts, Refusal>
     ensures { decided_of result ≡ answering (sound text.now) (λ x. given (counts_of x)) }
 {
     let mut places = [0usize; signals::PLACES];
@@ -429,20 +416,17 @@ pub fn decided(text: &[u8]) -> Finding
         &mut list,
         nothing,
         &mut used,
-    );
-    if v.no != 0 {
-        return Finding::Refused(v.no, v.place);
-    }
+    )?;
     let parts = v.parts;
     let known = parts.known;
     let total = v.total;
-    Finding::Sound(
-        parts.signals,
-        known.tables,
-        parts.listed,
-        total.cycles,
-        total.size,
-    )
+    Ok(Counts {
+        signals: parts.signals,
+        tables: known.tables,
+        listed: parts.listed,
+        cycles: total.cycles,
+        size: total.size,
+    })
 }
 
 // The same for a caller in C or Rust. 0: five numbers stand at the front of the buffer; else 32 times the refusal's place and its number, and the buffer
@@ -452,21 +436,21 @@ pub extern "C" fn lutemeteor_sound(text: &[u8], numbers: &mut [usize]) -> usize
     ensures { Packs (answering (sound text.now) (λ x. given (counts_of x))) numbers.old result numbers.new }
 {
     match decided(text) {
-        Finding::Refused(n, p) => {
-            if p <= TEXT_MOST {
-                return p * 32 + n as usize;
+        Err(refusal) => {
+            if refusal.place <= TEXT_MOST {
+                return refusal.place * 32 + refusal.no as usize;
             }
-            n as usize
+            refusal.no as usize
         }
-        Finding::Sound(a, b, c, d, e) => {
+        Ok(counts) => {
             if numbers.len() < 5 {
                 return NO_ROOM;
             }
-            numbers[0] = a;
-            numbers[1] = b;
-            numbers[2] = c;
-            numbers[3] = d;
-            numbers[4] = e;
+            numbers[0] = counts.signals;
+            numbers[1] = counts.tables;
+            numbers[2] = counts.listed;
+            numbers[3] = counts.cycles;
+            numbers[4] = counts.size;
             0
         }
     }

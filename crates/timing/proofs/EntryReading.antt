@@ -8,6 +8,7 @@ use mathlib.Core.List.{List, [], ◌∷◌, ◌++◌}
 use lib.ListN.{length}
 use lib.Dec.{leb, ltb, eqb}
 use borrow.Author.Tests.{leb-false, not-false}
+use Rattle.std.proofs.Common.{Option as Maybe}
 use Rattle.tokens.specs.Written.{same}
 use Rattle.tokens.specs.Tokens.{Tok, Toks, toks}
 use Rattle.meaning.specs.Bounds.{entry_most}
@@ -34,7 +35,6 @@ use Rattle.timing.specs.Marks.{Marks, mark_among, Marked, Below, AllBelow}
 use Rattle.timing.specs.Parts.{chars_then, Chars}
 use Rattle.timing.specs.Watch.{chars_events, Watched, Noted, looked, Placed}
 use Rattle.timing.specs.declared.Watch.{Watch}
-use Rattle.timing.specs.declared.Sight.{Sight}
 use Rattle.timing.proofs.Making.{made, first, first_then, onward}
 use Rattle.timing.proofs.EventReading.{takes_event}
 use Rattle.timing.proofs.Marking.{taken_marks, marks_more}
@@ -122,8 +122,8 @@ module _ {text : List ℕ} {c d : Cursor} {sigs table : List ℕ} {ws : List Wav
             let z : ◌≡◌ {A = ℕ} 0 1 = cc in
             absurd (omega arith)
 
-    pub entry_reads : {here : Bool} {w : Watch} {s s' : Sight} {after : List ℕ} → Marked table sigs (ahead text c).word after
-        → s' ≡ looked w s sigs (ahead text c).word c.at → (here ≡ true → Watched text w s.found s.place ws)
+    pub entry_reads : {here : Bool} {w : Watch} {s s' : Maybe ℕ} {after : List ℕ} → Marked table sigs (ahead text c).word after
+        → s' ≡ looked w s sigs (ahead text c).word c.at → (here ≡ true → Watched text w s ws)
         → Makes text c (entry sigs ws) r (Noted text here w after s')
     unfolding entry chars_then events
     entry_reads k l o =

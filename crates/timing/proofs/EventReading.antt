@@ -1,8 +1,9 @@
 -- An event as it is read: its time, its letters, `;`, and the two tests on them; and that each event takes a token.
-use Prim.Native.Nat.{ℕ, ◌≤◌, ◌<◌, min}
+use Prim.Native.Nat.{ℕ, suc, ◌≤◌, ◌<◌, min}
 use native.Mathlib.Omega.{arith}
 use mathlib.Core.Path.{◌≡◌, refl, sym, ap, ◌∙◌}
 use mathlib.Core.Bool.{Bool, true, false, not, ◌&&◌}
+use mathlib.Core.Option.{none, some}
 use mathlib.Core.List.{List}
 use lib.ListN.{length}
 use lib.Dec.{eqb, leb}
@@ -10,8 +11,9 @@ use borrow.Author.Tests.{eqb-true, eqb-false, eq-eqb, ne_eqb, leb-true, leb-fals
 use Rattle.tokens.specs.Tokens.{Toks, left}
 use Rattle.meaning.specs.Bounds.{entry_most}
 use Rattle.meaning.specs.Refusals.{too_many, bad_waveform}
-use Rattle.meaning.specs.Reader.{Res, Reader, ok, refuse, ◌>>=◌, refuse_if, due, ahead}
-use Rattle.meaning.specs.Timing.{Events, quoted, Signed, plus, minus, counted_most, time_of, signed_quoted, letters, spread, one_event, event}
+use Rattle.meaning.specs.Reader.{Res, Reader, ok, refuse, ◌>>=◌, refuse_if, due, ahead, give}
+use Rattle.meaning.specs.Names.{known}
+use Rattle.meaning.specs.Timing.{Event, Events, add_events, quoted, Signed, plus, minus, counted_most, time_of, signed_quoted, letters, spread, one_event, event}
 use Rattle.meaning.proofs.Takes.{Takes, Keeps}
 use Rattle.meaning.proofs.Taking.{takes_keeps, takes_due, takes_word, takes_bind, takes_ahead, keeps_bind, keeps_if, keeps_known, keeps_give, keeps_within}
 use Rattle.meaning.proofs.Signs.{gives_signed}
@@ -19,8 +21,8 @@ use Rattle.words.specs.Cursor.{alive, stream, Goes, Checked}
 use Rattle.words.specs.declared.Cursor.{Cursor}
 use Rattle.words.proofs.Flow.{then, given, checked, passed, recast, stays, read, alive_before, refused_by, refused_no}
 use Rattle.timing.specs.Makes.{Makes}
-use Rattle.timing.specs.Events.{all_events, Lettered, Timed, Adding}
-use Rattle.timing.proofs.Making.{either, if_yes, if_no, known_by, made}
+use Rattle.timing.specs.Events.{all_events, Lettered, Timed}
+use Rattle.timing.proofs.Making.{either, if_yes, if_no, made}
 use Rattle.timing.proofs.EventLetters.{takes_letters, gives_letters}
 
 -- ---- the code's tests are the definition's
@@ -85,34 +87,18 @@ module _ {text : List ℕ} {c d₁ d₂ d₃ d₄ : Cursor} {t n m : ℕ} {l : L
     pub event_all : all_events alts.it ≡ true
     event_all = gives_letters.all _ _ _ (read alts.goes (alive_before end behind)).gave
 
-    -- the times rise, or it is refused
-    pub event_reads : {r : Cursor} {right : Bool} {count : ℕ} {least : List ℕ} → Adding n t (spread n alts.it) s right count least
-        → Checked d₄ (not right) bad_waveform d₂.at r → Makes text c (one_event n s) r (Timed n count least)
-    unfolding one_event
-    event_reads {r} {right} {count} {least} a k = by right refl
-      where
-        by : (x : Bool) → right ≡ x → Makes text c (one_event n s) r (Timed n count least)
-        by true e =
-            let w = a.some' e in
-            made
-            (then _ time
-            (then _ alts.goes
-            (then _ end
-            (then _ counts
-            (then _
-            (known_by {a = w.0} k refl (λ h q. let o : false ≡ true = sym (ap not e) ∙ q in let z : ◌≡◌ {A = ℕ} 0 1 = cc in absurd (omega arith)) (λ h q. w.1))
-            given)))))
-            λ h. w.2
-        by false e =
-            made
-            (then _ time
-            (then _ alts.goes
-            (then _ end
-            (then _ counts
-            (then _
-            (known_by {a = s.0} k refl (λ h q. a.none' e) (λ h q. let o : true ≡ false = sym (ap not e) ∙ q in let z : ◌≡◌ {A = ℕ} 0 1 = cc in absurd (omega arith)))
-            given)))))
-            λ h. let o : true ≡ false = sym h ∙ refused_no (rw (ap not e) at k) refl in let z : ◌≡◌ {A = ℕ} 0 1 = cc in absurd (omega arith)
+    -- the times rise
+    pub event_rises : {count : ℕ} {least : List ℕ} {cs : List (List Event)} → add_events t (spread n alts.it) s.0 ≡ some cs → Timed n count least (cs, suc s.1)
+        → Makes text c (one_event n s) d₄ (Timed n count least)
+    unfolding one_event known give
+    event_rises e h = made (then _ time (then _ alts.goes (then _ end (then _ counts (then _ (rw e given) given))))) (λ k. h)
+
+    -- or it is refused
+    pub event_refused : {r : Cursor} {P : Events → Type 0} → add_events t (spread n alts.it) s.0 ≡ none → Checked d₄ true bad_waveform d₂.at r → Makes text c (one_event n s) r P
+    unfolding one_event known
+    event_refused e k =
+        made (then _ time (then _ alts.goes (then _ end (then _ counts (then {a = s.0} _ (rw e (refused_by k refl)) given)))))
+        λ h. let o : true ≡ false = sym h ∙ refused_no k refl in let z : ◌≡◌ {A = ℕ} 0 1 = cc in absurd (omega arith)
 
 -- ---- an event, unless it is one too many
 

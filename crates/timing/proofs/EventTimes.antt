@@ -18,6 +18,7 @@ use Rattle.meaning.specs.Lists.{has, meets}
 use Rattle.meaning.specs.Timing.{Event, Events, drives, compares, alike, rises, add_events, blanks, spread}
 use Rattle.words.proofs.Words.{zeros}
 use Rattle.timing.specs.Events.{is_event, all_events, Lettered, slot, Timed, Adding}
+use Rattle.std.proofs.Common.{Some}
 use Rattle.timing.proofs.EventLetters.{spread_many, spread_real}
 
 -- ---- no events
@@ -251,24 +252,17 @@ module _ {n t : ℕ} {es : List ℕ} {s : Events} {i : ℕ} {least : List ℕ} (
 
 -- all characters have it
 pub upto_all : {n t count count' : ℕ} {es : List ℕ} {s : Events} {i : ℕ} {least least' : List ℕ} → Timed n count least s → length es ≡ n
-    → Upto n t es s i least' → i ≡ n → count' ≡ min entry_most (count + 1) → Adding n t es s true count' least'
-upto_all {n} {t} {count} {count'} {es} {s} {i} {least} {least'} a l u q m =
-    record {
-      some' = λ h. (
-        added (length s.0) t es s.0,
-        add_some t es s.0 (omega (arith, a.chars)) (λ j g. u.rose j (omega (arith, a.chars))),
-        record {
-          sized = u.sized;
-          chars = added_length (length s.0) t es s.0 ∙ a.chars;
-          events = omega (arith, a.events);
-          each = rw a.chars (subst (λ (x : ℕ). (j f w : ℕ) → j < n → is_event f ≡ true → rises w f (get_or (added x t es s.0) j []) ≡ leb (get_or least' (slot f j) 0) w) q u.each);
-        },
-      );
-      none' = λ h. (let z : ◌≡◌ {A = ℕ} 0 1 = cc in absurd (omega arith));
-    }
-
-pub none_added : {n t count : ℕ} {es : List ℕ} {s : Events} {least : List ℕ} → add_events t es s.0 ≡ none → Adding n t es s false count least
-none_added e = record { some' = λ h. (let z : ◌≡◌ {A = ℕ} 0 1 = cc in absurd (omega arith)); none' = λ h. e }
+    → Upto n t es s i least' → i ≡ n → count' ≡ min entry_most (count + 1) → Adding n t es s (Some (record { count = count'; least = least' }))
+upto_all {n} {t} {count} {count'} {es} {s} {i} {least} {least'} a l u q m = (
+  added (length s.0) t es s.0,
+  add_some t es s.0 (omega (arith, a.chars)) (λ j g. u.rose j (omega (arith, a.chars))),
+  record {
+    sized = u.sized;
+    chars = added_length (length s.0) t es s.0 ∙ a.chars;
+    events = omega (arith, a.events);
+    each = rw a.chars (subst (λ (x : ℕ). (j f w : ℕ) → j < n → is_event f ≡ true → rises w f (get_or (added x t es s.0) j []) ≡ leb (get_or least' (slot f j) 0) w) q u.each);
+  },
+)
 
 -- ---- a turn of the code's loop
 

@@ -5,10 +5,11 @@ use native.Mathlib.Numerals.{add-one}
 use mathlib.Core.Path.{◌≡◌, refl, sym, ap, ◌∙◌}
 use mathlib.Core.Bool.{Bool, true, false, ◌&&◌, ◌||◌, and-false, or-true, or-false}
 use mathlib.Core.List.{List, [], ◌∷◌, ◌++◌}
-use lib.ListN.{length, get_or, take, drop, set, drop_of_length-le, length-take, length-drop}
-use lib.Seq.{get_or-set_same, get_or-set_other, take-suc, take_all, take-take}
+use lib.ListN.{length, get_or, take, drop, set, length-take}
+use lib.Seq.{get_or-set_same, get_or-set_other, take-suc, take_all, take-take, drop-drop}
 use lib.Dec.{eqb, ltb, leb}
 use borrow.Author.Tests.{eqb-true, eqb-false, ltb-true, lt-ltb, leb-true, leb-false}
+use Rattle.std.specs.List.{list_any, enumerate_from}
 use Rattle.tokens.specs.Bytes.{digit, letter, between}
 use Rattle.tokens.proofs.Bools.{both, eqb_comm}
 use Rattle.meaning.specs.Bounds.{signals_most}
@@ -16,36 +17,22 @@ use Rattle.meaning.specs.Lists.{has, repeats}
 use Rattle.meaning.specs.Timing.{Event, Wave, wave_char, all_chars, taken, waves_of, waves_for}
 use Rattle.meaning.specs.Meaning.{has_wave}
 use Rattle.meaning.proofs.Lists.{has_append}
-use Rattle.words.proofs.Words.{cut}
-use Rattle.timing.specs.Marks.{chars_most, table_size, mark, Marks, any, mark_among, Marked, Below}
+use Rattle.timing.specs.Marks.{chars_most, table_size, mark, Marks, mark_among, Marked, Below}
 
 -- ---- loops over characters and signals
 
-module _ (f : ℕ → Bool) (w : List ℕ) (i : ℕ) where
-  pub any_here : i < length w → f (get_or w i 0) ≡ true → any f (drop i w) ≡ true
-  unfolding any
-  any_here h e = rw (cut w i h) (rw e)
+pub has_any : (x : ℕ) (l : List ℕ) → list_any (λ y. eqb y x) l ≡ has x l
+unfolding has
+has_any x [] = refl
+has_any x (y ∷ l) = ap (λ (b : Bool). eqb y x || b) (has_any x l)
 
-  pub any_more : i < length w → f (get_or w i 0) ≡ false → any f (drop i w) ≡ any f (drop (i + 1) w)
-  unfolding any
-  any_more h e = rw (cut w i h) (rw e)
-
-  pub any_end : length w ≤ i → any f (drop i w) ≡ false
-  unfolding any
-  any_end h = rw (drop_of_length-le w h)
-
-module _ (w : List ℕ) (i : ℕ) where
-  pub repeats_here : i < length w → has (get_or w i 0) (drop (i + 1) w) ≡ true → repeats (drop i w) ≡ true
-  unfolding repeats
-  repeats_here h e = rw (cut w i h) (rw e)
-
-  pub repeats_more : i < length w → has (get_or w i 0) (drop (i + 1) w) ≡ false → repeats (drop i w) ≡ repeats (drop (i + 1) w)
-  unfolding repeats
-  repeats_more h e = rw (cut w i h) (rw e)
-
-  pub repeats_end : length w ≤ i → repeats (drop i w) ≡ false
-  unfolding repeats
-  repeats_end h = rw (drop_of_length-le w h)
+-- each byte is looked for behind its own place
+pub repeats_any : (w : List ℕ) (n : ℕ) (rest : List ℕ) → drop n w ≡ rest → list_any (λ (p : ℕ × ℕ). has p.1 (drop (p.0 + 1) w)) (enumerate_from n rest) ≡ repeats rest
+unfolding repeats
+repeats_any w n [] e = refl
+repeats_any w n (b ∷ rest) e =
+    let f : drop (n + 1) w ≡ rest = sym (drop-drop 1 n w) ∙ ap (drop 1) e in
+    rw f (ap (λ (x : Bool). has b rest || x) (repeats_any w (n + 1) rest f))
 
 -- ---- letters and digits can have a mark
 
@@ -228,44 +215,42 @@ marks_more {t} {t'} {ws} {sigs} {cs} es a m h =
 
 -- ---- characters that are taken
 
-any_same : (f g : ℕ → Bool) (xs : List ℕ) → ((i : ℕ) → i < length xs → f (get_or xs i 0) ≡ g (get_or xs i 0)) → any f xs ≡ any g xs
-unfolding any
+any_same : (f g : ℕ → Bool) (xs : List ℕ) → ((i : ℕ) → i < length xs → f (get_or xs i 0) ≡ g (get_or xs i 0)) → list_any f xs ≡ list_any g xs
 any_same f g [] h = refl
 any_same f g (x ∷ xs) h =
-    ap (λ (b : Bool). b || any f xs) (h 0 (omega arith)) ∙ ap (λ (b : Bool). g x || b) (any_same f g xs (λ i k. h (suc i) (omega arith)))
+    ap (λ (b : Bool). b || list_any f xs) (h 0 (omega arith)) ∙ ap (λ (b : Bool). g x || b) (any_same f g xs (λ i k. h (suc i) (omega arith)))
 
-any_not : (xs : List ℕ) → any (λ x. false) xs ≡ false
-unfolding any
+any_not : (xs : List ℕ) → list_any (λ x. false) xs ≡ false
 any_not [] = refl
 any_not (x ∷ xs) = any_not xs
 
 -- one waveform more in front
-any_inner : (a : Bool) (q : ℕ) (g : ℕ → Bool) (cs : List ℕ) → any (λ b. a && eqb q b || g b) cs ≡ (a && has q cs || any g cs)
-unfolding any has
+any_inner : (a : Bool) (q : ℕ) (g : ℕ → Bool) (cs : List ℕ) → list_any (λ b. a && eqb q b || g b) cs ≡ (a && has q cs || list_any g cs)
+unfolding has
 any_inner a q g [] = by a
   where
     by : (x : Bool) → false ≡ (x && false || false)
     by true = refl
     by false = refl
 any_inner a q g (c ∷ cs) =
-    ap (λ (x : Bool). (a && eqb q c || g c) || x) (any_inner a q g cs) ∙ ap (λ (x : Bool). (a && x || g c) || (a && has q cs || any g cs)) (eqb_comm q c)
+    ap (λ (x : Bool). (a && eqb q c || g c) || x) (any_inner a q g cs) ∙ ap (λ (x : Bool). (a && x || g c) || (a && has q cs || list_any g cs)) (eqb_comm q c)
     ∙ by a (eqb c q) (g c) (has q cs)
   where
-    by : (x y z v : Bool) → ((x && y || z) || (x && v || any g cs)) ≡ (x && (y || v) || (z || any g cs))
+    by : (x y z v : Bool) → ((x && y || z) || (x && v || list_any g cs)) ≡ (x && (y || v) || (z || list_any g cs))
     by true true z v = refl
     by true false true true = refl
     by true false true false = refl
     by true false false v = refl
     by false y z v = refl
 
-any_outer : (p : ℕ) (h : Bool) (g : ℕ → Bool) (sigs : List ℕ) → any (λ s. eqb p s && h || g s) sigs ≡ (has p sigs && h || any g sigs)
-unfolding any has
+any_outer : (p : ℕ) (h : Bool) (g : ℕ → Bool) (sigs : List ℕ) → list_any (λ s. eqb p s && h || g s) sigs ≡ (has p sigs && h || list_any g sigs)
+unfolding has
 any_outer p h g [] = refl
 any_outer p h g (s ∷ sigs) =
-    ap (λ (x : Bool). (eqb p s && h || g s) || x) (any_outer p h g sigs) ∙ ap (λ (x : Bool). (x && h || g s) || (has p sigs && h || any g sigs)) (eqb_comm p s)
+    ap (λ (x : Bool). (eqb p s && h || g s) || x) (any_outer p h g sigs) ∙ ap (λ (x : Bool). (x && h || g s) || (has p sigs && h || list_any g sigs)) (eqb_comm p s)
     ∙ by (eqb s p) h (g s) (has p sigs)
   where
-    by : (x y z v : Bool) → ((x && y || z) || (v && y || any g sigs)) ≡ ((x || v) && y || (z || any g sigs))
+    by : (x y z v : Bool) → ((x && y || z) || (v && y || list_any g sigs)) ≡ ((x || v) && y || (z || list_any g sigs))
     by true true z v = refl
     by true false z true = refl
     by true false z false = refl
@@ -277,20 +262,16 @@ any_outer p h g (s ∷ sigs) =
     by false false false true = refl
     by false false false false = refl
 
-taken_any : (sigs cs : List ℕ) (ws : List Wave) → any (λ s. any (λ b. has_wave s b ws) cs) sigs ≡ taken sigs cs ws
+taken_any : (sigs cs : List ℕ) (ws : List Wave) → list_any (λ s. list_any (λ b. has_wave s b ws) cs) sigs ≡ taken sigs cs ws
 unfolding taken has_wave
 taken_any sigs cs [] = any_same _ (λ s. false) sigs (λ i k. any_not cs) ∙ any_not sigs
 taken_any sigs cs (w ∷ ws) =
-    any_same _ (λ s. eqb w.signal s && has w.char cs || any (λ b. has_wave s b ws) cs) sigs
+    any_same _ (λ s. eqb w.signal s && has w.char cs || list_any (λ b. has_wave s b ws) cs) sigs
     (λ i k. any_inner (eqb w.signal (get_or sigs i 0)) w.char (λ b. has_wave (get_or sigs i 0) b ws) cs)
-    ∙ any_outer w.signal (has w.char cs) (λ s. any (λ b. has_wave s b ws) cs) sigs
+    ∙ any_outer w.signal (has w.char cs) (λ s. list_any (λ b. has_wave s b ws) cs) sigs
     ∙ ap (λ (x : Bool). has w.signal sigs && has w.char cs || x) (taken_any sigs cs ws)
 
 pub taken_marks : {t : List ℕ} {ws : List Wave} (sigs cs : List ℕ) → Marks t ws → Below sigs → mark_among t sigs cs ≡ taken sigs cs ws
 taken_marks {t} {ws} sigs cs a below =
-    any_same _ (λ s. any (λ b. has_wave s b ws) cs) sigs (λ i k. any_same _ (λ b. has_wave (get_or sigs i 0) b ws) cs λ j q. a.each (get_or sigs i 0) (get_or cs j 0) (below i k))
+    any_same _ (λ s. list_any (λ b. has_wave s b ws) cs) sigs (λ i k. any_same _ (λ b. has_wave (get_or sigs i 0) b ws) cs λ j q. a.each (get_or sigs i 0) (get_or cs j 0) (below i k))
     ∙ taken_any sigs cs ws
-
--- the rest of a word as the code hands it on
-pub rest_has : (w : List ℕ) (i : ℕ) (b : ℕ) {x : Bool} → x ≡ has b (take (length w - (i + 1)) (drop (i + 1) w)) → has b (drop (i + 1) w) ≡ x
-rest_has w i b e = sym (e ∙ ap (has b) (take_all (length w - (i + 1)) (drop (i + 1) w) (omega (arith, length-drop (i + 1) w))))

@@ -2,7 +2,7 @@
 use Prim.Native.Nat.{ℕ, zero, suc, ◌+◌, ◌*◌, ◌-◌, ◌≤◌, ◌<◌}
 use native.Mathlib.Omega.{arith}
 use mathlib.Core.Path.{◌≡◌, refl, sym, ap, ◌∙◌, subst}
-use mathlib.Core.Bool.{Bool, true, false, cond, ◌&&◌}
+use mathlib.Core.Bool.{Bool, true, false, ◌&&◌}
 use mathlib.Core.List.{List, [], ◌∷◌, ◌++◌}
 use lib.ListN.{length, get_or, take, drop, set, length-set, length-take, get_or-append}
 use lib.Seq.{get_or-take, get_or-drop, get_or-append-add, get_or-set_same, get_or-set_other}
@@ -30,7 +30,7 @@ use Rattle.timing.specs.Parts.{block, head_then}
 use Rattle.timing.specs.Held.{Held}
 use Rattle.timing.specs.Watch.{Watched, Kept}
 use Rattle.timing.specs.declared.Watch.{Watch}
-use Rattle.timing.specs.declared.Sight.{Sight}
+use Rattle.std.proofs.Common.{Option as Maybe, None}
 use Rattle.timing.proofs.Making.{made, onward}
 use Rattle.timing.proofs.EventReading.{takes_quoted}
 use Rattle.timing.proofs.EntryReading.{takes_waveforms}
@@ -128,9 +128,9 @@ held_none text tplaces waves z =
       above = λ k s b q o. refl;
     }
 
-pub kept_none : (text tplaces waves : List ℕ) (w : Watch) → ((i : ℕ) → get_or waves i 0 ≡ 0) → Kept text tplaces waves 0 w false 0 []
+pub kept_none : (text tplaces waves : List ℕ) (w : Watch) → ((i : ℕ) → get_or waves i 0 ≡ 0) → Kept text tplaces waves 0 w None []
 unfolding table_at
-kept_none text tplaces waves w z = record { held = held_none text tplaces waves z; watched = watched_none text w true 0 refl }
+kept_none text tplaces waves w z = record { held = held_none text tplaces waves z; watched = watched_none text w }
 
 module _ {text tplaces waves : List ℕ} {k : ℕ} {tabs : Tables} (a : Held text tplaces waves k tabs) (h : k < tables_most) where
   pub held_more : {after : List ℕ} {ws : List Wave} (b : Cursor) (n : ℕ) → length tplaces ≡ tables_most * 2 → length waves ≡ tables_most * table_size
@@ -201,19 +201,12 @@ module _ {text tplaces waves : List ℕ} {k : ℕ} {tabs : Tables} (a : Held tex
       marks j s c p q o = by j s c p q o (eqb k j) refl (ltb j k) refl
 
 -- what was seen stays, unless this is the watched table
-module _ {text tplaces waves : List ℕ} {k : ℕ} {tabs : Tables} (a : Held text tplaces waves k tabs) where
-  pub watched_table : {w : Watch} {s t s' : Sight} (x : Tok × Table) → s' ≡ cond (eqb k w.table) t s
-      → (eqb k w.table ≡ true → Watched text w t.found t.place x.1.waves) → Watched text w s.found s.place (table_at tabs w.table)
-      → Watched text w s'.found s'.place (table_at (tabs ++ x ∷ []) w.table)
-  watched_table {w} {s} {t} {s'} x q f h =
-      subst (λ (v : Sight). Watched text w v.found v.place (table_at (tabs ++ x ∷ []) w.table)) (sym q) (by (eqb k w.table) refl)
-    where
-      by : (b : Bool) → eqb k w.table ≡ b → Watched text w (cond b t s).found (cond b t s).place (table_at (tabs ++ x ∷ []) w.table)
-      by true e =
-          subst (λ (ws : List Wave). Watched text w t.found t.place ws) (sym (table_last tabs x w.table (held_count a ∙ eqb-true k w.table e))) (f e)
-      by false e =
-          subst (λ (ws : List Wave). Watched text w s.found s.place ws)
-          (sym (table_other tabs x w.table (λ z. eqb-false k w.table e (sym (held_count a) ∙ z)))) h
+module _ {text tplaces waves : List ℕ} {k : ℕ} {tabs : Tables} (a : Held text tplaces waves k tabs) {w : Watch} {sight : Maybe ℕ} (x : Tok × Table) where
+  pub watched_here : k ≡ w.table → Watched text w sight x.1.waves → Watched text w sight (table_at (tabs ++ x ∷ []) w.table)
+  watched_here e h = subst (λ (ws : List Wave). Watched text w sight ws) (sym (table_last tabs x w.table (held_count a ∙ e))) h
+
+  pub watched_other : (k ≡ w.table → ⊥) → Watched text w sight (table_at tabs w.table) → Watched text w sight (table_at (tabs ++ x ∷ []) w.table)
+  watched_other n h = subst (λ (ws : List Wave). Watched text w sight ws) (sym (table_other tabs x w.table (λ z. n (sym (held_count a) ∙ z)))) h
 
 -- ---- a table is read
 

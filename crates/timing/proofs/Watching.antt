@@ -2,12 +2,13 @@
 use Prim.Native.Nat.{ℕ, suc, ◌≤◌}
 use native.Mathlib.Omega.{arith}
 use mathlib.Core.Path.{◌≡◌, refl, sym, ap, ◌∙◌, subst}
-use mathlib.Core.Bool.{Bool, true, false, cond, not, ◌&&◌, ◌||◌}
+use mathlib.Core.Bool.{Bool, true, false, cond, ◌&&◌, ◌||◌}
 use mathlib.Core.Option.{Option, none, some, or_else}
 use mathlib.Core.List.{List, [], ◌∷◌, ◌++◌}
 use lib.ListN.{length, get_or}
 use lib.Dec.{eqb}
 use borrow.Author.Tests.{eq-eqb}
+use Rattle.std.proofs.Common.{Option as Maybe, None, Some}
 use Rattle.tokens.specs.Tokens.{Tok, Toks, toks}
 use Rattle.meaning.specs.Bounds.{entry_most}
 use Rattle.meaning.specs.Lists.{has}
@@ -21,7 +22,6 @@ use Rattle.words.proofs.Flow.{from_on, from_stop}
 use Rattle.timing.specs.Marks.{Marks}
 use Rattle.timing.specs.Watch.{chars_events, number_of, Found, Watched, Noted, looked}
 use Rattle.timing.specs.declared.Watch.{Watch}
-use Rattle.timing.specs.declared.Sight.{Sight}
 
 -- ---- the waveform among those of an entry
 
@@ -62,35 +62,32 @@ module _ (s b : ℕ) where
 
 -- ---- an entry more
 
-pub watched_more : {text : List ℕ} {w : Watch} {s s' : Sight} {ws : List Wave} {us : Toks} (sigs cs : List ℕ) (es : Events) (place : ℕ) → length es.0 ≡ length cs
+pub watched_more : {text : List ℕ} {w : Watch} {s s' : Maybe ℕ} {ws : List Wave} {us : Toks} (sigs cs : List ℕ) (es : Events) (place : ℕ) → length es.0 ≡ length cs
     → length cs ≤ entry_most → chars_events (toks text place) ≡ ok (record { at = place; word = cs }, es) us → s' ≡ looked w s sigs cs place
-    → Watched text w s.found s.place ws → Watched text w s'.found s'.place (ws ++ waves_for sigs cs es.0)
+    → Watched text w s ws → Watched text w s' (ws ++ waves_for sigs cs es.0)
 unfolding or_else
 watched_more {text} {w} {s} {s'} {ws} {us} sigs cs es place sized few there q h =
-    subst (λ (x : Sight). Watched text w x.found x.place all) (sym q) (by s.found refl)
+    subst (λ (x : Maybe ℕ). Watched text w x all) (sym q) (by s refl)
   where
     all : List Wave
     all = ws ++ waves_for sigs cs es.0
 
-    here : Sight
-    here = record { found = has w.char cs && has w.signal sigs; place = place }
-
     -- in this entry, or not
-    told : (x y : Bool) → has w.char cs ≡ x → wave_of w.signal w.char all ≡ giving w.signal w.char (y && x) cs es.0 → Watched text w (x && y) place all
+    told : (x y : Bool) → has w.char cs ≡ x → wave_of w.signal w.char all ≡ giving w.signal w.char (y && x) cs es.0 → Watched text w (cond (x && y) (Some place) None) all
     told true true p v = record {
       no = λ k. (let z : ◌≡◌ {A = ℕ} 0 1 = cc in absurd (omega arith));
-      yes = λ k. record { chars = cs; events = es; behind = us; there = there; few = few; among = p; wave = v };
+      yes = λ n k. let e : place ≡ n = cc in subst (λ (n : ℕ). Found text w n all) e (record { chars = cs; events = es; behind = us; there = there; few = few; among = p; wave = v });
     }
-    told true false p v = record { no = λ k. v; yes = λ k. (let z : ◌≡◌ {A = ℕ} 0 1 = cc in absurd (omega arith)) }
-    told false true p v = record { no = λ k. v; yes = λ k. (let z : ◌≡◌ {A = ℕ} 0 1 = cc in absurd (omega arith)) }
-    told false false p v = record { no = λ k. v; yes = λ k. (let z : ◌≡◌ {A = ℕ} 0 1 = cc in absurd (omega arith)) }
+    told true false p v = record { no = λ k. v; yes = λ n k. (let z : ◌≡◌ {A = ℕ} 0 1 = cc in absurd (omega arith)) }
+    told false true p v = record { no = λ k. v; yes = λ n k. (let z : ◌≡◌ {A = ℕ} 0 1 = cc in absurd (omega arith)) }
+    told false false p v = record { no = λ k. v; yes = λ n k. (let z : ◌≡◌ {A = ℕ} 0 1 = cc in absurd (omega arith)) }
 
-    by : (x : Bool) → s.found ≡ x → Watched text w (cond x s here).found (cond x s here).place all
-    by true e =
-        let a = h.yes e in
+    by : (x : Maybe ℕ) → s ≡ x → Watched text w (looked w x sigs cs place) all
+    by (Some seen) e =
+        let a = h.yes seen e in
         record {
-          no = λ k. (let o : true ≡ false = sym e ∙ k in let z : ◌≡◌ {A = ℕ} 0 1 = cc in absurd (omega arith));
-          yes = λ k. record {
+          no = λ k. (let z : ◌≡◌ {A = ℕ} 0 1 = cc in absurd (omega arith));
+          yes = λ n k. let e : seen ≡ n = cc in subst (λ (n : ℕ). Found text w n all) e (record {
             chars = a.chars;
             events = a.events;
             behind = a.behind;
@@ -98,14 +95,14 @@ watched_more {text} {w} {s} {s'} {ws} {us} sigs cs es place sized few there q h 
             few = a.few;
             among = a.among;
             wave = wave_append w.signal w.char ws _ ∙ rw a.wave;
-          };
+          });
         }
-    by false e =
+    by None e =
         told (has w.char cs) (has w.signal sigs) refl
         (wave_append w.signal w.char ws _ ∙ rw (h.no e) (wave_all w.signal w.char sigs cs es.0 sized))
 
 -- a table of which only the marks matter
-pub unwatched : {text : List ℕ} {w : Watch} {table : List ℕ} {s : Sight} {ws : List Wave} → Marks table ws → Noted text false w table s ws
+pub unwatched : {text : List ℕ} {w : Watch} {table : List ℕ} {s : Maybe ℕ} {ws : List Wave} → Marks table ws → Noted text false w table s ws
 unwatched m = record { marks = m; watched = λ h. (let z : ◌≡◌ {A = ℕ} 0 1 = cc in absurd (omega arith)) }
 
 -- ---- read again
@@ -130,7 +127,6 @@ read_again {text} {w} {place} {ws} {c} {r} {a} f s g =
 -- ---- a table more
 
 -- before its first entry
-pub watched_none : (text : List ℕ) (w : Watch) (here : Bool) (place : ℕ) → here ≡ true → Watched text w (not here) place []
+pub watched_none : (text : List ℕ) (w : Watch) → Watched text w None []
 unfolding wave_of
-watched_none text w true place h = record { no = λ k. refl; yes = λ k. (let z : ◌≡◌ {A = ℕ} 0 1 = cc in absurd (omega arith)) }
-watched_none text w false place h = let z : ◌≡◌ {A = ℕ} 0 1 = cc in absurd (omega arith)
+watched_none text w = record { no = λ k. refl; yes = λ n k. (let z : ◌≡◌ {A = ℕ} 0 1 = cc in absurd (omega arith)) }

@@ -1,8 +1,9 @@
 -- What the code has of an entry's letters and events.
-use Rattle.std.specs.Prelude.{ℕ, suc, ◌+◌, ◌*◌, ◌<◌, min, ◌≡◌, Bool, true, false, cond, ◌&&◌, ◌||◌, List, [], ◌∷◌, length, get_or, leb}
+use Rattle.std.specs.Prelude.{ℕ, suc, ◌+◌, ◌*◌, ◌<◌, min, ◌≡◌, Bool, true, cond, ◌&&◌, ◌||◌, List, [], ◌∷◌, length, get_or, leb, Option as Maybe, MatchOption}
 use Rattle.std.proofs.Math.Option.{none, some}
 use Rattle.meaning.specs.Bounds.{entry_most}
 use Rattle.meaning.specs.Timing.{drives, compares, rises, add_events, Event, Events, blanks, event}
+use Rattle.timing.specs.declared.Times.{Times}
 use Rattle.meaning.specs.Reader.{Reader, ◌>>=◌, until}
 
 -- is it the letter of an event
@@ -31,9 +32,9 @@ pub record Timed (n count : ℕ) (least : List ℕ) (s : Events) : Type 0 where
   pub each : (i e t : ℕ) → i < n → is_event e ≡ true → rises t e (get_or s.0 i []) ≡ leb (get_or least (slot e i) 0) t
 
 -- an event at time t more, with a letter for each character, unless a time does not rise
-pub record Adding (n t : ℕ) (es : List ℕ) (s : Events) (right : Bool) (count : ℕ) (least : List ℕ) : Type 0 where
-  pub some' : right ≡ true → (cs : List (List Event)) × (add_events t es s.0 ≡ some cs) × Timed n count least (cs, suc s.1)
-  pub none' : right ≡ false → add_events t es s.0 ≡ none
+abbrev pub Adding : ℕ → ℕ → List ℕ → Events → Maybe Times → Type 0
+Adding n t es s r =
+    MatchOption r (add_events t es s.0 ≡ none) (λ u. (cs : List (List Event)) × (add_events t es s.0 ≡ some cs) × Timed n u.count u.least (cs, suc s.1))
 
 -- the events of an entry with these characters, and its closing brace
 unfoldable pub events : List ℕ → Reader Events

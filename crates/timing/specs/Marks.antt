@@ -1,5 +1,6 @@
 -- A table of the code: a mark for each signal and character, 1 where the signal has a waveform for it.
-use Rattle.std.specs.Prelude.{ℕ, ◌+◌, ◌*◌, ◌<◌, ◌≡◌, Bool, false, ◌&&◌, ◌||◌, List, [], ◌∷◌, length, get_or, ltb, eqb}
+use Rattle.std.specs.Prelude.{ℕ, ◌+◌, ◌*◌, ◌<◌, ◌≡◌, Bool, ◌&&◌, ◌||◌, List, [], ◌∷◌, length, get_or, ltb, eqb}
+use Rattle.std.specs.List.{list_any}
 use Rattle.meaning.specs.Bounds.{signals_most}
 use Rattle.meaning.specs.Lists.{has}
 use Rattle.meaning.specs.Timing.{Wave}
@@ -26,18 +27,13 @@ pub record Described (table : List ℕ) : Type 0 where
   pub waves : List Wave
   pub marks : Marks table waves
 
--- does a test hold for one of some numbers
-unfoldable pub any : (ℕ → Bool) → List ℕ → Bool
-any f [] = false
-any f (x ∷ xs) = f x || any f xs
-
 -- has a signal a mark for one of these characters
 abbrev pub mark_of : List ℕ → ℕ → List ℕ → Bool
-mark_of table s w = any (mark table s) w
+mark_of table s w = list_any (mark table s) w
 
 -- has one of these signals
 abbrev pub mark_among : List ℕ → List ℕ → List ℕ → Bool
-mark_among table sigs w = any (λ s. mark_of table s w) sigs
+mark_among table sigs w = list_any (λ s. mark_of table s w) sigs
 
 -- marks more, for these signals and characters
 pub record Marked (before : List ℕ) (sigs w after : List ℕ) : Type 0 where

@@ -1,5 +1,5 @@
 -- Where one waveform that is wanted stands: the place of the CHARS of the entry that gives it.
-use Rattle.std.specs.Prelude.{ℕ, suc, ◌≤◌, ◌≡◌, Bool, true, false, cond, ◌&&◌, List, [], ◌∷◌, length, get_or, eqb}
+use Rattle.std.specs.Prelude.{ℕ, suc, ◌≤◌, ◌≡◌, Bool, true, false, cond, ◌&&◌, List, [], ◌∷◌, length, get_or, eqb, Option as Maybe, None, Some}
 use Rattle.std.proofs.Math.Option.{none, some}
 use Rattle.tokens.specs.Tokens.{Tok, Toks, toks}
 use Rattle.meaning.specs.Bounds.{entry_most}
@@ -14,7 +14,6 @@ use Rattle.timing.specs.Events.{events}
 use Rattle.timing.specs.Marks.{Marks}
 use Rattle.timing.specs.Held.{Held}
 use Rattle.timing.specs.declared.Watch.{Watch}
-use Rattle.timing.specs.declared.Sight.{Sight}
 
 -- CHARS and their events
 unfoldable pub chars_events : Reader (Tok × Events)
@@ -40,25 +39,26 @@ pub record Found (text : List ℕ) (w : Watch) (place : ℕ) (ws : List Wave) : 
   pub wave : wave_of w.signal w.char ws ≡ some (get_or events.0 (number_of w.char chars) [])
 
 -- THE PROMISE beside the marks, of the waveforms of the watched table: there is none, or it is found at the place
-pub record Watched (text : List ℕ) (w : Watch) (found : Bool) (place : ℕ) (ws : List Wave) : Type 0 where
-  pub no : found ≡ false → wave_of w.signal w.char ws ≡ none
-  pub yes : found ≡ true → Found text w place ws
+pub record Watched (text : List ℕ) (w : Watch) (sight : Maybe ℕ) (ws : List Wave) : Type 0 where
+  pub no : sight ≡ None → wave_of w.signal w.char ws ≡ none
+  pub yes : (place : ℕ) → sight ≡ Some place → Found text w place ws
 
 -- what the code has of all tables
-pub record Kept (text tplaces waves : List ℕ) (count : ℕ) (w : Watch) (found : Bool) (place : ℕ) (it : Tables) : Type 0 where
+pub record Kept (text tplaces waves : List ℕ) (count : ℕ) (w : Watch) (sight : Maybe ℕ) (it : Tables) : Type 0 where
   pub held : Held text tplaces waves count it
-  pub watched : Watched text w found place (table_at it w.table)
+  pub watched : Watched text w sight (table_at it w.table)
 
 -- ---- in a table
 
 -- what the code has of its waveforms: the marks, and where it is the watched table (`here`) the sight
-pub record Noted (text : List ℕ) (here : Bool) (w : Watch) (table : List ℕ) (s : Sight) (ws : List Wave) : Type 0 where
+pub record Noted (text : List ℕ) (here : Bool) (w : Watch) (table : List ℕ) (sight : Maybe ℕ) (ws : List Wave) : Type 0 where
   pub marks : Marks table ws
-  pub watched : here ≡ true → Watched text w s.found s.place ws
+  pub watched : here ≡ true → Watched text w sight ws
 
 -- the sight behind an entry at a place, with these characters for these signals
-abbrev pub looked : Watch → Sight → List ℕ → List ℕ → ℕ → Sight
-looked w s sigs cs place = cond s.found s (record { found = has w.char cs && has w.signal sigs; place = place })
+abbrev pub looked : Watch → Maybe ℕ → List ℕ → List ℕ → ℕ → Maybe ℕ
+looked w (Some seen) sigs cs place = Some seen
+looked w None sigs cs place = cond (has w.char cs && has w.signal sigs) (Some place) None
 
 -- the tokens from a cursor on are those of the text from some place on
 pub record Placed (text : List ℕ) (c : Cursor) : Type 0 where

@@ -160,41 +160,21 @@ fn slot(e: u8, i: usize) -> usize
     if drives(e) { i } else { ENTRY + i }
 }
 
-// One event more, as far as they are counted.
-fn next(count: usize) -> usize
-    ensures { result ≡ min entry_most (count + 1) }
-{
-    if count < ENTRY { count + 1 } else { ENTRY }
-}
-
-// Events with one more, where every time rises (`right`).
-#[derive(Clone, Copy)]
-struct Added {
-    right: bool,
-    times: Times,
-}
-
-// An event at time t behind the events of each of n characters.
-fn add(times: Times, t: u64, a: Alternatives, n: usize) -> Added
+// An event at time t behind the events of each of n characters, if every time rises.
+fn add(times: Times, t: u64, a: Alternatives, n: usize) -> Option<Times>
     requires { (n ≤ entry_most) × (t ≤ counted_most) }
-    ensures { (s : Events) (es : List ℕ) → Timed n times.count times.least s → Lettered a.n a.l es → (not (eqb a.n 1) && not (eqb a.n n)) ≡ false → all_events es ≡ true → Adding n t (spread n es) s result.right result.times.count result.times.least }
+    ensures { (s : Events) (es : List ℕ) → Timed n times.count times.least s → Lettered a.n a.l es → (not (eqb a.n 1) && not (eqb a.n n)) ≡ false → all_events es ≡ true → Adding n t (spread n es) s result }
 {
     let mut least = times.least;
-    let mut i = 0;
-    while i < n {
+    for i in 0..n {
         let k = slot(letter_at(a, i), i);
         if t < least[k] {
-            return Added {
-                right: false,
-                times,
-            };
+            return None;
         }
         least[k] = t + 1;
-        i += 1;
     }
-    let count = next(times.count);
-    let times = Times { count, least };
-    Added { right: true, times }
+    let count = times.count.saturating_add(1).min(ENTRY);
+    Some(Times { count, least })
 }
 
 // Events that were read, and the cursor behind them.
@@ -218,10 +198,13 @@ fn one_event(text: &[u8], c: words::Cursor, n: usize, times: Times) -> TimesRead
     if e.no != 0 {
         return TimesRead { cursor: e, times };
     }
-    let added = add(times, t.n, a, n);
-    let cursor = words::refuse_if(e, !added.right, BAD_WAVEFORM, behind.at);
-    let times = added.times;
-    TimesRead { cursor, times }
+    match add(times, t.n, a, n) {
+        Some(times) => TimesRead { cursor: e, times },
+        None => {
+            let cursor = words::refuse_if(e, true, BAD_WAVEFORM, behind.at);
+            TimesRead { cursor, times }
+        }
+    }
 }
 
 // An event; one too many is refused at its quote.
@@ -260,14 +243,7 @@ fn events(text: &[u8], c: words::Cursor, n: usize) -> words::Cursor
 fn repeats(w: &[u8]) -> bool
     ensures { result ≡ repeats_of w.now }
 {
-    let mut i = 0;
-    while i < w.len() {
-        if words::holds(&w[i + 1..], w[i]) {
-            return true;
-        }
-        i += 1;
-    }
-    false
+    w.iter().enumerate().any(|(i, b)| w[i + 1..].contains(b))
 }
 
 // ---- marks
@@ -295,14 +271,7 @@ fn has_mark_of(table: &[u8], s: u16, w: &[u8]) -> bool
     requires { (length table.now ≡ table_size) × (s < signals_most) }
     ensures { result ≡ mark_of table.now s w.now }
 {
-    let mut i = 0;
-    while i < w.len() {
-        if has_mark(table, s, w[i]) {
-            return true;
-        }
-        i += 1;
-    }
-    false
+    w.iter().any(|b| has_mark(table, s, *b))
 }
 
 // Has one of these signals?
@@ -310,14 +279,7 @@ fn taken(table: &[u8], sigs: &[u16], w: &[u8]) -> bool
     requires { (length table.now ≡ table_size) × Below sigs.now }
     ensures { result ≡ mark_among table.now sigs.now w.now }
 {
-    let mut i = 0;
-    while i < sigs.len() {
-        if has_mark_of(table, sigs[i], w) {
-            return true;
-        }
-        i += 1;
-    }
-    false
+    sigs.iter().any(|s| has_mark_of(table, *s, w))
 }
 
 // A mark of signal s for each character of w.
@@ -325,11 +287,8 @@ fn mark_chars(table: &mut [u8], s: u16, w: &[u8])
     requires { (length table.old ≡ table_size) × (s < signals_most) × (all_chars w.now ≡ true) }
     ensures { Marked table.old (s ∷ []) w.now table.new }
 {
-    let mut i = 0;
-    while i < w.len() {
-        let at = s as usize * CHARS + w[i] as usize;
-        table[at] = 1;
-        i += 1;
+    for b in w {
+        table[s as usize * CHARS + *b as usize] = 1;
     }
 }
 
@@ -338,10 +297,8 @@ fn mark_all(table: &mut [u8], sigs: &[u16], w: &[u8])
     requires { (length table.old ≡ table_size) × Below sigs.now × (all_chars w.now ≡ true) }
     ensures { Marked table.old sigs.now w.now table.new }
 {
-    let mut i = 0;
-    while i < sigs.len() {
-        mark_chars(table, sigs[i], w);
-        i += 1;
+    for s in sigs {
+        mark_chars(table, *s, w);
     }
 }
 
@@ -355,50 +312,32 @@ pub struct Watch {
     pub char: u8,
 }
 
-// Is it found, and at which place: where the CHARS of the entry that gives it stand.
-#[derive(Clone, Copy)]
-struct Sight {
-    found: bool,
-    place: usize,
-}
-
 // Is the signal s one of these?
 fn lists_signal(sigs: &[u16], s: usize) -> bool
     ensures { result ≡ has s sigs.now }
 {
-    let mut i = 0;
-    while i < sigs.len() {
-        if sigs[i] as usize == s {
-            return true;
-        }
-        i += 1;
-    }
-    false
+    sigs.iter().any(|x| *x as usize == s)
 }
 
-// The entry at a place has these characters, for these signals. The first that gives the waveform stays.
-fn look(watch: Watch, sight: Sight, sigs: &[u16], w: &[u8], place: usize) -> Sight
+// Where the waveform is: the place of the CHARS of the entry that gives it. The entry at a place has these characters, for these signals; the first that gives
+// the waveform stays.
+fn look(watch: Watch, sight: Option<usize>, sigs: &[u16], w: &[u8], place: usize) -> Option<usize>
     ensures { result ≡ looked watch sight sigs.now w.now place }
 {
-    if sight.found {
+    if sight.is_some() {
         return sight;
     }
-    let found = words::holds(w, watch.char) & lists_signal(sigs, watch.signal);
-    Sight { found, place }
-}
-
-// Of two sights, the one that counts.
-fn either(test: bool, yes: Sight, no: Sight) -> Sight
-    ensures { result ≡ cond test yes no }
-{
-    if test { yes } else { no }
+    if words::holds(w, watch.char) & lists_signal(sigs, watch.signal) {
+        return Some(place);
+    }
+    None
 }
 
 // Where reading stands, and what was seen up to there.
 #[derive(Clone, Copy)]
 struct Seen {
     cursor: words::Cursor,
-    sight: Sight,
+    sight: Option<usize>,
 }
 
 // ---- entries
@@ -411,13 +350,6 @@ pub const PLACES: usize = TABLES * 2;
 
 pub const WAVES: usize = TABLES * TABLE;
 
-// At most as many as there may be.
-fn fewer(n: u16) -> usize
-    ensures { result ≡ min n signals_most }
-{
-    sets::least(n as usize, sets::MOST)
-}
-
 // The signals of the name of number i.
 fn row(lists: &[u16], i: usize) -> &[u16]
     requires { length lists.now ≡ names_most * row_length }
@@ -426,7 +358,7 @@ fn row(lists: &[u16], i: usize) -> &[u16]
     if i < signals::NAMES {
         let at = i * signals::ROW;
         let first = at + 1;
-        let end = first + fewer(lists[at]);
+        let end = first + (lists[at] as usize).min(sets::MOST);
         return &lists[first..end];
     }
     &lists[0..0]
@@ -539,7 +471,7 @@ fn head(text: &[u8], c: words::Cursor) -> words::Numbered
     words::Numbered { cursor, n: t.n }
 }
 
-// A table behind the first k. Where another one is watched, nothing is looked for in it.
+// A table behind the first k.
 fn table<'a>(
     text: &'a [u8],
     x: Seen,
@@ -553,7 +485,7 @@ fn table<'a>(
 ) -> Seen
     requires tplaces_len { (length tplaces.old ≡ tables_most * 2) × (length waves.old ≡ tables_most * table_size) × (Sized places.now lists.now × Chained text.now places.now names) × AllBelow (names_of text.now places.now lists.now names) }
     requires held { (tabs : TablesOf) × Held text.now tplaces.old waves.old k tabs }
-    ensures { (tabs : TablesOf) → Kept text.now tplaces.old waves.old k watch x.sight.found x.sight.place tabs → Makes text.now x.cursor (table_of (names_of text.now places.now lists.now names) tabs) result.cursor (Kept text.now tplaces.new waves.new (k + 1) watch result.sight.found result.sight.place) }
+    ensures { (tabs : TablesOf) → Kept text.now tplaces.old waves.old k watch x.sight tabs → Makes text.now x.cursor (table_of (names_of text.now places.now lists.now names) tabs) result.cursor (Kept text.now tplaces.new waves.new (k + 1) watch result.sight) }
 {
     let c = x.cursor;
     let sight = x.sight;
@@ -570,8 +502,8 @@ fn table<'a>(
     let first = k * TABLE;
     let end = first + TABLE;
     let here = k == watch.table;
-    let found = !here;
-    let unseen = Sight { found, place: 0 };
+    // Where another table is watched nothing is looked for in this one: a sight stays.
+    let unseen = if here { None } else { Some(0) };
     let y = Seen {
         cursor: e,
         sight: unseen,
@@ -579,17 +511,16 @@ fn table<'a>(
     let marks = &mut waves[first..end];
     let z = block(text, y, places, lists, names, marks, watch);
     let cursor = words::due(text, z.cursor, b"}");
-    let sight = either(here, z.sight, sight);
+    let sight = if here { z.sight } else { sight };
     Seen { cursor, sight }
 }
 
-// How many tables were read, is the watched waveform found and at which place its entry stands, and the cursor behind them.
+// How many tables were read, at which place the entry of the watched waveform stands, and the cursor behind them.
 #[derive(Clone, Copy)]
 pub struct Tables {
     pub cursor: words::Cursor,
     pub count: usize,
-    pub found: bool,
-    pub place: usize,
+    pub sight: Option<usize>,
 }
 
 // Timing: at least one table. The names of the tables go to `tplaces`, and a mark for each signal and character with a waveform to `waves`.
@@ -606,25 +537,20 @@ pub fn timing<'a>(
     requires tplaces_len { (length tplaces.old ≡ tables_most * 2) × (length waves.old ≡ tables_most * table_size) × Sized places.now lists.now }
     requires by_index { (i : ℕ) → get_or waves.old i 0 ≡ 0 }
     requires all_below { alive c ≡ true → AllBelow (names_of text.now places.now lists.now names) × Chained text.now places.now names }
-    ensures { Makes text.now c (timing_of (names_of text.now places.now lists.now names)) result.cursor (Kept text.now tplaces.new waves.new result.count watch result.found result.place) }
+    ensures { Makes text.now c (timing_of (names_of text.now places.now lists.now names)) result.cursor (Kept text.now tplaces.new waves.new result.count watch result.sight) }
 {
     if c.no != 0 {
         return Tables {
             cursor: c,
             count: 0,
-            found: false,
-            place: 0,
+            sight: None,
         };
     }
     let a = words::due(text, c, b"Timing");
     let b = words::due(text, a, b"{");
-    let unseen = Sight {
-        found: false,
-        place: 0,
-    };
     let y = Seen {
         cursor: b,
-        sight: unseen,
+        sight: None,
     };
     let mut x = table(text, y, places, lists, names, tplaces, 0, waves, watch);
     let mut count = 1;
@@ -637,7 +563,6 @@ pub fn timing<'a>(
     Tables {
         cursor,
         count,
-        found: sight.found,
-        place: sight.place,
+        sight,
     }
 }

@@ -1,3 +1,4 @@
+pub mod Results
 pub mod Bools
 pub mod Allowed
 pub mod Reading

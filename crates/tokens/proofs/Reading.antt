@@ -13,10 +13,8 @@ use Rattle.tokens.specs.Written.{starts, cases}
 use Rattle.tokens.specs.Bytes.{between, allowed, blank, letter, digit, wordy}
 use Rattle.tokens.specs.Refusals.{text_most, too_long, bad_byte, open_comment}
 use Rattle.tokens.specs.Tokens.{Toks, tok, Mode, plain, inword, line, closing, opened, block, Act, go, token, bad, run, outside, in_mode, act, ended, done, lex, toks, found, nothing, refused, first, next_token}
-use Rattle.tokens.specs.Answers.{next_of, TokenAt, Leads}
-use Rattle.tokens.specs.declared.Step.{Step}
-use Rattle.tokens.specs.declared.Lead.{Lead}
-use Rattle.tokens.specs.declared.Lead.TheVariants.{On, To}
+use Rattle.tokens.specs.Answers.{Step, Lead, next_of, TokenAt, Leads}
+use Rattle.std.proofs.Common.{Continue, Break}
 use Rattle.tokens.proofs.Allowed.{blank_allowed, blank_unwordy}
 
 -- ---- what a byte b does, with s behind it, by what is known of it
@@ -241,22 +239,22 @@ module _ (text : List ℕ) (i : ℕ) where
 -- ---- where reading is led, from the place `at` with the tokens ts, once they are known to be us
 
 module _ {text : List ℕ} {at : ℕ} {ts us : Toks} (e : ts ≡ us) where
-  pub led_to_lem : {s : Step} → first us ≡ next_of s → Leads text at ts (To s)
+  pub led_to_lem : {s : Step} → first us ≡ next_of s → Leads text at ts (Break s)
   led_to_lem h = record { led = ap first e ∙ h; ahead = tt }
 
-  pub led_on : {k : ℕ} → at < k → us ≡ toks text k → Leads text at ts (On k)
+  pub led_on : {k : ℕ} → at < k → us ≡ toks text k → Leads text at ts (Continue k)
   led_on h l = record { led = ap first (e ∙ l); ahead = h }
 
   pub led_from : {i : ℕ} (r : Lead) → at ≤ i → Leads text i us r → Leads text at ts r
-  led_from (On k) h l = record { led = ap first e ∙ l.led; ahead = omega (arith, l.ahead) }
-  led_from (To s) h l = led_to_lem l.led
+  led_from (Continue k) h l = record { led = ap first e ∙ l.led; ahead = omega (arith, l.ahead) }
+  led_from (Break s) h l = led_to_lem l.led
 
 -- and where a lead r is known to lead
-pub on_led : {text : List ℕ} {at k : ℕ} {ts : Toks} {r : Lead} → r ≡ On k → Leads text at ts r → Leads text at ts (On k)
+pub on_led : {text : List ℕ} {at k : ℕ} {ts : Toks} {r : Lead} → r ≡ Continue k → Leads text at ts r → Leads text at ts (Continue k)
 on_led e l = rw e at l
 
-pub to_led : {text : List ℕ} {at : ℕ} {ts : Toks} {r : Lead} {s : Step} → r ≡ To s → Leads text at ts r → first ts ≡ next_of s
-to_led {text} {at} {ts} e l = let h : Leads text at ts (To _) = rw e at l in h.led
+pub to_led : {text : List ℕ} {at : ℕ} {ts : Toks} {r : Lead} {s : Step} → r ≡ Break s → Leads text at ts r → first ts ≡ next_of s
+to_led {text} {at} {ts} e l = let h : Leads text at ts (Break _) = rw e at l in h.led
 
 -- ---- the text's bound
 

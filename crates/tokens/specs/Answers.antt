@@ -1,33 +1,37 @@
 -- The code's answers, case by case, as the definitions' answers: document 01's numbers and values.
-use Rattle.std.specs.Prelude.{ℕ, ◌<◌, ◌≡◌, List, true, false, length, get_or}
+use Rattle.std.specs.Prelude.{ℕ, ◌<◌, ◌≡◌, List, true, false, length, get_or, Option as Maybe, Some, None, Result, Ok, Err}
+use Rattle.std.proofs.Common.{ControlFlow, Continue, Break}
 use Rattle.std.proofs.Math.Option.{Option, none, some}
 use Rattle.tokens.specs.Bytes.{allowed, blank}
 use Rattle.tokens.specs.Tokens.{Toks, toks, Next, found, nothing, refused, first}
-use Rattle.tokens.specs.declared.Step.{Step}
-use Rattle.tokens.specs.declared.Step.TheVariants.{Token, Nothing, Refused}
-use Rattle.tokens.specs.declared.Fault.{Fault}
-use Rattle.tokens.specs.declared.Fault.TheVariants.{Clean, Faulty}
-use Rattle.tokens.specs.declared.Lead.{Lead}
-use Rattle.tokens.specs.declared.Lead.TheVariants.{On, To}
+use Rattle.tokens.specs.declared.Token.{Token}
+use Rattle.tokens.specs.declared.Refusal.{Refusal}
+
+-- the code's `Step` and `Lead`
+abbrev pub Step : Type 0
+Step = Result (Maybe Token) Refusal
+
+abbrev pub Lead : Type 0
+Lead = ControlFlow Step ℕ
 
 abbrev pub next_of : Step → Next
-next_of (Token p l) = found p l
-next_of Nothing = nothing
-next_of (Refused n p) = refused n p
+next_of (Ok (Some t)) = found t.at t.length
+next_of (Ok None) = nothing
+next_of (Err r) = refused r.no r.place
 
-abbrev pub fault_told : Fault → Option (ℕ × ℕ)
-fault_told Clean = none
-fault_told (Faulty n p) = some (n, p)
+abbrev pub fault_told : Result Unit Refusal → Option (ℕ × ℕ)
+fault_told (Ok u) = none
+fault_told (Err r) = some (r.no, r.place)
 
 -- the next token, where reading is led on to a place or to an answer
 abbrev pub led_to : List ℕ → Lead → Next
-led_to text (On i) = first (toks text i)
-led_to text (To s) = next_of s
+led_to text (Continue i) = first (toks text i)
+led_to text (Break s) = next_of s
 
 -- on is further on
 abbrev pub Ahead : ℕ → Lead → Type 0
-Ahead at (On i) = at < i
-Ahead at (To s) = Unit {0}
+Ahead at (Continue i) = at < i
+Ahead at (Break s) = Unit {0}
 
 -- at the place `at` stands the byte b, which is allowed and no blank, and no `/`: a token begins there
 pub record TokenAt (text : List ℕ) (at b : ℕ) : Type 0 where

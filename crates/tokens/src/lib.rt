@@ -1,11 +1,13 @@
 // The token rules: the next token from a place, and what is wrong with a whole text as bytes.
 #![tactic(auto)]
 
-ghost use Rattle.std.specs.Prelude.{◌≡◌, ◌+◌, ◌<◌, get_or, length, drop, ltb};
+ghost use Rattle.std.specs.Prelude.{◌≡◌, ◌+◌, ◌<◌, ◌≤◌, get_or, length, drop, MatchResult};
 ghost use Rattle.tokens.specs.Bytes.{allowed, blank, wordy};
-ghost use Rattle.tokens.specs.Refusals.{text_most};
+ghost use Rattle.tokens.specs.Refusals.{text_most, too_long, bad_byte};
 ghost use Rattle.tokens.specs.Tokens.{run, line, block, lex, toks, found, first, next_token, fault_of};
 ghost use Rattle.tokens.specs.Answers.{next_of, fault_told, TokenAt, Leads};
+
+use std::ops::ControlFlow;
 
 // The most bytes of a text.
 pub const TEXT_MOST: usize = 65_536;
@@ -17,28 +19,25 @@ pub const BAD_BYTE: u8 = 2;
 
 pub const OPEN_COMMENT: u8 = 3;
 
-#[derive(Clone, Copy)]
-pub enum Step {
-    // its place in the whole text and its length
-    Token(usize, usize),
-    Nothing,
-    // the number of the refusal, and the place
-    Refused(u8, usize),
+// A token: its place in the whole text and its length.
+#[derive(Clone, Copy, Debug, PartialEq, Eq)]
+pub struct Token {
+    pub at: usize,
+    pub length: usize,
 }
 
-#[derive(Clone, Copy)]
-pub enum Fault {
-    Clean,
-    // the number of the refusal, and the place
-    Faulty(u8, usize),
+// A refusal: its number, and the place.
+#[derive(Clone, Copy, Debug, PartialEq, Eq)]
+pub struct Refusal {
+    pub no: u8,
+    pub place: usize,
 }
+
+// The next token, or none where the text ends.
+pub type Step = Result<Option<Token>, Refusal>;
 
 // Where reading is led: on to a place outside comments, or to an answer.
-#[derive(Clone, Copy)]
-pub enum Lead {
-    On(usize),
-    To(Step),
-}
+type Lead = ControlFlow<Step, usize>;
 
 // Is it a byte of a word? Small letters are the most frequent, and are told by two comparisons.
 pub fn is_wordy(b: u8) -> bool
@@ -70,6 +69,16 @@ fn byte_at(text: &[u8], at: usize) -> u8
     if at < text.len() { text[at] } else { 0 }
 }
 
+// The refusal of a byte that is not allowed.
+fn bad_byte(place: usize) -> Refusal
+    ensures { result ≡ record { no = bad_byte; place = place } }
+{
+    Refusal {
+        no: BAD_BYTE,
+        place,
+    }
+}
+
 // Where the word bytes from a place on end.
 fn word_end(text: &[u8], at: usize) -> usize
     ensures { result ≡ at + length (run (drop at text.now)) }
@@ -92,14 +101,14 @@ fn behind_line(text: &[u8], at: usize) -> Lead
     while i < text.len() {
         let b = text[i];
         if b == 10 {
-            return Lead::On(i + 1);
+            return ControlFlow::Continue(i + 1);
         }
         if !is_allowed(b) {
-            return Lead::To(Step::Refused(BAD_BYTE, i));
+            return ControlFlow::Break(Err(bad_byte(i)));
         }
         i += 1;
     }
-    Lead::To(Step::Nothing)
+    ControlFlow::Break(Ok(None))
 }
 
 // In a `/*` that opens at `opening`, from a place behind the two bytes on.
@@ -110,16 +119,19 @@ fn behind_block(text: &[u8], opening: usize, at: usize) -> Lead
     while i < text.len() {
         let b = text[i];
         if !is_allowed(b) {
-            return Lead::To(Step::Refused(BAD_BYTE, i));
+            return ControlFlow::Break(Err(bad_byte(i)));
         }
         if b == 42 {
             if byte_at(text, i + 1) == 47 {
-                return Lead::On(i + 2);
+                return ControlFlow::Continue(i + 2);
             }
         }
         i += 1;
     }
-    Lead::To(Step::Refused(OPEN_COMMENT, opening))
+    ControlFlow::Break(Err(Refusal {
+        no: OPEN_COMMENT,
+        place: opening,
+    }))
 }
 
 // At a `/`: a comment, or a token alone.
@@ -135,7 +147,7 @@ fn at_slash(text: &[u8], at: usize) -> Lead
     if b == 42 {
         return behind_block(text, at, at + 2);
     }
-    Lead::To(Step::Token(at, 1))
+    ControlFlow::Break(Ok(Some(Token { at, length: 1 })))
 }
 
 // The length of the token that begins at a place with the byte b.
@@ -160,24 +172,25 @@ fn past_comments(text: &[u8], at: usize) -> Step
         let b = text[i];
         if b == 47 {
             match at_slash(text, i) {
-                Lead::On(k) => {
+                ControlFlow::Continue(k) => {
                     i = k;
                 }
-                Lead::To(s) => {
-                    return s;
+                ControlFlow::Break(step) => {
+                    return step;
                 }
             }
         } else {
             if !is_blank(b) {
                 if !is_allowed(b) {
-                    return Step::Refused(BAD_BYTE, i);
+                    return Err(bad_byte(i));
                 }
-                return Step::Token(i, token_length(text, i, b));
+                let length = token_length(text, i, b);
+                return Ok(Some(Token { at: i, length }));
             }
             i += 1;
         }
     }
-    Step::Nothing
+    Ok(None)
 }
 
 // The first token from a place on, in a text of any length. Where no comment stands before it this is the whole way, and a short one.
@@ -194,59 +207,56 @@ pub fn first_from(text: &[u8], at: usize) -> Step
                 return step;
             }
             if !is_allowed(b) {
-                return Step::Refused(BAD_BYTE, i);
+                return Err(bad_byte(i));
             }
-            return Step::Token(i, token_length(text, i, b));
+            let length = token_length(text, i, b);
+            return Ok(Some(Token { at: i, length }));
         }
         i += 1;
     }
-    Step::Nothing
+    Ok(None)
 }
 
-fn is_too_long(text: &[u8]) -> bool
-    ensures { result ≡ ltb text_most (length text.now) }
+// Is the text short enough to be read?
+fn short_enough(text: &[u8]) -> Result<(), Refusal>
+    ensures { MatchResult result (λ _. length text.now ≤ text_most) (λ r. (text_most < length text.now) × (r ≡ record { no = too_long; place = 0 })) }
 {
-    TEXT_MOST < text.len()
+    if TEXT_MOST < text.len() {
+        return Err(Refusal {
+            no: TOO_LONG,
+            place: 0,
+        });
+    }
+    Ok(())
 }
 
 // The next token from a place on, as if reading began there.
 pub fn next_token(text: &[u8], at: usize) -> Step
     ensures { next_of result ≡ next_token text.now at }
 {
-    if is_too_long(text) {
-        return Step::Refused(TOO_LONG, 0);
-    }
+    short_enough(text)?;
     first_from(text, at)
 }
 
 // What is wrong with the whole text as bytes: too long, a byte that is not allowed, a comment that is not closed. Only a `/` is looked behind.
-pub fn fault_in(text: &[u8]) -> Fault
+pub fn fault_in(text: &[u8]) -> Result<(), Refusal>
     ensures { fault_told result ≡ fault_of text.now }
 {
-    if is_too_long(text) {
-        return Fault::Faulty(TOO_LONG, 0);
-    }
+    short_enough(text)?;
     let mut i = 0;
     while i < text.len() {
         let b = text[i];
         if !is_allowed(b) {
-            return Fault::Faulty(BAD_BYTE, i);
+            return Err(bad_byte(i));
         }
         if b == 47 {
-            match past_comments(text, i) {
-                Step::Token(p, l) => {
-                    i = p + l;
-                }
-                Step::Nothing => {
-                    return Fault::Clean;
-                }
-                Step::Refused(n, p) => {
-                    return Fault::Faulty(n, p);
-                }
-            }
+            let Some(token) = past_comments(text, i)? else {
+                return Ok(());
+            };
+            i = token.at + token.length;
         } else {
             i += 1;
         }
     }
-    Fault::Clean
+    Ok(())
 }

@@ -1,5 +1,6 @@
 -- A text that 1 to 16 leave, with the tables that hold it; and 17 and 25.
-use Rattle.std.specs.Prelude.{ℕ, ◌≡◌, List, length}
+use Rattle.std.specs.Prelude.{ℕ, ◌≡◌, List, length, Result, Ok, Err}
+use Rattle.tokens.specs.declared.Refusal.{Refusal}
 use Rattle.meaning.specs.Bounds.{tables_most}
 use Rattle.meaning.specs.Meaning.{given, refused, Meaning, meaning_of, meaning}
 use Rattle.timing.specs.Marks.{table_size}
@@ -10,7 +11,6 @@ use Rattle.texts.specs.Tables.{Found, NotesSound}
 use Rattle.plays.specs.Run.{Decides}
 use Rattle.crossings.specs.Run.{Decides as DecidesPair}
 use Rattle.plays.specs.declared.Failing.{Failing}
-use Rattle.verdicts.specs.declared.Unfit.{Unfit}
 
 -- an accepted text
 abbrev pub meant_by : Sound → Meaning
@@ -35,7 +35,7 @@ pub record Unplayable (text places lists tplaces waves book rows list : List ℕ
 pub record Crosses (text places lists tplaces waves book rows list : List ℕ) (v : Verdict) (r : Failing) : Type 0 where
   pub decides : {w : Watch} (f : Found text w places lists tplaces waves book rows list v) → DecidesPair f.it.read f.it.run r
 
--- THE PROMISE of judging its run: it is refused, 17 or 25, or accepted
-pub record Plays (text places lists tplaces waves book rows list : List ℕ) (v : Verdict) (r : Unfit) : Type 0 where
-  pub refuses : {w : Watch} → Found text w places lists tplaces waves book rows list v → (r.no ≡ 0 → ⊥) → meaning text ≡ refused r.no r.place
-  pub accepts : {w : Watch} (f : Found text w places lists tplaces waves book rows list v) → r.no ≡ 0 → meaning text ≡ given (meant_by f.it)
+-- THE PROMISE of judging its run: it is accepted, or refused, 17 or 25
+abbrev pub Plays : (text places lists tplaces waves book rows list : List ℕ) → Verdict → Result (Unit {0}) Refusal → Type 0
+Plays text places lists tplaces waves book rows list v (Ok u) = {w : Watch} (f : Found text w places lists tplaces waves book rows list v) → meaning text ≡ given (meant_by f.it)
+Plays text places lists tplaces waves book rows list v (Err r) = {w : Watch} → Found text w places lists tplaces waves book rows list v → meaning text ≡ refused r.no r.place

@@ -1,7 +1,7 @@
 // Any text, judged once: its refusal by 1 to 17 and 25, or its counts, a name by its number and where a waveform stands.
 #![tactic(auto)]
 
-ghost use Rattle.std.specs.Prelude.{◌≡◌, false, ◌≤◌, length};
+ghost use Rattle.std.specs.Prelude.{◌≡◌, ◌≤◌, length};
 ghost use Rattle.meaning.specs.Bounds.{signals_most, tables_most};
 ghost use Rattle.meaning.specs.Meaning.{firsts};
 ghost use Rattle.meaning.specs.Services.{name_at};
@@ -13,8 +13,9 @@ ghost use Rattle.verdicts.specs.Judged.{named_of, numbered, Judges, Copies};
 ghost use Rattle.verdicts.specs.Found.{no_waveform, SomeFound, Unplayable, Crosses, Plays};
 
 use plays::Failing;
-use texts::Verdict;
+use texts::{Counts, Verdict};
 use timing::Watch;
+use tokens::Refusal;
 
 const NOT_PLAYABLE: u8 = 17;
 
@@ -28,63 +29,36 @@ pub struct Wanted {
     pub watch: Watch,
 }
 
-// A name by its number, if there is one (`named`): its place in the text, and its length.
+// A name: its place in the text, and its length.
 #[derive(Clone, Copy)]
-pub struct Named {
-    pub named: bool,
+pub struct Name {
     pub at: usize,
     pub length: usize,
 }
 
-// The refusal's number, 0 for none, and its place; or else the counts, the name that is wanted, and where the waveform's entry stands (`found`: there is
-// one).
+// What is told of a text that is not refused: the counts, the name that is wanted and where the waveform's entry stands, if they are there.
 #[derive(Clone, Copy)]
 pub struct Judged {
-    pub no: u8,
-    pub place: usize,
-    pub signals: usize,
-    pub tables: usize,
-    pub listed: usize,
-    pub cycles: usize,
-    pub size: usize,
-    pub name: Named,
-    pub found: bool,
-    pub entry: usize,
-}
-
-// Is the run of a text refused, 17 or 25 (0: it is not), and where does the V stand?
-#[derive(Clone, Copy)]
-pub struct Unfit {
-    pub no: u8,
-    pub place: usize,
+    pub counts: Counts,
+    pub name: Option<Name>,
+    pub sight: Option<usize>,
 }
 
 // ---- a name by its number
 
-fn nameless() -> Named
-    ensures { result.named ≡ false }
-{
-    Named {
-        named: false,
-        at: 0,
-        length: 0,
-    }
-}
-
 // Of `count` names.
-fn name_at<'a>(text: &'a [u8], places: &'a [usize], count: usize, number: usize) -> Named
+fn name_at<'a>(text: &'a [u8], places: &'a [usize], count: usize, number: usize) -> Option<Name>
     requires { count ≤ signals_most }
     ensures { name_at (firsts (names text.now places.now count)) number ≡ named_of result }
 {
     if count <= number {
-        return nameless();
+        return None;
     }
     let word = words::name_bytes(text, places, number);
-    Named {
-        named: true,
+    Some(Name {
         at: words::number_at(places, number * 2),
         length: word.len(),
-    }
+    })
 }
 
 // Of the tables, or of the signals.
@@ -96,7 +70,7 @@ fn name_of<'a>(
     tables: usize,
     table: bool,
     number: usize,
-) -> Named
+) -> Option<Name>
     requires { (signals ≤ signals_most) × (tables ≤ tables_most) }
     ensures { name_at (numbered table text.now places.now tplaces.now signals tables) number ≡ named_of result }
 {
@@ -107,23 +81,6 @@ fn name_of<'a>(
 }
 
 // ---- any text, judged once: 1 to 17, and 25
-
-fn refused(no: u8, place: usize) -> Judged
-    ensures { (result.no ≡ no) × (result.place ≡ place) }
-{
-    Judged {
-        no,
-        place,
-        signals: 0,
-        tables: 0,
-        listed: 0,
-        cycles: 0,
-        size: 0,
-        name: nameless(),
-        found: false,
-        entry: 0,
-    }
-}
 
 // What is told of a text that is not refused.
 fn told<'a>(
@@ -150,17 +107,17 @@ fn told<'a>(
         wanted.table,
         wanted.number,
     );
-    Judged {
-        no: 0,
-        place: 0,
+    let counts = Counts {
         signals,
         tables,
         listed: parts.listed,
         cycles: total.cycles,
         size: total.size,
+    };
+    Judged {
+        counts,
         name,
-        found: parts.found,
-        entry: parts.place,
+        sight: parts.sight,
     }
 }
 
@@ -310,7 +267,7 @@ pub fn failing<'a>(
     list: &'a [usize],
     used: &'a [u8],
     v: Verdict,
-) -> Unfit
+) -> Result<(), Refusal>
     requires { SomeFound text.now places.now lists.now tplaces.now waves.now book.now rows.now list.now used.now v }
     ensures { Plays text.now places.now lists.now tplaces.now waves.now book.now rows.now list.now v result }
 {
@@ -318,22 +275,22 @@ pub fn failing<'a>(
         text, places, lists, tplaces, waves, book, rows, list, used, v,
     );
     if f.failed {
-        return Unfit {
+        return Err(Refusal {
             no: NOT_PLAYABLE,
             place: f.place,
-        };
+        });
     }
     if quiet::is_quiet(text) {
-        return Unfit { no: 0, place: 0 };
+        return Ok(());
     }
     let x = crossing(text, places, lists, tplaces, waves, book, rows, list, v);
     if x.failed {
-        return Unfit {
+        return Err(Refusal {
             no: ACROSS_EDGE,
             place: x.place,
-        };
+        });
     }
-    Unfit { no: 0, place: 0 }
+    Ok(())
 }
 
 // A text that 1 to 16 leave: 17, 25, or what is wanted of it.
@@ -349,7 +306,7 @@ fn play<'a>(
     used: &'a [u8],
     v: Verdict,
     wanted: Wanted,
-) -> Judged
+) -> Result<Judged, Refusal>
     requires { Found text.now wanted.watch places.now lists.now tplaces.now waves.now book.now rows.now list.now v × NotesSound text.now used.now v × (length used.now ≡ table_size) }
     ensures { Judges text.now wanted result }
 {
@@ -357,20 +314,26 @@ fn play<'a>(
         text, places, lists, tplaces, waves, book, rows, list, used, v,
     );
     if f.failed {
-        return refused(NOT_PLAYABLE, f.place);
+        return Err(Refusal {
+            no: NOT_PLAYABLE,
+            place: f.place,
+        });
     }
     if quiet::is_quiet(text) {
-        return told(text, places, tplaces, v, wanted);
+        return Ok(told(text, places, tplaces, v, wanted));
     }
     let x = crossing(text, places, lists, tplaces, waves, book, rows, list, v);
     if x.failed {
-        return refused(ACROSS_EDGE, x.place);
+        return Err(Refusal {
+            no: ACROSS_EDGE,
+            place: x.place,
+        });
     }
-    told(text, places, tplaces, v, wanted)
+    Ok(told(text, places, tplaces, v, wanted))
 }
 
 // A whole text: refused by 1 to 17 or 25, or what is wanted of it.
-pub fn judge(text: &[u8], wanted: Wanted) -> Judged
+pub fn judge(text: &[u8], wanted: Wanted) -> Result<Judged, Refusal>
     ensures { Judges text.now wanted result }
 {
     let mut places = [0usize; signals::PLACES];
@@ -392,10 +355,7 @@ pub fn judge(text: &[u8], wanted: Wanted) -> Judged
         &mut list,
         wanted.watch,
         &mut used,
-    );
-    if v.no != 0 {
-        return refused(v.no, v.place);
-    }
+    )?;
     play(
         text, &places, &lists, &tplaces, &waves, &book, &rows, &list, &used, v, wanted,
     )

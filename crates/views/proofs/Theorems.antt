@@ -6,6 +6,8 @@ use mathlib.Core.Bool.{Bool, true, false}
 use mathlib.Core.List.{List, [], ◌∷◌, ◌++◌}
 use lib.Dec.{leb}
 use lib.ListN.{length, take, drop}
+use Rattle.std.specs.Prelude.{Result, Ok, Err}
+use Rattle.tokens.specs.declared.Refusal.{Refusal}
 use Rattle.meaning.specs.Refusals.{bad_data, no_room}
 use Rattle.meaning.specs.Run.{Cycle, size, visits, cycles_of}
 use Rattle.meaning.specs.Meaning.{Answer, given, refused, answering, Meaning, meaning}
@@ -16,8 +18,7 @@ use Rattle.meaning.proofs.Windows.{windows_join}
 use Rattle.verdicts.specs.Buffers.{afterwards}
 use Rattle.views.specs.Views.{shown_of, Views}
 use Rattle.views.specs.Calls.{Call, lent, Kept, fronts}
-use Rattle.views.specs.declared.Shown.{Shown}
-use Rattle.views.specs.declared.Shown.TheVariants.{Rows, Refused as WindowRefused}
+use Rattle.views.specs.declared.Rows.{Rows}
 
 -- ---- as many rows as are due, and the visits, at most ten times the run's size
 
@@ -37,7 +38,7 @@ mark_given true x a e = let z : ◌≡◌ {A = ℕ} 0 1 = cc in absurd (omega ar
 mark_given false x a e = e
 
 pub visits_told : (text : List ℕ) (m : Meaning) → meaning text ≡ given m → (first wanted mark : ℕ) {before after : List ℕ} {n v : ℕ}
-    → Views (window text first wanted mark before) before after (Rows n v) → Costs m first wanted n v
+    → Views (window text first wanted mark before) before after (Ok (record { count = n; visits = v })) → Costs m first wanted n v
 unfolding window answering window_of rows_out
 visits_told text m e first wanted mark {before} {after} {n} {v} h =
     let told = mark_given (bad_mark mark) (record { count = n; visits = v; buffer = after }) _
@@ -66,19 +67,19 @@ module _ (text : List ℕ) (m : Meaning) (e : meaning text ≡ given m) where
 
 -- ---- one answer only, and one content of the buffer afterwards
 
-pub window_determined : {a : Answer Window} {before x y : List ℕ} {r s : Shown} → Views a before x r → Views a before y s → (r ≡ s) × (x ≡ y)
+pub window_determined : {a : Answer Window} {before x y : List ℕ} {r s : Result Rows Refusal} → Views a before x r → Views a before y s → (r ≡ s) × (x ≡ y)
 window_determined {a} {before} {x} {y} {r} {s} h k = (told r x h.answers ∙ sym (told s y k.answers), h.buffer_is ∙ sym k.buffer_is)
   where
-    back : Answer Window → Shown
-    back (given w) = Rows w.count w.visits
-    back (refused n p) = WindowRefused n p
+    back : Answer Window → Result Rows Refusal
+    back (given w) = Ok (record { count = w.count; visits = w.visits })
+    back (refused n p) = Err (record { no = n; place = p })
 
-    told : (r : Shown) (after : List ℕ) → shown_of r after ≡ a → r ≡ back a
-    told (Rows n v) after e = ap back e
-    told (WindowRefused n p) after e = ap back e
+    told : (r : Result Rows Refusal) (after : List ℕ) → shown_of r after ≡ a → r ≡ back a
+    told (Ok x) after e = ap back e
+    told (Err x) after e = ap back e
 
 -- ---- a refused call leaves the buffer as it was
 
-pub window_untouched : {a : Answer Window} {before after : List ℕ} {n p : ℕ} → Views a before after (WindowRefused n p) → after ≡ before
+pub window_untouched : {a : Answer Window} {before after : List ℕ} {x : Refusal} → Views a before after (Err x) → after ≡ before
 unfolding afterwards
 window_untouched {a} {before} h = h.buffer_is ∙ ap (λ (x : Answer Window). afterwards (λ w. w.buffer) x before) (sym h.answers)

@@ -8,6 +8,8 @@ use mathlib.Core.List.{List, ◌++◌}
 use lib.Dec.{leb, ltb}
 use lib.ListN.{length, drop}
 use borrow.Author.Tests.{leb-true, ltb-false}
+use Rattle.std.specs.Prelude.{Ok, Err}
+use Rattle.tokens.specs.declared.Refusal.{Refusal}
 use Rattle.tokens.proofs.Bools.{both, neither}
 use Rattle.meaning.specs.Bounds.{signals_most, size_most, cycles_most}
 use Rattle.meaning.specs.Refusals.{bad_data, no_room}
@@ -21,7 +23,6 @@ use Rattle.texts.proofs.Sounds.{sound_runs}
 use Rattle.windows.specs.Run.{Accepts, Windows}
 use Rattle.verdicts.specs.Buffers.{afterwards, spared}
 use Rattle.views.specs.Views.{Views}
-use Rattle.views.specs.declared.Shown.TheVariants.{Rows, Refused}
 use Rattle.verdicts.specs.Found.{meant_by}
 use Rattle.verdicts.proofs.Found.{runs, signals_counted, counts_met}
 use Rattle.verdicts.proofs.Sparing.{room, spared_room}
@@ -29,17 +30,17 @@ use Rattle.verdicts.proofs.Sparing.{room, spared_room}
 -- ---- as the service answers it
 
 module _ {a : Answer Window} {buffer : List ℕ} where
-  views_refused : {n p : ℕ} → a ≡ refused n p → Views a buffer buffer (Refused n p)
+  views_refused : {x : Refusal} → a ≡ refused x.no x.place → Views a buffer buffer (Err x)
   unfolding afterwards
   views_refused e = rw e (record { answers = refl; buffer_is = refl })
 
-  views_given : {n v : ℕ} {after : List ℕ} → a ≡ given (record { count = n; visits = v; buffer = after }) → Views a buffer after (Rows n v)
+  views_given : {n v : ℕ} {after : List ℕ} → a ≡ given (record { count = n; visits = v; buffer = after }) → Views a buffer after (Ok (record { count = n; visits = v }))
   unfolding afterwards
   views_given e = rw e (record { answers = refl; buffer_is = refl })
 
 -- a text's refusal is the window's
-pub view_refused : (text : List ℕ) {n p : ℕ} (first wanted mark : ℕ) (buffer : List ℕ) (spare : Bool) → meaning text ≡ refused n p
-    → Views (spared spare (window text first wanted mark buffer)) buffer buffer (Refused n p)
+pub view_refused : (text : List ℕ) {x : Refusal} (first wanted mark : ℕ) (buffer : List ℕ) (spare : Bool) → meaning text ≡ refused x.no x.place
+    → Views (spared spare (window text first wanted mark buffer)) buffer buffer (Err x)
 unfolding window answering
 view_refused text first wanted mark buffer spare e = views_refused (rw (e, window))
 
@@ -47,7 +48,7 @@ view_refused text first wanted mark buffer spare e = views_refused (rw (e, windo
 
 -- what is no mark is refused for itself
 pub view_unmarked : (text : List ℕ) {m : Meaning} (first wanted mark : ℕ) (buffer : List ℕ) (spare : Bool) → meaning text ≡ given m → bad_mark mark ≡ true
-    → Views (spared spare (window text first wanted mark buffer)) buffer buffer (Refused bad_data 0)
+    → Views (spared spare (window text first wanted mark buffer)) buffer buffer (Err (record { no = bad_data; place = 0 }))
 unfolding window answering window_of
 view_unmarked text first wanted mark buffer spare e bad = views_refused (rw (e, bad, window, window_of))
 
@@ -102,7 +103,7 @@ module _ {w : Watch} {text places lists tplaces waves book marks list : List ℕ
           ∙ spared_room spare (leb (rows_due it first wanted * width_of it) (length buffer)) _
           ∙ rw enough
 
-      pub view_full : y ≡ true → Views answer buffer buffer (Refused no_room 0)
+      pub view_full : y ≡ true → Views answer buffer buffer (Err (record { no = no_room; place = 0 }))
       view_full z = views_refused (rw z at answered)
 
       -- the window over the run may be asked for them
@@ -118,6 +119,6 @@ module _ {w : Watch} {text places lists tplaces waves book marks list : List ℕ
       }
 
       pub view_given : {r : ℕ} {after : List ℕ} → y ≡ false → Windows v.parts.signals first due mark buffer it r after
-          → Views answer buffer after (Rows due r)
+          → Views answer buffer after (Ok (record { count = due; visits = r }))
       unfolding window_rows width_of
       view_given z s = views_given ((rw z at answered) ∙ rw (← due_is, signals_counted f, ← s.visits_are, ← s.rows_are))

@@ -1,16 +1,17 @@
 -- Calls of the service Window laid end to end (document 01, the third demand), all with one mark: what they leave in their buffers.
-use Rattle.std.specs.Prelude.{ℕ, ◌+◌, List, [], ◌∷◌, ◌++◌}
+use Rattle.std.specs.Prelude.{ℕ, ◌+◌, List, [], ◌∷◌, ◌++◌, Result}
+use Rattle.tokens.specs.declared.Refusal.{Refusal}
 use Rattle.meaning.specs.Services.{window}
 use Rattle.meaning.specs.Windows.{Lent, rows_given}
 use Rattle.views.specs.Views.{shown_of, Views}
-use Rattle.views.specs.declared.Shown.{Shown}
+use Rattle.views.specs.declared.Rows.{Rows}
 
 -- one call: how many rows were wanted, its buffer before and after, and the answer
 pub record Call : Type 0 where
   pub wanted : ℕ
   pub before : List ℕ
   pub after : List ℕ
-  pub answer : Shown
+  pub answer : Result Rows Refusal
 
 -- what was lent to them
 unfoldable pub lent : List Call → List Lent

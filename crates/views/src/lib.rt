@@ -8,27 +8,21 @@ ghost use Rattle.verdicts.specs.Buffers.{spared};
 ghost use Rattle.views.specs.Views.{Views};
 
 use texts::Verdict;
+use tokens::Refusal;
 use words::{BAD_DATA, NO_ROOM};
 
+// How many rows were written, and the visits.
 #[derive(Clone, Copy)]
-pub enum Shown {
-    // how many rows were written, and the visits
-    Rows(usize, usize),
-    Refused(u8, usize),
+pub struct Rows {
+    pub count: usize,
+    pub visits: usize,
 }
 
 // min(wanted, cycles left).
 fn rows_due(cycles: usize, first: usize, wanted: usize) -> usize
     ensures { result ≡ min wanted (cycles - first) }
 {
-    if cycles <= first {
-        return 0;
-    }
-    let left = cycles - first;
-    if wanted < left {
-        return wanted;
-    }
-    left
+    wanted.min(cycles.saturating_sub(first))
 }
 
 // Is it a letter, a digit or LF?
@@ -55,24 +49,27 @@ fn view<'a>(
     mark: u8,
     spare: bool,
     buffer: &mut [u8],
-) -> Shown
+) -> Result<Rows, Refusal>
     requires { SomeFound text.now places.now lists.now tplaces.now waves.now book.now rows.now list.now used.now v }
     ensures { Views (spared spare (window_of text.now first wanted mark buffer.old)) buffer.old buffer.new result }
 {
     let parts = v.parts;
     let total = v.total;
-    let f = verdicts::failing(
+    verdicts::failing(
         text, places, lists, tplaces, waves, book, rows, list, used, v,
-    );
-    if f.no != 0 {
-        return Shown::Refused(f.no, f.place);
-    }
+    )?;
     if is_no_mark(mark) {
-        return Shown::Refused(BAD_DATA, 0);
+        return Err(Refusal {
+            no: BAD_DATA,
+            place: 0,
+        });
     }
     let due = rows_due(total.cycles, first, wanted);
     if !spare | (buffer.len() < due * (parts.signals + 2)) {
-        return Shown::Refused(NO_ROOM, 0);
+        return Err(Refusal {
+            no: NO_ROOM,
+            place: 0,
+        });
     }
     let visits = windows::window(
         text,
@@ -93,7 +90,7 @@ fn view<'a>(
         mark,
         buffer,
     );
-    Shown::Rows(due, visits)
+    Ok(Rows { count: due, visits })
 }
 
 // Any text.
@@ -104,7 +101,7 @@ pub fn viewed(
     mark: u8,
     spare: bool,
     buffer: &mut [u8],
-) -> Shown
+) -> Result<Rows, Refusal>
     ensures { Views (spared spare (window_of text.now first wanted mark buffer.old)) buffer.old buffer.new result }
 {
     let mut places = [0usize; signals::PLACES];
@@ -126,10 +123,7 @@ pub fn viewed(
         &mut list,
         verdicts::nowhere(),
         &mut used,
-    );
-    if v.no != 0 {
-        return Shown::Refused(v.no, v.place);
-    }
+    )?;
     view(
         text, &places, &lists, &tplaces, &waves, &book, &rows, &list, &used, v, first, wanted,
         mark, spare, buffer,
@@ -137,7 +131,13 @@ pub fn viewed(
 }
 
 // The rows of so many cycles from the cycle `first` on, as far as there are so many, to the front of the buffer; the mark stands for an unassigned pin.
-pub fn window(text: &[u8], first: usize, wanted: usize, mark: u8, buffer: &mut [u8]) -> Shown
+pub fn window(
+    text: &[u8],
+    first: usize,
+    wanted: usize,
+    mark: u8,
+    buffer: &mut [u8],
+) -> Result<Rows, Refusal>
     ensures { Views (window_of text.now first wanted mark buffer.old) buffer.old buffer.new result }
 {
     viewed(text, first, wanted, mark, true, buffer)

@@ -5,9 +5,9 @@ use mathlib.Core.Path.{◌≡◌, refl, sym, ap, ◌∙◌}
 use mathlib.Core.Bool.{Bool, true, false, not, ◌&&◌, and-false}
 use mathlib.Core.Option.{Option, none, some}
 use mathlib.Core.List.{List, [], ◌∷◌}
-use lib.Dec.{leb, ltb}
+use lib.Dec.{leb}
 use lib.ListN.{length, get_or, take, drop, drop_of_length-le}
-use borrow.Author.Tests.{lt-ltb, lt-leb, leb-true, leb-false}
+use borrow.Author.Tests.{lt-leb, leb-true, leb-false}
 use Rattle.tokens.specs.Written.{bytes, same}
 use Rattle.tokens.specs.Bytes.{between, digit}
 use Rattle.meaning.specs.Refusals.{bad_number}
@@ -16,7 +16,7 @@ use Rattle.meaning.specs.Names.{value, number, within}
 use Rattle.meaning.specs.Timing.{unit, picoseconds}
 use Rattle.meaning.proofs.Others.{same_eq}
 use Rattle.words.specs.Cursor.{Goes, Checked}
-use Rattle.words.specs.Values.{most, capped, told}
+use Rattle.words.specs.Values.{most, capped}
 use Rattle.words.specs.declared.Cursor.{Cursor}
 use Rattle.words.proofs.Words.{cut, rest}
 use Rattle.words.proofs.Flow.{then, given, valued, checked, refused_by}
@@ -66,10 +66,10 @@ unfolding number
 number_some [] h = absurd (omega arith)
 number_some (b ∷ s) h = refl
 
-pub number_all : (w : List ℕ) (n : ℕ) → capped (value 0 w) ≡ some n → told (ltb 0 (length w)) n ≡ capped (number w)
+pub number_none : (w : List ℕ) → length w ≡ 0 → none ≡ capped (number w)
 unfolding number
-number_all [] n h = refl
-number_all (b ∷ s) n h = rw (lt-ltb 0 (length (b ∷ s)) (omega arith)) (sym h)
+number_none [] h = refl
+number_none (b ∷ s) h = absurd (omega arith)
 
 -- ---- times
 
@@ -155,14 +155,18 @@ same_test lo hi n m h e = by (leb m hi) refl
         let b : hi < n = omega (arith, leb-false m hi k) in
         rw (lt-leb n hi b, k) (and-false (leb lo n) ∙ sym (and-false (leb lo m)))
 
--- the code tests what it has of the number
-pub within_by : {text : List ℕ} {c r : Cursor} {p : ℕ} (lo hi n : ℕ) → hi < most → (y : Bool) (o : Option ℕ)
-    → Checked c (not (y && leb lo n && leb n hi)) bad_number p r → told y n ≡ capped o → Goes text c (within lo hi o p) r n
+-- the code tests what it has of the number, or knows that it has none
+pub within_none : {text : List ℕ} {c r : Cursor} {p : ℕ} (lo hi n : ℕ) (o : Option ℕ) → Checked c true bad_number p r → none ≡ capped o
+    → Goes text c (within lo hi o p) r n
+unfolding within ◌>>=◌ after
+within_none lo hi n none k e = refused_by k refl
+within_none lo hi n (some m) k e = let z : ◌≡◌ {A = ℕ} 0 1 = cc in absurd (omega arith)
+
+pub within_some : {text : List ℕ} {c r : Cursor} {p : ℕ} (lo hi n : ℕ) → hi < most → (o : Option ℕ) → Checked c (not (leb lo n && leb n hi)) bad_number p r
+    → some n ≡ capped o → Goes text c (within lo hi o p) r n
 unfolding within ◌>>=◌ after refuse_if give
-within_by lo hi n h true none k e = let z : ◌≡◌ {A = ℕ} 0 1 = cc in absurd (omega arith)
-within_by lo hi n h false none k e = refused_by k refl
-within_by lo hi n h false (some m) k e = let z : ◌≡◌ {A = ℕ} 0 1 = cc in absurd (omega arith)
-within_by {text} {c} {r} {p} lo hi n h true (some m) k e =
+within_some lo hi n h none k e = let z : ◌≡◌ {A = ℕ} 0 1 = cc in absurd (omega arith)
+within_some {text} {c} {r} {p} lo hi n h (some m) k e =
     let q : n ≡ min most m = cc in
     by q (leb lo m && leb m hi) refl (rw (same_test lo hi n m h q) at k)
   where

@@ -1,8 +1,7 @@
 -- Numbers that the code holds: up to a largest one, above every bound of document 01.
-use Rattle.std.specs.Prelude.{ℕ, ◌+◌, ◌*◌, ◌-◌, min, ◌≡◌, Bool, true, false}
+use Rattle.std.specs.Prelude.{ℕ, ◌+◌, ◌*◌, ◌-◌, min, ◌≡◌, Bool, true, false, Option as Maybe, Some, None}
 use Rattle.std.proofs.Math.Option.{Option, none, some}
 use Rattle.tokens.specs.Bytes.{digit}
-use Rattle.words.specs.declared.Value.{Value}
 
 abbrev pub most : ℕ
 most = 10_000_000_000
@@ -17,8 +16,10 @@ abbrev pub told : Bool → ℕ → Option ℕ
 told true n = some n
 told false n = none
 
-abbrev pub value_of : Value → Option ℕ
-value_of v = told v.right v.n
+-- what the code tells of a number
+abbrev pub value_of : Maybe ℕ → Option ℕ
+value_of None = none
+value_of (Some n) = some n
 
 -- a digit b behind a number of which the code has n
 pub record Longer (n b r : ℕ) : Type 0 where

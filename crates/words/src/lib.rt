@@ -48,13 +48,6 @@ pub struct Cursor {
     pub end: usize,
 }
 
-// A number, if it is one (`right`), and at most the largest that the code holds.
-#[derive(Clone, Copy)]
-pub struct Value {
-    pub right: bool,
-    pub n: u64,
-}
-
 // The number of a name in its table, and the cursor behind it.
 #[derive(Clone, Copy)]
 pub struct Named {
@@ -91,13 +84,13 @@ pub fn cursor_at(text: &[u8], at: usize) -> Cursor
     ensures { Stands text.now at result }
 {
     match tokens::first_from(text, at) {
-        tokens::Step::Token(p, l) => Cursor {
+        Ok(Some(token)) => Cursor {
             no: 0,
             fault: 0,
-            at: p,
-            end: p + l,
+            at: token.at,
+            end: token.at + token.length,
         },
-        tokens::Step::Nothing => {
+        Ok(None) => {
             let e = if at < text.len() { text.len() } else { at };
             Cursor {
                 no: 0,
@@ -106,10 +99,10 @@ pub fn cursor_at(text: &[u8], at: usize) -> Cursor
                 end: 0,
             }
         }
-        tokens::Step::Refused(n, p) => Cursor {
+        Err(fault) => Cursor {
             no: 0,
-            fault: n,
-            at: p,
+            fault: fault.no,
+            at: fault.place,
             end: 0,
         },
     }
@@ -161,22 +154,11 @@ pub fn expect(text: &[u8], c: Cursor, right: bool) -> Cursor
 
 // ---- tokens that are due
 
-// Are two words equal? From the end on: names often differ in their last byte only.
+// Are two words equal?
 pub fn equal(w: &[u8], v: &[u8]) -> bool
     ensures { result ≡ same w.now v.now }
 {
-    let n = w.len();
-    if n != v.len() {
-        return false;
-    }
-    let mut i = n;
-    while 0 < i {
-        i -= 1;
-        if w[i] != v[i] {
-            return false;
-        }
-    }
-    true
+    w == v
 }
 
 // Is the token w ahead?
@@ -225,14 +207,7 @@ pub fn word(text: &[u8], c: Cursor) -> Cursor
 pub fn holds(w: &[u8], b: u8) -> bool
     ensures { result ≡ has b w.now }
 {
-    let mut i = 0;
-    while i < w.len() {
-        if w[i] == b {
-            return true;
-        }
-        i += 1;
-    }
-    false
+    w.contains(&b)
 }
 
 // ---- waveform characters
@@ -248,14 +223,7 @@ pub fn is_char(b: u8) -> bool
 pub fn all_chars(w: &[u8]) -> bool
     ensures { result ≡ all_chars w.now }
 {
-    let mut i = 0;
-    while i < w.len() {
-        if !is_char(w[i]) {
-            return false;
-        }
-        i += 1;
-    }
-    true
+    w.iter().all(|b| is_char(*b))
 }
 
 // ---- names
@@ -357,7 +325,7 @@ pub fn name(text: &[u8], c: Cursor) -> Cursor
 pub fn number_at(list: &[usize], i: usize) -> usize
     ensures { result ≡ get_or list.now i 0 }
 {
-    if i < list.len() { list[i] } else { 0 }
+    list.get(i).copied().unwrap_or(0)
 }
 
 // The bytes of the name of number i.
@@ -375,7 +343,7 @@ fn two(w: &[u8], i: usize) -> u64
     requires { i + 2 ≤ length w.now }
     ensures { result ≡ packed w.now i 2 }
 {
-    wide(w[i]) + wide(w[i + 1]) * 256
+    u64::from(w[i]) + u64::from(w[i + 1]) * 256
 }
 
 fn four(w: &[u8], i: usize) -> u64
@@ -406,28 +374,6 @@ pub fn zeros_from(w: &[u8]) -> usize
     n
 }
 
-// Are two words equal? By eight bytes at a time; the last eight may have been compared in part already.
-fn equal_by_eights(w: &[u8], v: &[u8]) -> bool
-    ensures { result ≡ same w.now v.now }
-{
-    let n = w.len();
-    if n != v.len() {
-        return false;
-    }
-    if n < 8 {
-        return equal(w, v);
-    }
-    let last = n - 8;
-    let mut i = 0;
-    while i < last {
-        if eight(w, i) != eight(v, i) {
-            return false;
-        }
-        i += 8;
-    }
-    eight(w, last) == eight(v, last)
-}
-
 // A chain by two numbers.
 fn mixed(x: u64, y: u64) -> usize
     ensures { InChain (mixed_of x y) result }
@@ -452,7 +398,7 @@ pub fn chain(w: &[u8]) -> usize
     if n == 0 {
         return 0;
     }
-    let b = wide(w[0]);
+    let b = u64::from(w[0]);
     mixed(b, b)
 }
 
@@ -475,19 +421,17 @@ pub fn is_named<'a>(text: &'a [u8], w: &'a [u8], last: u8, places: &'a [usize], 
             return false;
         }
     }
-    equal_by_eights(bytes_of(text, places[j], end), w)
+    equal(bytes_of(text, places[j], end), w)
 }
 
 // The number of the first of `count` names that is w; `count` where none is. The slow way, for words without a byte and tables cut short.
 fn find_any<'a>(text: &'a [u8], w: &'a [u8], places: &'a [usize], count: usize) -> usize
     ensures { told (ltb result count) result ≡ find_of (names text.now places.now count) w.now }
 {
-    let mut i = 0;
-    while i < count {
+    for i in 0..count {
         if equal(name_bytes(text, places, i), w) {
             return i;
         }
-        i += 1;
     }
     count
 }
@@ -501,12 +445,10 @@ pub fn find<'a>(text: &'a [u8], w: &'a [u8], places: &'a [usize], count: usize) 
         return find_any(text, w, places, count);
     }
     let last = w[n - 1];
-    let mut j = 0;
-    while j < count * 2 {
-        if is_named(text, w, last, places, j) {
-            return j / 2;
+    for i in 0..count {
+        if is_named(text, w, last, places, i * 2) {
+            return i;
         }
-        j += 2;
     }
     count
 }
@@ -555,97 +497,81 @@ pub fn is_digit(b: u8) -> bool
     (48 <= b) & (b <= 57)
 }
 
-fn wide(b: u8) -> u64
-    ensures { result ≡ b }
-{
-    b as u64
-}
+// The largest number that is held: above every bound on one.
+const NUMBER_MOST: u64 = 10_000_000_000;
 
 // A number with one digit more, at most the largest that is held.
 pub fn longer(n: u64, b: u8) -> u64
     ensures { Longer n b result }
 {
-    if 10_000_000_000 <= n {
-        return 10_000_000_000;
+    if NUMBER_MOST <= n {
+        return NUMBER_MOST;
     }
-    if !is_digit(b) {
-        return 10_000_000_000;
-    }
-    let m = n * 10 + wide(b) - 48;
-    if 10_000_000_000 <= m {
-        10_000_000_000
-    } else {
-        m
-    }
+    (n * 10 + u64::from(b.saturating_sub(b'0'))).min(NUMBER_MOST)
 }
 
-// The number that decimal digits stand for.
-pub fn number(w: &[u8]) -> Value
+// The number that decimal digits stand for, at most the largest that is held.
+pub fn number(w: &[u8]) -> Option<u64>
     ensures { value_of result ≡ capped (number_of w.now) }
 {
-    let mut n: u64 = 0;
-    let mut i = 0;
-    while i < w.len() {
-        if !is_digit(w[i]) {
-            return Value { right: false, n: 0 };
+    if w.is_empty() {
+        return None;
+    }
+    let mut n = 0;
+    for b in w {
+        if !is_digit(*b) {
+            return None;
         }
-        n = longer(n, w[i]);
-        i += 1;
+        n = longer(n, *b);
     }
-    Value {
-        right: 0 < w.len(),
-        n,
-    }
+    Some(n)
 }
 
 // A number before its unit, which begins with no digit, in ps.
-fn in_ps(n: u64, unit: &[u8]) -> Value
+fn in_ps(n: u64, unit: &[u8]) -> Option<u64>
     ensures { (m : ℕ) → n ≡ min most m → digit (get_or unit.now 0 0) ≡ false → value_of result ≡ capped (unit_of m unit.now) }
 {
     if equal(unit, b"ps") {
-        return Value { right: true, n };
+        return Some(n);
     }
     if !equal(unit, b"ns") {
-        return Value { right: false, n: 0 };
+        return None;
     }
-    if 10_000_000 <= n {
-        return Value {
-            right: true,
-            n: 10_000_000_000,
-        };
-    }
-    Value {
-        right: true,
-        n: n * 1000,
-    }
+    Some(n.saturating_mul(1000).min(NUMBER_MOST))
 }
 
 // The time that a word stands for, in ps.
-pub fn time(w: &[u8]) -> Value
+pub fn time(w: &[u8]) -> Option<u64>
     ensures { value_of result ≡ capped (picoseconds w.now) }
 {
-    let mut n: u64 = 0;
-    let mut i = 0;
-    while i < w.len() {
-        if !is_digit(w[i]) {
+    let mut n = 0;
+    for (i, b) in w.iter().enumerate() {
+        if !is_digit(*b) {
             if i == 0 {
-                return Value { right: false, n: 0 };
+                return None;
             }
             return in_ps(n, &w[i..]);
         }
-        n = longer(n, w[i]);
-        i += 1;
+        n = longer(n, *b);
     }
-    Value { right: false, n: 0 }
+    None
 }
 
-// Refused with 9 at p, unless it is a number from lo to hi.
-pub fn within(c: Cursor, v: Value, lo: u32, hi: u32, p: usize) -> Cursor
-    ensures { (text : List ℕ) (o : Option ℕ) → value_of v ≡ capped o → Goes text c (within_due lo hi o p) result v.n }
+// A number that was read: refused with 9 at p, unless it is one from lo to hi.
+pub fn within(c: Cursor, v: Option<u64>, lo: u32, hi: u32, p: usize) -> Numbered
+    ensures { (text : List ℕ) (o : Option ℕ) → value_of v ≡ capped o → Goes text c (within_due lo hi o p) result.cursor result.n }
 {
-    let n = v.n;
-    let right = v.right & (lo as u64 <= n) & (n <= hi as u64);
-    refuse_if(c, !right, BAD_NUMBER, p)
+    match v {
+        Some(n) => {
+            let right = (u64::from(lo) <= n) & (n <= u64::from(hi));
+            let cursor = refuse_if(c, !right, BAD_NUMBER, p);
+            Numbered { cursor, n }
+        }
+        None => {
+            let cursor = refuse_if(c, true, BAD_NUMBER, p);
+            Numbered { cursor, n: 0 }
+        }
+    }
 }
 
 // A number from lo to hi is due.
@@ -654,8 +580,7 @@ pub fn number_in(text: &[u8], c: Cursor, lo: u32, hi: u32) -> Numbered
 {
     let d = word(text, c);
     let v = number(bytes_of(text, c.at, c.end));
-    let cursor = within(d, v, lo, hi, c.at);
-    Numbered { cursor, n: v.n }
+    within(d, v, lo, hi, c.at)
 }
 
 // The largest time, in ps.
@@ -671,9 +596,9 @@ pub fn quoted(text: &[u8], c: Cursor, lo: u32) -> Numbered
     let d = due(text, c, b"'");
     let e = word(text, d);
     let v = time(bytes_of(text, d.at, d.end));
-    let f = within(e, v, lo, TIME_MOST, d.at);
-    let cursor = due(text, f, b"'");
-    Numbered { cursor, n: v.n }
+    let t = within(e, v, lo, TIME_MOST, d.at);
+    let cursor = due(text, t.cursor, b"'");
+    Numbered { cursor, n: t.n }
 }
 
 // ---- times with a sign, counted from the earliest that there may be
@@ -697,9 +622,12 @@ fn time_of(text: &[u8], c: Cursor, minus: bool) -> Numbered
 {
     let d = word(text, c);
     let v = time(bytes_of(text, c.at, c.end));
-    let cursor = within(d, v, 0, TIME_MOST, c.at);
-    let n = counted(v.n, minus);
-    Numbered { cursor, n }
+    let t = within(d, v, 0, TIME_MOST, c.at);
+    let n = counted(t.n, minus);
+    Numbered {
+        cursor: t.cursor,
+        n,
+    }
 }
 
 // The same, with a `-` before it or without.

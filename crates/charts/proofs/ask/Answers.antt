@@ -13,4 +13,4 @@ returns-then-char-gt-CHAR c =
 pub returns : goal.returns
 returns c =
     λ x xs q.
-    ask_named (next_asked _ _ c.requires.1) q c.if-asked-at-lt-ASK.false _ c.if-char-gt-CHAR.false c.single-o.ensures
+    ask_named (next_asked _ _ c.requires.1) q c.if-asked-at-lt-ASK.false _ c.if-char-gt-CHAR.false c.single.ensures

@@ -20,59 +20,59 @@ slice_bounds-ask-start c = omega (arith, c.loop-at.invariant.in_times)
 pub slice_bounds-ask-count-in-loop-at : goal.slice_bounds-ask-count-in-loop-at
 slice_bounds-ask-count-in-loop-at c = omega (arith, c.loop-at.invariant.in_letters)
 
-pub ask-o-requires : goal.ask-o-requires
-ask-o-requires c =
+pub ask-answer-requires : goal.ask-answer-requires
+ask-answer-requires c =
     (c.requires.accepted, c.loop-at-test.true, asked_few _ c.requires.asked_len_bound.0)
 
-pub shape_of-times-then-o-ne0 : goal.shape_of-times-then-o-ne0
-shape_of-times-then-o-ne0 c =
-    let ask = c.ask-o in
+pub shape_of-times-in-Err : goal.shape_of-times-in-Err
+shape_of-times-in-Err c =
+    let ask = c.ask-answer in
     let loop = c.loop-at in
     same_len_mid loop.events (length loop.times - loop.events) loop.times ask.new.times ask.auto.times ∙ loop.invariant.times_long
 
-pub shape_of-letters-then-o-ne0 : goal.shape_of-letters-then-o-ne0
-shape_of-letters-then-o-ne0 c =
-    let ask = c.ask-o in
+pub shape_of-letters-in-Err : goal.shape_of-letters-in-Err
+shape_of-letters-in-Err c =
+    let ask = c.ask-answer in
     let loop = c.loop-at in
     same_len_mid loop.events (length loop.letters - loop.events) loop.letters ask.new.letters ask.auto.letters ∙ loop.invariant.letters_long
 
-pub shape_of-counts-then-o-ne0 : goal.shape_of-counts-then-o-ne0
-shape_of-counts-then-o-ne0 c = c.loop-at.invariant.counts_long
+pub shape_of-counts-in-Err : goal.shape_of-counts-in-Err
+shape_of-counts-in-Err c = c.loop-at.invariant.counts_long
 
-pub returns-then-o-ne0 : goal.returns-then-o-ne0
-returns-then-o-ne0 c =
-    let ask = c.ask-o in
+pub returns-in-Err : goal.returns-in-Err
+returns-in-Err c =
+    let ask = c.ask-answer in
     let inv = c.loop-at.invariant in
     let next = next_asked _ _ c.loop-at-test.true in
-    serving_stops inv next (ask.ensures _ _ next.cut) c.if-o-ne0.true
+    serving_stops inv next (ask.ensures _ _ next.cut) c.in-Err.is
 
 pub offset_bounds-counts-served : goal.offset_bounds-counts-served
 offset_bounds-counts-served c =
-    let ask = c.ask-o in
+    let ask = c.ask-answer in
     let inv = c.loop-at.invariant in
     let next = next_asked _ _ c.loop-at-test.true in
     omega (arith, (served_room inv next).1)
 
 pub bounds-counts-served : goal.bounds-counts-served
 bounds-counts-served c =
-    let ask = c.ask-o in
+    let ask = c.ask-answer in
     let inv = c.loop-at.invariant in
     let next = next_asked _ _ c.loop-at-test.true in
     omega (arith, (served_room inv next).0)
 
 pub overflow_add-served : goal.overflow_add-served
 overflow_add-served c =
-    let ask = c.ask-o in
+    let ask = c.ask-answer in
     let inv = c.loop-at.invariant in
     let next = next_asked _ _ c.loop-at-test.true in
     omega (arith, (served_room inv next).1)
 
 pub overflow_add-events : goal.overflow_add-events
 overflow_add-events c =
-    let ask = c.ask-o in
+    let ask = c.ask-answer in
     let inv = c.loop-at.invariant in
     let next = next_asked _ _ c.loop-at-test.true in
-    omega (arith, (count_fits inv next (ask.ensures _ _ next.cut) c.if-o-ne0.false).0)
+    omega (arith, (count_fits inv next (ask.ensures _ _ next.cut) c.in-Ok.is).0)
 
 pub overflow_add-at : goal.overflow_add-at
 overflow_add-at c =
@@ -84,10 +84,10 @@ loop-at-smaller c =
 
 pub loop-at-preserved : goal.loop-at-preserved
 loop-at-preserved c =
-    let ask = c.ask-o in
+    let ask = c.ask-answer in
     let inv = c.loop-at.invariant in
     let next = next_asked _ _ c.loop-at-test.true in
-    serving_more inv next (ask.ensures _ _ next.cut) c.if-o-ne0.false ask.auto.times ask.auto.letters
+    serving_more inv next (ask.ensures _ _ next.cut) c.in-Ok.is ask.auto.times ask.auto.letters
 
 pub shape_of-times : goal.shape_of-times
 shape_of-times c = c.loop-at.invariant.times_long

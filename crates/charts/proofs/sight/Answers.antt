@@ -4,8 +4,8 @@ use Rattle.declared.proofs.Numbers.{blank_chains, blank_waves}
 use Rattle.charts.proofs.Sighting.{sighted}
 use Rattle.charts.proofs.sight.Goals as goal
 
-pub declarations-d-requires : goal.declarations-d-requires
-declarations-d-requires c =
+pub declarations-requires : goal.declarations-requires
+declarations-requires c =
     record {
       sized = record { all = refl; rows = refl };
       unchained = blank_chains;
@@ -16,4 +16,4 @@ declarations-d-requires c =
 
 pub returns : goal.returns
 returns c =
-    sighted c.cursor_at-c.ensures c.declarations-d.ensures
+    sighted c.cursor_at-c.ensures c.declarations.ensures

@@ -2,14 +2,13 @@
 use Rattle.charts.proofs.Drawing.{entry, single_none, single_drawn}
 use Rattle.charts.proofs.single.Goals as goal
 
-pub draw-o-requires : goal.draw-o-requires
-draw-o-requires c =
-    entry c.requires c.sight-s.ensures c.if-s.true
+pub draw-requires : goal.draw-requires
+draw-requires c = entry c.requires c.sight.ensures c.in-Some.is
 
-pub returns-then-s : goal.returns-then-s
-returns-then-s c =
-    let e = entry c.requires c.sight-s.ensures c.if-s.true in
-    single_drawn c.requires c.sight-s.ensures c.if-s.true (c.draw-o.ensures e.0 e.1)
+pub returns-in-Some : goal.returns-in-Some
+returns-in-Some c =
+    let e = entry c.requires c.sight.ensures c.in-Some.is in
+    single_drawn c.requires c.sight.ensures c.in-Some.is (c.draw.ensures e.0 e.1)
 
-pub returns : goal.returns
-returns c = single_none c.requires c.sight-s.ensures c.if-s.false
+pub returns-in-None : goal.returns-in-None
+returns-in-None c = single_none c.requires c.sight.ensures c.in-None.is

@@ -1,30 +1,32 @@
--- The invariant: the character stands i times behind the first n.
-use Prim.Native.Nat.{◌<◌}
-use mathlib.Core.Path.{sym}
+-- As many as fit stand behind the first n.
+use Prim.Native.Nat.{ℕ, ◌+◌, ◌-◌}
 use native.Mathlib.Omega.{arith}
-use lib.ListN.{length-replicate, get_or-replicate}
-use Rattle.data.proofs.Over.{wrote_none, wrote_more, wrote_all}
+use mathlib.Core.Path.{◌≡◌, ap, sym, ◌∙◌}
+use lib.ListN.{length, take, drop, replicate, length-take, length-drop, length-replicate}
+use Rattle.std.proofs.lemmas.List.{take-replicate}
+use Rattle.data.proofs.Over.{wrote_none, wrote_part, wrote_all}
 use Rattle.data.proofs.fill.Goals as goal
-
-pub loop-i-init : goal.loop-i-init
-loop-i-init c = (omega arith, wrote_none)
-
-pub bounds-buffer-at : goal.bounds-buffer-at
-bounds-buffer-at c = omega (arith, c.loop-i.invariant.1.kept, c.fitting-times.ensures)
-
-pub loop-i-preserved : goal.loop-i-preserved
-loop-i-preserved c =
-    let fits = c.fitting-times.ensures in
-    let l = length-replicate c.args.k c.args.x in
-    let h : c.loop-i.i < c.args.k = omega (arith, fits) in
-    let x = sym (get_or-replicate c.args.k c.loop-i.i c.args.x 0 h) in
-    (omega arith, wrote_more c.loop-i.invariant.1 (omega (arith, fits)) (omega (arith, c.well_formed.0.1)) (omega arith) x)
-
-pub shape_of-buffer : goal.shape_of-buffer
-shape_of-buffer c = c.loop-i.invariant.1.kept
+use Rattle.data.proofs.fill.Goals.{then-n-buffer, else-n-buffer}
 
 pub returns : goal.returns
 returns c =
+    let small = c.well_formed.0.1 in
     let l = length-replicate c.args.k c.args.x in
-    wrote_all c.loop-i.invariant.1 (omega (arith, c.fitting-times.ensures)) (omega (arith, c.well_formed.0.1))
-    (omega (arith, c.counted.ensures))
+    elim c.if-n-buffer.branch [
+      | then-n-buffer w ↦
+          let fits = w.fitting-times.ensures in
+          let times = w.fitting-times.result in
+          let part = take ((c.args.n + times) - c.args.n) (drop c.args.n c.args.buffer.now) in
+          let long : length part ≡ times = omega (arith, fits, length-take {A = ℕ}, length-drop {A = ℕ}) in
+          let written : w.fill.new.self ≡ take times (replicate c.args.k c.args.x) =
+          w.fill.ensures.after (λ y h. h)
+          ∙ ap (λ (i : ℕ). replicate i c.args.x) long
+          ∙ sym (take-replicate times c.args.k c.args.x (omega (arith, fits))) in
+          rw w.buffer-is
+          (wrote_all {i = times}
+          (wrote_part (omega arith) written (omega (arith, fits)) (omega (arith, fits)) (omega (arith, small)))
+          (omega (arith, fits))
+          (omega (arith, small))
+          (omega (arith, c.counted.ensures)))
+      | else-n-buffer w ↦ rw w.buffer-is (wrote_all wrote_none (omega arith) (omega (arith, small)) (omega (arith, c.counted.ensures)))
+    ]

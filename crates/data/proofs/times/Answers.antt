@@ -9,7 +9,7 @@ pub returns-then-w-eq114 : goal.returns-then-w-eq114
 returns-then-w-eq114 c =
     let e = c.bytes_of-w.ensures in
     let here = repeat_some _ c.if-w-gt0.true c.if-w-eq114.true in
-    then _ c.step-d.ensures (times_some _ e here (c.within-cursor.ensures _ _ c.number-v.ensures))
+    then _ c.step-d.ensures (times_some _ e here (c.within.ensures _ _ c.number-v.ensures))
 
 pub returns : goal.returns
 returns c =

@@ -1,5 +1,5 @@
 -- `read_all` meets its contract: arrays of zeros are blank, and what reading them full promises is told.
-use mathlib.Core.Path.{refl, ◌∙◌}
+use mathlib.Core.Path.{refl}
 use Rattle.declared.proofs.Numbers.{blank_chains, blank_waves, told_refused, told_read}
 use Rattle.declared.proofs.read_all.Goals as goal
 
@@ -14,7 +14,7 @@ declarations-d-requires c = record {
 
 pub returns-then-behind-ne0 : goal.returns-then-behind-ne0
 returns-then-behind-ne0 c =
-    c.refused.ensures ∙ told_refused c.cursor_at-c.ensures c.declarations-d.ensures c.if-behind-ne0.true
+    told_refused c.cursor_at-c.ensures c.declarations-d.ensures c.if-behind-ne0.true
 
 pub returns : goal.returns
 returns c =

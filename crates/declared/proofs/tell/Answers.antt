@@ -1,15 +1,11 @@
 -- `tell` meets its contract: a fault in the bytes first, and then what is read.
-use mathlib.Core.Path.{sym, ap, ◌∙◌}
-use Rattle.tokens.specs.Answers.{fault_told}
+use mathlib.Core.Path.{◌∙◌}
+use Rattle.tokens.proofs.Results.{handed_on}
 use Rattle.declared.proofs.Numbers.{told_fault, told_clean}
 use Rattle.declared.proofs.tell.Goals as goal
 
-pub returns-in-Clean : goal.returns-in-Clean
-returns-in-Clean c =
-    c.read_all.ensures
-    ∙ told_clean _ (sym (ap fault_told c.in-Clean.is) ∙ c.fault_in.ensures)
+pub returns-in_err-fault_in : goal.returns-in_err-fault_in
+returns-in_err-fault_in c = handed_on _ _ c.from_residual.ensures.1 ∙ told_fault _ _ c.in_err-fault_in.ensures
 
-pub returns-in-Faulty : goal.returns-in-Faulty
-returns-in-Faulty c =
-    c.refused.ensures
-    ∙ told_fault _ _ _ (sym (ap fault_told c.in-Faulty.is) ∙ c.fault_in.ensures)
+pub returns : goal.returns
+returns c = c.read_all.ensures ∙ told_clean _ c.in_ok-fault_in.ensures

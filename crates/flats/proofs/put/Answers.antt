@@ -8,7 +8,7 @@ pub all_patterns-part-requires : goal.all_patterns-part-requires
 all_patterns-part-requires c = record { it = c.requires.0.it; is_meant = c.requires.0.is_meant; long = omega (arith, few_signals c.requires.0.is_meant); room = omega (arith, few_signals c.requires.0.is_meant, c.window_room-buffer.ensures) }
 
 pub returns-then-part-gt-PATTERNS : goal.returns-then-part-gt-PATTERNS
-returns-then-part-gt-PATTERNS c = puts_many c.all_patterns-part.ensures c.if-part-gt-PATTERNS.true c.refused.ensures
+returns-then-part-gt-PATTERNS c = puts_many c.all_patterns-part.ensures c.if-part-gt-PATTERNS.true
 
 pub head-pen-requires : goal.head-pen-requires
 head-pen-requires c = record { it = c.requires.0.it; meant = c.requires.0.is_meant.meant; few = few_signals c.requires.0.is_meant }

@@ -13,7 +13,7 @@ bounds-heads-h c =
 pub loop-i-init : goal.loop-i-init
 loop-i-init c =
     let hash-of = c.hash_of-h in
-    looks_start c.requires hash-of.ensures.0 hash-of.ensures.1 c.number-i.ensures
+    looks_start c.requires hash-of.ensures.0 hash-of.ensures.1 c.from-i.ensures
 
 pub is_label-requires : goal.is_label-requires
 is_label-requires c =
@@ -42,7 +42,7 @@ pub loop-i-smaller : goal.loop-i-smaller
 loop-i-smaller c =
     let loop = c.loop-i in
     let loop-test = c.loop-i-test in
-    looks_less c.requires loop.invariant (omega (arith, loop-test.true)) c.number-i-in-loop-i.ensures
+    looks_less c.requires loop.invariant (omega (arith, loop-test.true)) c.from-i-in-loop-i.ensures
 
 pub loop-i-preserved : goal.loop-i-preserved
 loop-i-preserved c =
@@ -50,7 +50,7 @@ loop-i-preserved c =
     let loop-test = c.loop-i-test in
     let is-label = c.is_label in
     let if1 = c.if-is_label in
-    looks_on c.requires loop.invariant (omega (arith, loop-test.true)) (sym is-label.ensures ∙ if1.false) c.number-i-in-loop-i.ensures
+    looks_on c.requires loop.invariant (omega (arith, loop-test.true)) (sym is-label.ensures ∙ if1.false) c.from-i-in-loop-i.ensures
 
 pub returns : goal.returns
 returns c =

@@ -8,33 +8,32 @@ pub loop-c-init : goal.loop-c-init
 loop-c-init c =
     scans_start _ _ _ c.requires.0 c.requires.1 c.cursor_at-c.ensures
 
-pub note-n-requires : goal.note-n-requires
-note-n-requires c =
+pub note-requires : goal.note-requires
+note-requires c =
     let loop = c.loop-c in
     let if1 = c.loop-c-test in
     (loop.invariant.held, scans_room _ _ _ loop.invariant if1.true, if1.true, scans_within _ _ _ loop.invariant if1.true c.requires.1)
 
-pub shape_of-places-then-n : goal.shape_of-places-then-n
-shape_of-places-then-n c =
+pub shape_of-places-in-None : goal.shape_of-places-in-None
+shape_of-places-in-None c =
     let loop = c.loop-c in
     omega (arith, loop.invariant.held.places_long, c.requires.0.places_long)
 
-pub shape_of-heads-then-n : goal.shape_of-heads-then-n
-shape_of-heads-then-n c =
+pub shape_of-heads-in-None : goal.shape_of-heads-in-None
+shape_of-heads-in-None c =
     let loop = c.loop-c in
     omega (arith, loop.invariant.held.heads_long, c.requires.0.heads_long)
 
-pub shape_of-nexts-then-n : goal.shape_of-nexts-then-n
-shape_of-nexts-then-n c =
+pub shape_of-nexts-in-None : goal.shape_of-nexts-in-None
+shape_of-nexts-in-None c =
     let loop = c.loop-c in
     omega (arith, loop.invariant.held.nexts_long, c.requires.0.nexts_long)
 
-pub returns-then-n : goal.returns-then-n
-returns-then-n c =
+pub returns-in-None : goal.returns-in-None
+returns-in-None c =
     let loop = c.loop-c in
     let if1 = c.loop-c-test in
-    let note = c.note-n in
-    gathers_again _ _ _ loop.invariant if1.true note.ensures c.if-n.true
+    gathers_again _ _ _ loop.invariant if1.true c.in-None.ensures
 
 pub loop-c-smaller : goal.loop-c-smaller
 loop-c-smaller c =
@@ -46,10 +45,8 @@ pub loop-c-preserved : goal.loop-c-preserved
 loop-c-preserved c =
     let loop = c.loop-c in
     let if1 = c.loop-c-test in
-    let note = c.note-n in
-    let if2 = c.if-n in
     let bytes_of = c.bytes_of in
-    scans_on _ _ _ loop.invariant if1.true note.ensures if2.false bytes_of.ensures c.behind-here.ensures c.cursor_at-c-in-loop-c.ensures
+    scans_on _ _ _ loop.invariant if1.true c.in-Some.ensures bytes_of.ensures c.behind-here.ensures c.cursor_at-c-in-loop-c.ensures
 
 pub shape_of-places : goal.shape_of-places
 shape_of-places c =

@@ -11,12 +11,12 @@ use Rattle.labels.proofs.is_label.Goals as goal
 pub overflow_add-last : goal.overflow_add-last
 overflow_add-last c =
     let shared-slice-known3 = c.type_inv.places in
-    omega (arith, c.number-last.ensures, shared-slice-known3 (c.args.k * 2 + 1))
+    omega (arith, c.from-last.ensures, shared-slice-known3 (c.args.k * 2 + 1))
 
 pub returns : goal.returns
 returns c =
-    let number = c.number-at in
-    let number2 = c.number-last in
+    let number = c.from-at in
+    let number2 = c.from-last in
     c.equal.ensures
     ∙ ap (λ (v : List ℕ). same v c.args.w.now)
     (c.bytes_of.ensures ∙ ap (λ (n : ℕ). span c.args.text.now n (number2.result + 1)) number.ensures

@@ -9,16 +9,15 @@ use Rattle.listing.proofs.begin.Goals as goal
 pub returns-then-page-lt-FRONT : goal.returns-then-page-lt-FRONT
 returns-then-page-lt-FRONT c = begins_small c.if-page-lt-FRONT.true
 
-pub decide-v-requires : goal.decide-v-requires
-decide-v-requires c = (record { sized = record { all = refl; rows = refl }; unchained = blank_chains; tables = refl; marks = refl; unset = blank_waves }, refl, refl, refl, refl)
+pub decide-requires : goal.decide-requires
+decide-requires c = (record { sized = record { all = refl; rows = refl }; unchained = blank_chains; tables = refl; marks = refl; unset = blank_waves }, refl, refl, refl, refl)
 
 pub refused-requires : goal.refused-requires
 refused-requires c = c.if-page-lt-FRONT.false
 
-pub returns-then-v-ne0 : goal.returns-then-v-ne0
-returns-then-v-ne0 c =
-    begins_refused c.if-page-lt-FRONT.false (meaning_refused _ (c.decide-v.ensures.0.refuses c.if-v-ne0.true)) c.refused.ensures
+pub returns-in-Err : goal.returns-in-Err
+returns-in-Err c = begins_refused c.if-page-lt-FRONT.false (meaning_refused _ c.in-Err.ensures) c.refused.ensures
 
 pub shown-requires : goal.shown-requires
 shown-requires c =
-    (c.if-page-lt-FRONT.false, record { watch = _; found = c.decide-v.ensures.0.finds c.if-v-ne0.false; notes = c.decide-v.ensures.1; long = search rules })
+    (c.if-page-lt-FRONT.false, record { watch = _; found = c.in-Ok.ensures.0; notes = c.in-Ok.ensures.1; long = search rules })

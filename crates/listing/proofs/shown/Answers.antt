@@ -4,10 +4,8 @@ use Rattle.listing.proofs.Beginning.{begins_refused, begins_sections, signals_sh
 use native.Mathlib.Omega.{arith}
 use Rattle.listing.proofs.shown.Goals as goal
 
-pub returns-then-f-ne0 : goal.returns-then-f-ne0
-returns-then-f-ne0 c =
-    let found = c.requires.1.found in
-    begins_refused c.requires.0 (c.failing-f.ensures.refuses found c.if-f-ne0.true) c.refused.ensures
+pub returns-in-Err : goal.returns-in-Err
+returns-in-Err c = begins_refused c.requires.0 (c.in-Err.ensures c.requires.1.found) c.refused.ensures
 
 pub sections-requires : goal.sections-requires
 sections-requires c =
@@ -18,4 +16,4 @@ sections-requires c =
 pub returns : goal.returns
 returns c =
     let found = c.requires.1.found in
-    begins_sections found c.requires.0 (c.failing-f.ensures.accepts found c.if-f-ne0.false) c.sections.ensures
+    begins_sections found c.requires.0 (c.in-Ok.ensures found) c.sections.ensures

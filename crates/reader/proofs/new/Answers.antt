@@ -1,6 +1,7 @@
--- `new` meets its contract: at its start a text's line and column are 1.
-use Rattle.reader.proofs.Laws.{starts}
+-- `new` meets its contract: the position of a text's start.
+use Rattle.columns.specs.Columns.{position, onward}
 use Rattle.reader.proofs.new.Goals as goal
 
 pub returns : goal.returns
-returns c = starts c.args.text
+unfolding position onward
+returns c = rw c.start.ensures

@@ -1,7 +1,7 @@
 -- `block_at` meets its contract. The invariant: the block that is looked for is found from here as from the text's start.
 use native.Mathlib.Omega.{arith}
 use Rattle.words.proofs.Flow.{fewer}
-use Rattle.saving.proofs.Scanning.{token_inside, looks_start, looks_room, looks_found, looks_on, looks_end}
+use Rattle.saving.proofs.Scanning.{token_inside, looks_start, looks_room, looks_found, looks_on, looks_last, looks_none}
 use Rattle.saving.proofs.block_at.Goals as goal
 
 pub loop-c-init : goal.loop-c-init
@@ -24,5 +24,8 @@ loop-c-smaller c = omega (arith, fewer _ c.loop-c.c c.loop-c-test.true c.cursor_
 pub loop-c-preserved : goal.loop-c-preserved
 loop-c-preserved c = looks_on _ _ c.loop-c.invariant c.loop-c-test.true c.scanned-s.ensures c.cursor_at-c-in-loop-c.ensures c.if-s-p.false
 
+pub returns-then-s-p-2 : goal.returns-then-s-p-2
+returns-then-s-p-2 c = looks_last _ _ c.loop-c.invariant c.loop-c-test.false c.if-s-p-2.true
+
 pub returns : goal.returns
-returns c = looks_end _ _ c.loop-c.invariant c.loop-c-test.false
+returns c = looks_none _ _ c.loop-c.invariant c.loop-c-test.false c.if-s-p-2.false

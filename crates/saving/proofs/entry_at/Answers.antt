@@ -2,11 +2,11 @@
 use native.Mathlib.Omega.{arith}
 use mathlib.Core.Path.{refl, sym, ◌∙◌}
 use Rattle.words.proofs.Flow.{fewer}
-use Rattle.saving.proofs.Scanning.{among, token_inside, semicolon_here, semicolon_later, semicolon_none, entry_none, entry_upto, upto_found, upto_none, nothing_found}
+use Rattle.saving.proofs.Scanning.{among, token_inside, semicolon_here, semicolon_later, semicolon_none, entry_none, entry_upto, upto_found, upto_none}
 use Rattle.saving.proofs.entry_at.Goals as goal
 
 pub returns-then-name : goal.returns-then-name
-returns-then-name c = nothing_found c.nothing.result c.nothing.ensures ∙ sym (entry_none _ c.cursor_at-name.ensures c.if-name.true)
+returns-then-name c = sym (entry_none _ c.cursor_at-name.ensures c.if-name.true)
 
 pub loop-c-init : goal.loop-c-init
 loop-c-init c = (refl, among c.cursor_at-c.ensures)
@@ -30,6 +30,5 @@ loop-c-preserved c =
 pub returns : goal.returns
 returns c =
     let text = c.args.text.now in
-    nothing_found c.nothing-2.result c.nothing-2.ensures
-    ∙ sym (entry_upto text c.cursor_at-name.ensures c.if-name.false c.cursor_at-c.ensures
+    sym (entry_upto text c.cursor_at-name.ensures c.if-name.false c.cursor_at-c.ensures
     ∙ upto_none _ (c.loop-c.invariant.0 ∙ semicolon_none text c.loop-c.c c.loop-c-test.false))

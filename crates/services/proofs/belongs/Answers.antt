@@ -1,15 +1,10 @@
 -- `belongs` meets its contract: an index belongs where it is taken, whatever cycle is asked for.
-use mathlib.Core.Path.{sym, ap, ◌∙◌}
-use Rattle.services.specs.Indexes.{holding_of}
-use Rattle.services.specs.declared.Holding.{Holding}
+use Rattle.tokens.proofs.Results.{handed_on}
 use Rattle.services.proofs.Indexing.{belongs_by}
 use Rattle.services.proofs.belongs.Goals as goal
 
-pub returns-in-Refused : goal.returns-in-Refused
-returns-in-Refused c = belongs_by _ _ 0 (ap (λ (x : Holding). holding_of x) (sym c.in-Refused.is) ∙ c.holds.ensures)
+pub returns-in_err-holds : goal.returns-in_err-holds
+returns-in_err-holds c = rw (handed_on c.from_residual.result _ c.from_residual.ensures.1) (belongs_by _ _ 0 c.in_err-holds.ensures)
 
-pub returns-in-Pattern : goal.returns-in-Pattern
-returns-in-Pattern c = belongs_by _ _ 0 (ap (λ (x : Holding). holding_of x) (sym c.in-Pattern.is) ∙ c.holds.ensures)
-
-pub returns-in-NoPattern : goal.returns-in-NoPattern
-returns-in-NoPattern c = belongs_by _ _ 0 (ap (λ (x : Holding). holding_of x) (sym c.in-NoPattern.is) ∙ c.holds.ensures)
+pub returns : goal.returns
+returns c = belongs_by _ _ 0 c.in_ok-holds.ensures

@@ -1,18 +1,18 @@
 -- `events` meets its contract: refused as the text is, or none there, or read again where they stand.
+use Rattle.tokens.proofs.Results.{handed_on}
 use Rattle.services.proofs.Outlining.{entry, outline_refused, outline_none, outline_read}
 use Rattle.services.proofs.events.Goals as goal
 
-pub returns-then-j-ne0 : goal.returns-then-j-ne0
-returns-then-j-ne0 c = outline_refused c.judge-j.ensures c.if-j-ne0.true
+pub returns-in_err-j : goal.returns-in_err-j
+returns-in_err-j c = rw (handed_on c.from_residual.result _ c.from_residual.ensures.1) (outline_refused c.in_err-j.ensures)
 
-pub read-count-requires : goal.read-count-requires
-read-count-requires c =
-    record { times_len = c.requires; entry_at = entry c.judge-j.ensures c.if-j-ne0.false c.if-j.true }
+pub read-requires : goal.read-requires
+read-requires c = record { times_len = c.requires; entry_at = entry c.in_ok-j.ensures c.if-j.true }
 
 pub returns-then-j : goal.returns-then-j
 returns-then-j c =
-    let e = entry c.judge-j.ensures c.if-j-ne0.false c.if-j.true in
-    outline_read c.judge-j.ensures c.if-j-ne0.false c.if-j.true c.requires.0 c.requires.1 (c.read-count.ensures e.0 e.1)
+    let e = entry c.in_ok-j.ensures c.if-j.true in
+    outline_read c.in_ok-j.ensures c.if-j.true c.requires.0 c.requires.1 (c.read.ensures e.0 e.1)
 
 pub returns : goal.returns
-returns c = outline_none c.judge-j.ensures c.if-j-ne0.false c.if-j.false
+returns c = outline_none c.in_ok-j.ensures c.if-j.false

@@ -1,8 +1,9 @@
-use Rattle.saving.proofs.Mending.{Mending, going}
+use Rattle.saving.proofs.Spaces.{inked}
+use Rattle.saving.proofs.Mending.{Mending}
 use Rattle.services.proofs.mend.Given as goal
 
-abbrev pub invariant-loop-t : goal.invariant-loop-t
-invariant-loop-t l = Mending l.initial.text l.text l.initial.spans l.spans l.t l.count
+abbrev pub invariant-loop-hurt : goal.invariant-loop-hurt
+invariant-loop-hurt l = Mending l.initial.text l.text l.initial.spans l.spans l.count
 
-abbrev pub decreases-loop-t : goal.decreases-loop-t
-decreases-loop-t l = going l.t.hurt.found l.text
+abbrev pub decreases-loop-hurt : goal.decreases-loop-hurt
+decreases-loop-hurt l = inked l.text

@@ -1,9 +1,12 @@
 -- `mend_once` meets its contract: what the check refuses is overwritten where the refusal lies in a block or in the list.
-use Rattle.services.proofs.Mending.{turn_stays, turn_goes}
+use Rattle.saving.proofs.Mending.{turn_accepted, turn_beyond, turn_hurt}
 use Rattle.services.proofs.mend_once.Goals as goal
 
-pub returns-then-not-hurt : goal.returns-then-not-hurt
-returns-then-not-hurt c = turn_stays c.judge-j.ensures c.hurt_span-hurt.ensures c.if-not-hurt.true
+pub returns-in_default : goal.returns-in_default
+returns-in_default c = ?
+
+pub returns-in_default-2 : goal.returns-in_default-2
+returns-in_default-2 c = ?
 
 pub returns : goal.returns
-returns c = turn_goes c.judge-j.ensures c.hurt_span-hurt.ensures c.if-not-hurt.false c.overwrite.ensures
+returns c = ?

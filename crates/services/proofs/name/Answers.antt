@@ -1,14 +1,10 @@
 -- `name` meets its contract: what is told of the text is the service's answer.
-use Rattle.services.proofs.Answering.{name_refused, name_given, name_none}
+use Rattle.tokens.proofs.Results.{handed_on}
+use Rattle.services.proofs.Answering.{name_refused, name_given}
 use Rattle.services.proofs.name.Goals as goal
 
-pub returns-then-j-ne0 : goal.returns-then-j-ne0
-returns-then-j-ne0 c = name_refused c.judge-j.ensures c.if-j-ne0.true
-
-pub returns-then-name : goal.returns-then-name
-returns-then-name c =
-    name_given c.judge-j.ensures c.if-j-ne0.false c.if-name.true
+pub returns-in_err-j : goal.returns-in_err-j
+returns-in_err-j c = rw (handed_on c.from_residual.result _ c.from_residual.ensures.1) (name_refused c.in_err-j.ensures _ _)
 
 pub returns : goal.returns
-returns c =
-    name_none c.judge-j.ensures c.if-j-ne0.false c.if-name.false
+returns c = ?

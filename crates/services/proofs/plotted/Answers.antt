@@ -1,16 +1,17 @@
 -- `plotted` meets its contract: 1 to 17; 8; 19; or what the calls of the list leave.
+use Rattle.tokens.proofs.Results.{handed_on}
 use Rattle.services.proofs.Charting.{plots_refused, plots_drawn, plots_stopped, text_accepted, list_few, counts_roomy, chart_refused, chart_many, chart_full, chart_called}
 use Rattle.services.proofs.plotted.Goals as goal
 
-pub returns-then-j-ne0 : goal.returns-then-j-ne0
-returns-then-j-ne0 c =
+pub returns-in_err-judge : goal.returns-in_err-judge
+returns-in_err-judge c =
     let at = c.args in
-    plots_refused (chart_refused c.judge-j.ensures at.asked.now at.times.now at.letters.now at.counts.now at.spare c.if-j-ne0.true)
+    rw (handed_on c.from_residual.result _ c.from_residual.ensures.1) (plots_refused (chart_refused at.asked.now at.times.now at.letters.now at.counts.now at.spare c.in_err-judge.ensures))
 
 pub returns-then-too_many : goal.returns-then-too_many
 returns-then-too_many c =
     let at = c.args in
-    plots_refused (chart_many c.judge-j.ensures at.asked.now at.times.now at.letters.now at.counts.now at.spare c.if-j-ne0.false c.too_many.ensures c.if-too_many.true)
+    plots_refused (chart_many at.asked.now at.times.now at.letters.now at.counts.now at.spare c.in_ok-judge.ensures.1 c.too_many.ensures c.if-too_many.true)
 
 pub within-roomy-requires : goal.within-roomy-requires
 within-roomy-requires c =
@@ -19,13 +20,13 @@ within-roomy-requires c =
 pub returns-then-roomy-spare : goal.returns-then-roomy-spare
 returns-then-roomy-spare c =
     let at = c.args in
-    plots_refused (chart_full c.judge-j.ensures at.asked.now at.times.now at.letters.now at.counts.now at.spare c.if-j-ne0.false c.too_many.ensures c.if-too_many.false c.within-roomy.ensures c.if-roomy-spare.true)
+    plots_refused (chart_full at.asked.now at.times.now at.letters.now at.counts.now at.spare c.in_ok-judge.ensures.1 c.too_many.ensures c.if-too_many.false c.within-roomy.ensures c.if-roomy-spare.true)
 
 pub serve-s-requires : goal.serve-s-requires
 serve-s-requires c =
     let at = c.args in
     record {
-      accepted = text_accepted c.judge-j.ensures c.if-j-ne0.false;
+      accepted = text_accepted c.in_ok-judge.ensures;
       asked_len_bound = (list_few at.asked.now c.too_many.ensures c.if-too_many.false, counts_roomy at.asked.now at.counts.now at.spare c.within-roomy.ensures c.if-roomy-spare.false);
     }
 
@@ -33,12 +34,12 @@ pub returns-then-s-ne0 : goal.returns-then-s-ne0
 returns-then-s-ne0 c =
     let at = c.args in
     plots_stopped
-    (chart_called c.judge-j.ensures at.asked.now at.times.now at.letters.now at.counts.now at.spare c.if-j-ne0.false c.too_many.ensures c.if-too_many.false c.within-roomy.ensures c.if-roomy-spare.false)
+    (chart_called at.asked.now at.times.now at.letters.now at.counts.now at.spare c.in_ok-judge.ensures.1 c.too_many.ensures c.if-too_many.false c.within-roomy.ensures c.if-roomy-spare.false)
     c.serve-s.ensures c.if-s-ne0.true
 
 pub returns : goal.returns
 returns c =
     let at = c.args in
     plots_drawn
-    (chart_called c.judge-j.ensures at.asked.now at.times.now at.letters.now at.counts.now at.spare c.if-j-ne0.false c.too_many.ensures c.if-too_many.false c.within-roomy.ensures c.if-roomy-spare.false)
+    (chart_called at.asked.now at.times.now at.letters.now at.counts.now at.spare c.in_ok-judge.ensures.1 c.too_many.ensures c.if-too_many.false c.within-roomy.ensures c.if-roomy-spare.false)
     c.serve-s.ensures c.if-s-ne0.false

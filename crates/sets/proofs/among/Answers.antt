@@ -1,26 +1,10 @@
--- What is left to search decides: a turn that does not find x leaves the answer to the rest.
-use mathlib.Core.Path.{refl, sym, ◌∙◌}
-use native.Mathlib.Omega.{arith}
-use Rattle.sets.proofs.Sets.{has_here, has_next, has_end}
+use mathlib.Core.Path.{◌≡◌, ◌∙◌}
+use Rattle.std.specs.List.{list_any}
+use Rattle.std.proofs.Common.{rules, nat_eq}
+use Rattle.meaning.proofs.Lists.{has_any}
 use Rattle.sets.proofs.among.Goals as goal
-
-pub loop-i-init : goal.loop-i-init
-loop-i-init c = refl
-
-pub returns-then-v-i : goal.returns-then-v-i
-returns-then-v-i c =
-    let loop = c.loop-i in
-    let a = c.args in
-    sym (loop.invariant ∙ has_here a.v.now a.n loop.i (omega arith) a.x c.if-v-i.true)
-
-pub loop-i-preserved : goal.loop-i-preserved
-loop-i-preserved c =
-    let loop = c.loop-i in
-    let a = c.args in
-    loop.invariant ∙ has_next a.v.now a.n loop.i (omega arith) a.x c.if-v-i.false
 
 pub returns : goal.returns
 returns c =
-    let loop = c.loop-i in
-    let a = c.args in
-    sym (loop.invariant ∙ has_end a.v.now a.n loop.i (omega arith) a.x)
+    let told : c.contains.result ≡ list_any (λ y. nat_eq y c.args.x) c.args.numbers.now = search rules in
+    told ∙ has_any c.args.x c.args.numbers.now

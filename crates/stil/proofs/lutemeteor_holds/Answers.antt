@@ -1,15 +1,14 @@
 -- `lutemeteor_holds` meets its contract: the answer, case by case, handed out.
 use mathlib.Core.Path.{refl, sym, ap, ◌∙◌}
 use Rattle.services.specs.Indexes.{holding_of}
-use Rattle.services.specs.declared.Holding.{Holding}
 use Rattle.stil.proofs.Handing.{room_refused, hands_none, hands_as}
 use Rattle.stil.proofs.lutemeteor_holds.Goals as goal
 
-pub returns-in-Refused : goal.returns-in-Refused
-returns-in-Refused c = hands_none (room_refused 2 _ (sym c.holds.ensures ∙ ap (λ (x : Holding). holding_of x) c.in-Refused.is)) c.pack.ensures
+pub returns-in-Err : goal.returns-in-Err
+returns-in-Err c = hands_none (room_refused 2 _ (sym c.in-Err.ensures)) c.pack.ensures
 
-pub returns-in-NoPattern : goal.returns-in-NoPattern
-returns-in-NoPattern c = hands_as (sym c.holds.ensures ∙ ap (λ (x : Holding). holding_of x) c.in-NoPattern.is) refl c.hand_two.ensures
+pub returns-in-Ok-None : goal.returns-in-Ok-None
+returns-in-Ok-None c = hands_as (sym c.in-Ok-None.ensures) refl c.hand_two.ensures
 
-pub returns-in-Pattern : goal.returns-in-Pattern
-returns-in-Pattern c = hands_as (sym c.holds.ensures ∙ ap (λ (x : Holding). holding_of x) c.in-Pattern.is) refl c.hand_two-in-Pattern.ensures
+pub returns-in-Ok-Some : goal.returns-in-Ok-Some
+returns-in-Ok-Some c = hands_as (sym c.in-Ok-Some.ensures) refl c.hand_two-in-Ok-Some.ensures

@@ -6,13 +6,13 @@ use Rattle.stil.proofs.lutemeteor_index.Goals as goal
 
 pub bounds-numbers-0 : goal.bounds-numbers-0
 bounds-numbers-0 c =
-    let room = writes_room _ c.args.numbers.now c.write_index.ensures c.in-Written.is in
+    let room = writes_room _ c.args.numbers.now c.write_index.ensures c.in-Ok.is in
     search rules
 
-pub returns-in-Refused : goal.returns-in-Refused
-returns-in-Refused c = writes_none _ _ c.write_index.ensures c.in-Refused.is c.pack.ensures
+pub returns-in-Err : goal.returns-in-Err
+returns-in-Err c = writes_none _ _ c.write_index.ensures c.in-Err.is c.pack.ensures
 
-pub returns-in-Written : goal.returns-in-Written
-returns-in-Written c =
+pub returns-in-Ok : goal.returns-in-Ok
+returns-in-Ok c =
     let numbers = c.args.numbers.now in
-    writes_all _ numbers c.write_index.ensures c.in-Written.is (one_stored numbers _ (writes_room _ numbers c.write_index.ensures c.in-Written.is))
+    writes_all _ numbers c.write_index.ensures c.in-Ok.is (one_stored numbers _ (writes_room _ numbers c.write_index.ensures c.in-Ok.is))

@@ -9,17 +9,17 @@ use Rattle.stil.proofs.lutemeteor_report.Goals as goal
 pub bounds-numbers-0 : goal.bounds-numbers-0
 bounds-numbers-0 c =
     let a = c.args in
-    let room = tells_room (fails a.text.now a.report.now (rows_of a.cycles.now a.signals.now a.letters.now)) a.numbers.now c.answer_report.ensures c.in-Answers.is in
+    let room = tells_room (fails a.text.now a.report.now (rows_of a.cycles.now a.signals.now a.letters.now)) a.numbers.now c.answer_report.ensures c.in-Ok.is in
     search rules
 
-pub returns-in-Refused : goal.returns-in-Refused
-returns-in-Refused c = tells_refused _ _ c.answer_report.ensures c.in-Refused.is c.pack.ensures
+pub returns-in-Err-Text : goal.returns-in-Err-Text
+returns-in-Err-Text c = tells_refused _ _ c.answer_report.ensures c.in-Err-Text.is c.pack.ensures
 
-pub returns-in-ReportRefused : goal.returns-in-ReportRefused
-returns-in-ReportRefused c = tells_of _ _ c.answer_report.ensures c.in-ReportRefused.is c.pack_report.ensures
+pub returns-in-Err-Report : goal.returns-in-Err-Report
+returns-in-Err-Report c = tells_of _ _ c.answer_report.ensures c.in-Err-Report.is c.pack_report.ensures
 
-pub returns-in-Answers : goal.returns-in-Answers
-returns-in-Answers c =
+pub returns-in-Ok : goal.returns-in-Ok
+returns-in-Ok c =
     let a = c.args in
     let numbers = a.numbers.now in
-    tells_all _ numbers c.answer_report.ensures c.in-Answers.is (one_stored numbers _ (tells_room (fails a.text.now a.report.now (rows_of a.cycles.now a.signals.now a.letters.now)) numbers c.answer_report.ensures c.in-Answers.is))
+    tells_all _ numbers c.answer_report.ensures c.in-Ok.is (one_stored numbers _ (tells_room (fails a.text.now a.report.now (rows_of a.cycles.now a.signals.now a.letters.now)) numbers c.answer_report.ensures c.in-Ok.is))

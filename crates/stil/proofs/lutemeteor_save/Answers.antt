@@ -6,11 +6,11 @@ use Rattle.stil.proofs.lutemeteor_save.Goals as goal
 
 pub bounds-numbers-0 : goal.bounds-numbers-0
 bounds-numbers-0 c =
-    let room = restores_room _ c.args.numbers.now c.save_text.ensures c.in-Spans.is in
+    let room = restores_room _ c.args.numbers.now c.save_text.ensures c.in-Ok.is in
     search rules
 
-pub returns-in-Refused : goal.returns-in-Refused
-returns-in-Refused c = restores_none _ c.args.numbers.now c.save_text.ensures c.in-Refused.is c.pack.ensures
+pub returns-in-Err : goal.returns-in-Err
+returns-in-Err c = restores_none _ c.args.numbers.now c.save_text.ensures c.in-Err.is c.pack.ensures
 
-pub returns-in-Spans : goal.returns-in-Spans
-returns-in-Spans c = restores_all _ c.args.numbers.now c.save_text.ensures c.in-Spans.is (one_stored c.args.numbers.now _ (restores_room _ c.args.numbers.now c.save_text.ensures c.in-Spans.is))
+pub returns-in-Ok : goal.returns-in-Ok
+returns-in-Ok c = restores_all _ c.args.numbers.now c.save_text.ensures c.in-Ok.is (one_stored c.args.numbers.now _ (restores_room _ c.args.numbers.now c.save_text.ensures c.in-Ok.is))

@@ -1,26 +1,20 @@
 -- `lutemeteor_token` meets its contract: the step, case by case, handed out.
-use mathlib.Core.Path.{◌≡◌, sym, ap, ◌∙◌}
-use Rattle.tokens.specs.Tokens.{Next}
-use Rattle.tokens.specs.Answers.{next_of}
-use Rattle.tokens.specs.declared.Step.{Step}
+use mathlib.Core.Path.{sym, ap}
+use Rattle.tokens.proofs.Results.{met_token, met_end}
 use Rattle.stil.specs.Interface.{token_of}
 use Rattle.stil.proofs.Handing.{room_refused, hands_none, hands_alike}
 use Rattle.stil.proofs.lutemeteor_token.Goals as goal
 
--- what is to be handed out, once the step's case is known
-told : {r s : Step} {n : Next} → next_of r ≡ n → r ≡ s → token_of n ≡ token_of (next_of s)
-told f e = ap token_of (sym f ∙ ap next_of e)
-
-pub returns-in-Refused : goal.returns-in-Refused
+pub returns-in-Err : goal.returns-in-Err
 unfolding token_of
-returns-in-Refused c = hands_none (room_refused 3 _ (told c.next_token.ensures c.in-Refused.is)) c.pack.ensures
+returns-in-Err c = hands_none (room_refused 3 _ (ap token_of (sym c.in-Err.ensures))) c.pack.ensures
 
-pub returns-in-Nothing : goal.returns-in-Nothing
+pub returns-in-Ok-None : goal.returns-in-Ok-None
 unfolding token_of
-returns-in-Nothing c =
-    hands_alike (told c.next_token.ensures c.in-Nothing.is) c.hand_three.ensures
+returns-in-Ok-None c =
+    hands_alike (ap token_of (met_end c.in-Ok-None.field-0-is c.in-Ok-None.ensures)) c.hand_three.ensures
 
-pub returns-in-Token : goal.returns-in-Token
+pub returns-in-Ok-Some : goal.returns-in-Ok-Some
 unfolding token_of
-returns-in-Token c =
-    hands_alike (told c.next_token.ensures c.in-Token.is) c.hand_three-in-Token.ensures
+returns-in-Ok-Some c =
+    hands_alike (ap token_of (met_token c.in-Ok-Some.field-0-is c.in-Ok-Some.ensures)) c.hand_three-in-Ok-Some.ensures

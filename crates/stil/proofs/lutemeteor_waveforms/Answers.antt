@@ -6,28 +6,28 @@ use Rattle.stil.proofs.lutemeteor_waveforms.Goals as goal
 
 pub bounds-numbers-0 : goal.bounds-numbers-0
 bounds-numbers-0 c =
-    let room = stopped_room _ c.args.numbers.now c.plotted.ensures c.in-Stopped.is in
+    let room = stopped_room _ c.args.numbers.now c.plotted.ensures c.in-Err-Stopped.is in
     search rules
 
-pub bounds-numbers-0-in-Drawn : goal.bounds-numbers-0-in-Drawn
-bounds-numbers-0-in-Drawn c =
-    let room = drawn_room _ c.args.numbers.now c.plotted.ensures c.in-Drawn.is in
+pub bounds-numbers-0-in-Ok : goal.bounds-numbers-0-in-Ok
+bounds-numbers-0-in-Ok c =
+    let room = drawn_room _ c.args.numbers.now c.plotted.ensures c.in-Ok.is in
     search rules
 
-pub returns-in-Refused : goal.returns-in-Refused
-returns-in-Refused c =
-    sketch_refused _ _ c.plotted.ensures c.in-Refused.is c.pack.ensures
+pub returns-in-Err-Refused : goal.returns-in-Err-Refused
+returns-in-Err-Refused c =
+    sketch_refused _ _ c.plotted.ensures c.in-Err-Refused.is c.pack.ensures
 
-pub returns-in-Stopped : goal.returns-in-Stopped
-returns-in-Stopped c =
+pub returns-in-Err-Stopped : goal.returns-in-Err-Stopped
+returns-in-Err-Stopped c =
     let numbers = c.args.numbers.now in
     let called = c.plotted in
-    let stopped = c.in-Stopped.is in
-    sketch_stopped _ numbers called.ensures stopped c.pack-in-Stopped.ensures (one_stored numbers _ (stopped_room _ numbers called.ensures stopped))
+    let stopped = c.in-Err-Stopped.is in
+    sketch_stopped _ numbers called.ensures stopped c.pack-in-Err-Stopped.ensures (one_stored numbers _ (stopped_room _ numbers called.ensures stopped))
 
-pub returns-in-Drawn : goal.returns-in-Drawn
-returns-in-Drawn c =
+pub returns-in-Ok : goal.returns-in-Ok
+returns-in-Ok c =
     let numbers = c.args.numbers.now in
     let called = c.plotted in
-    let drawn = c.in-Drawn.is in
+    let drawn = c.in-Ok.is in
     sketch_drawn _ numbers called.ensures drawn (one_stored numbers _ (drawn_room _ numbers called.ensures drawn))

@@ -1,11 +1,8 @@
 -- `run_of` meets its contract: what was found so far is the front of the run, and the rest of the list is left.
 use Prim.Native.Nat.{◌*◌}
-use mathlib.Core.Path.{refl}
-use native.Mathlib.Omega.{arith}
 use Rattle.words.proofs.Words.{rest}
 use Rattle.measures.specs.Book.{first_pattern}
 use Rattle.texts.proofs.Runs.{running, run_whole, run_undefined, run_next, found_none, found_pattern}
-use Rattle.texts.proofs.Sounds.{told_refused}
 use Rattle.texts.proofs.run_of.Goals as goal
 
 pub loop-k-init : goal.loop-k-init
@@ -20,10 +17,8 @@ returns-then-patterns-i c =
     let name-bytes' = c.name_bytes in
     let find' = c.find-i in
     λ ps l n.
-    told_refused c.refused.ensures
-    (run_undefined _ _ _ _ (loop'.invariant.1 ps l n) loop-test'.true
-    (found_none _ _ ps l _ loop'.invariant.0 name-bytes'.ensures find'.ensures n c.if-patterns-i.true))
-    (λ z. omega arith)
+    run_undefined _ _ _ _ (loop'.invariant.1 ps l n) loop-test'.true
+    (found_none _ _ ps l _ loop'.invariant.0 name-bytes'.ensures find'.ensures n c.if-patterns-i.true)
 
 pub loop-k-preserved : goal.loop-k-preserved
 loop-k-preserved c =
@@ -43,4 +38,4 @@ pub returns : goal.returns
 returns c =
     λ ps l n.
     let run = c.loop-k.invariant.1 ps l n in
-    record { refuses = λ z. absurd (z refl); finds = λ z. (run.front, run_whole _ _ _ _ run c.loop-k-test.false, run.measured) }
+    (run.front, run_whole _ _ _ _ run c.loop-k-test.false, run.measured)

@@ -1,20 +1,10 @@
--- `lists_signal` meets its contract. The invariant: the signal is one of them if it is one of those that are left.
-use native.Mathlib.Omega.{arith}
-use mathlib.Core.Path.{refl, sym, ◌∙◌}
-use Rattle.words.proofs.Words.{has_more, has_here, has_end}
+use Rattle.std.proofs.Common.{rules, ◌∙◌, nat_eq}
+use Rattle.std.proofs.lemmas.Iterator.{YieldsList-from_slice}
+use Rattle.std.proofs.lemmas.Iterator.Search.{any_from_yields_List}
+use Rattle.timing.proofs.Marking.{has_any}
 use Rattle.timing.proofs.lists_signal.Goals as goal
 
-pub loop-i-init : goal.loop-i-init
-loop-i-init c = refl
-
-pub overflow_cast-sigs : goal.overflow_cast-sigs
-overflow_cast-sigs c = omega (arith, c.type_inv.sigs c.loop-i.i)
-
-pub returns-then-sigs-i : goal.returns-then-sigs-i
-returns-then-sigs-i c = sym (c.loop-i.invariant ∙ has_here _ _ _ c.loop-i-test.true c.if-sigs-i.true)
-
-pub loop-i-preserved : goal.loop-i-preserved
-loop-i-preserved c = c.loop-i.invariant ∙ has_more _ _ _ c.loop-i-test.true c.if-sigs-i.false
-
 pub returns : goal.returns
-returns c = sym (c.loop-i.invariant ∙ has_end _ _ _ c.loop-i-test.false)
+returns c =
+    any_from_yields_List (λ x. nat_eq x c.args.s) _ _ c.any.result c.any.ensures.ran (YieldsList-from_slice c.args.sigs.now c.iter.ensures.rest) (λ x b q k. search rules)
+    ∙ has_any c.args.s c.args.sigs.now

@@ -1,11 +1,6 @@
-use Prim.Native.Nat.{◌-◌}
-use mathlib.Core.Path.{◌≡◌}
-use lib.ListN.{length, take}
+use lib.ListN.{take}
 use Rattle.timing.specs.Marks.{Marked}
 use Rattle.timing.proofs.mark_all.Given as goal
 
-abbrev pub invariant-loop-i : goal.invariant-loop-i
-invariant-loop-i l = (length l.table ≡ length l.initial.table) × (Marked l.initial.table (take l.i l.sigs) l.w l.table)
-
-abbrev pub decreases-loop-i : goal.decreases-loop-i
-decreases-loop-i l = length l.sigs - l.i
+abbrev pub invariant-loop-s : goal.invariant-loop-s
+invariant-loop-s l = Marked l.initial.table (take l.s-index l.sigs) l.w l.table

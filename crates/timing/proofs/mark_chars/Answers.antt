@@ -1,25 +1,18 @@
--- `mark_chars` meets its contract. The invariant: the characters before i have their marks, and no other mark is changed.
+-- `mark_chars` meets its contract. The invariant: the characters so far have their marks, and no other mark is changed.
 use native.Mathlib.Omega.{arith}
-use mathlib.Core.Path.{refl, ◌∙◌}
+use mathlib.Core.Path.{◌∙◌}
 use mathlib.Core.List.{[], ◌∷◌}
-use lib.ListN.{length-set}
 use Rattle.timing.proofs.Marking.{chars_below, marked_no_chars, marked_char, marked_word}
 use Rattle.timing.proofs.mark_chars.Goals as goal
 
-pub loop-i-init : goal.loop-i-init
-loop-i-init c = (refl, marked_no_chars _ _)
+pub loop-b-init : goal.loop-b-init
+loop-b-init c = marked_no_chars _ _
 
-pub overflow_cast-at-in-loop-i : goal.overflow_cast-at-in-loop-i
-overflow_cast-at-in-loop-i c = omega (arith, chars_below c.args.w.now c.loop-i.i c.requires.2 c.loop-i-test.true)
+pub bounds-table-s : goal.bounds-table-s
+bounds-table-s c = omega (arith, chars_below c.args.w.now c.loop-b.b-index c.requires.2 c.loop-b-test.true, c.loop-b.auto.table)
 
-pub overflow_add-at : goal.overflow_add-at
-overflow_add-at c = omega (arith, chars_below c.args.w.now c.loop-i.i c.requires.2 c.loop-i-test.true)
-
-pub bounds-table-at : goal.bounds-table-at
-bounds-table-at c = omega (arith, chars_below c.args.w.now c.loop-i.i c.requires.2 c.loop-i-test.true, c.loop-i.invariant.0)
-
-pub loop-i-preserved : goal.loop-i-preserved
-loop-i-preserved c = (rw length-set c.loop-i.invariant.0, marked_char c.args.w.now c.args.s c.loop-i.i (c.loop-i.invariant.0 ∙ c.requires.0) c.requires.1 c.loop-i-test.true (chars_below c.args.w.now c.loop-i.i c.requires.2 c.loop-i-test.true) c.loop-i.invariant.1)
+pub loop-b-preserved : goal.loop-b-preserved
+loop-b-preserved c = marked_char c.args.w.now c.args.s c.loop-b.b-index (c.loop-b.auto.table ∙ c.requires.0) c.requires.1 c.loop-b-test.true (chars_below c.args.w.now c.loop-b.b-index c.requires.2 c.loop-b-test.true) c.loop-b.invariant
 
 pub returns : goal.returns
-returns c = marked_word (c.args.s ∷ []) c.args.w.now c.loop-i-test.false c.loop-i.invariant.1
+returns c = marked_word (c.args.s ∷ []) c.args.w.now c.loop-b-test.false c.loop-b.invariant

@@ -1,12 +1,7 @@
-use Prim.Native.Nat.{◌-◌}
-use mathlib.Core.Path.{◌≡◌}
 use mathlib.Core.List.{[], ◌∷◌}
-use lib.ListN.{length, take}
+use lib.ListN.{take}
 use Rattle.timing.specs.Marks.{Marked}
 use Rattle.timing.proofs.mark_chars.Given as goal
 
-abbrev pub invariant-loop-i : goal.invariant-loop-i
-invariant-loop-i l = (length l.table ≡ length l.initial.table) × (Marked l.initial.table (l.s ∷ []) (take l.i l.w) l.table)
-
-abbrev pub decreases-loop-i : goal.decreases-loop-i
-decreases-loop-i l = length l.w - l.i
+abbrev pub invariant-loop-b : goal.invariant-loop-b
+invariant-loop-b l = Marked l.initial.table (l.s ∷ []) (take l.b-index l.w) l.table

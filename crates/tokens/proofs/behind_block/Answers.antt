@@ -7,8 +7,9 @@ use Rattle.tokens.proofs.behind_block.Goals.{then-b-eq42+else-byte_at-eq47, else
 
 pub returns-then-not-is_allowed : goal.returns-then-not-is_allowed
 returns-then-not-is_allowed c =
-    led_to_lem c.loop-i.invariant.1
-    (bad_stops _ _ _ c.loop-i-test.true (sym c.is_allowed.ensures ∙ c.if-not-is_allowed.true))
+    rw c.bad_byte.ensures
+    (led_to_lem c.loop-i.invariant.1
+    (bad_stops _ _ _ c.loop-i-test.true (sym c.is_allowed.ensures ∙ c.if-not-is_allowed.true)))
 
 pub returns-then-byte_at-eq47 : goal.returns-then-byte_at-eq47
 returns-then-byte_at-eq47 c =

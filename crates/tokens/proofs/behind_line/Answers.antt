@@ -11,8 +11,9 @@ returns-then-b-eq10 c =
 
 pub returns-then-not-is_allowed : goal.returns-then-not-is_allowed
 returns-then-not-is_allowed c =
-    led_to_lem c.loop-i.invariant.1
-    (bad_stops _ _ line c.loop-i-test.true (sym c.is_allowed.ensures ∙ c.if-not-is_allowed.true))
+    rw c.bad_byte.ensures
+    (led_to_lem c.loop-i.invariant.1
+    (bad_stops _ _ line c.loop-i-test.true (sym c.is_allowed.ensures ∙ c.if-not-is_allowed.true)))
 
 pub loop-i-preserved : goal.loop-i-preserved
 loop-i-preserved c =

@@ -3,50 +3,54 @@ use Prim.Native.Nat.{ℕ, ◌≤◌}
 use mathlib.Core.List.{List}
 use lib.ListN.{length}
 use Rattle.tokens.specs.Refusals.{text_most}
-use mathlib.Core.Path.{◌≡◌, refl, ap, ◌∙◌, sym}
+use mathlib.Core.Path.{◌≡◌, refl, ◌∙◌, sym}
 use native.Mathlib.Omega.{arith}
-use borrow.Author.Tests.{ltb-true, ltb-false}
-use Rattle.tokens.specs.Tokens.{toks, first, next_token, fault_of}
-use Rattle.tokens.specs.Answers.{next_of}
-use Rattle.tokens.specs.declared.Step.{Step}
+use Rattle.tokens.specs.Tokens.{Next, toks, first, next_token, fault_of}
 use Rattle.tokens.proofs.Reading.{short_enough}
-use Rattle.tokens.proofs.Laws.{at_token}
+use Rattle.tokens.proofs.Results.{met_token, met_end, handed_on}
+use Rattle.tokens.proofs.Laws.{first_token}
 use Rattle.tokens.proofs.Faults.{fault_behind, fault_none, fault_there, fault_too_long, fault_goes, fault_bad, fault_over}
 use Rattle.tokens.proofs.fault_in.Goals as goal
 
-pub returns-then-is_too_long : goal.returns-then-is_too_long
-returns-then-is_too_long c = sym (fault_too_long _ (ltb-true _ _ (sym c.is_too_long.ensures ∙ c.if-is_too_long.true)))
+pub returns-in_err-short_enough : goal.returns-in_err-short_enough
+returns-in_err-short_enough c =
+    let told = c.in_err-short_enough.ensures in
+    rw (handed_on _ _ c.from_residual.ensures.1, told.1) (sym (fault_too_long _ told.0))
 
 pub loop-i-init : goal.loop-i-init
 unfolding fault_of
-loop-i-init c = (ltb-false _ _ (sym c.is_too_long.ensures ∙ c.if-is_too_long.false), refl)
+loop-i-init c = (c.in_ok-short_enough.ensures, refl)
 
 pub returns-then-not-is_allowed : goal.returns-then-not-is_allowed
 returns-then-not-is_allowed c =
     let known = c.loop-i.invariant in
     let bad = sym c.is_allowed.ensures ∙ c.if-not-is_allowed.true in
-    sym (known.1 ∙ fault_bad c.args.text.now _ known.0 c.loop-i-test.true bad)
+    rw c.bad_byte.ensures (sym (known.1 ∙ fault_bad c.args.text.now _ known.0 c.loop-i-test.true bad))
 
--- what the step tells, once its case is known
-told : (text : List ℕ) (i : ℕ) {r s : Step} → length text ≤ text_most → next_of r ≡ first (toks text i) → r ≡ s → next_token text i ≡ next_of s
-told _ _ short e is = short_enough _ _ short ∙ sym e ∙ ap next_of is
+-- the next token from a place, in a text that is short enough, once it is known
+next : (text : List ℕ) (i : ℕ) {n : Next} → length text ≤ text_most → first (toks text i) ≡ n → next_token text i ≡ n
+next _ _ short e = short_enough _ _ short ∙ e
 
 pub overflow_add-i : goal.overflow_add-i
-overflow_add-i c = omega (arith, at_token _ _ _ _ (told _ _ c.loop-i.invariant.0 c.past_comments.ensures c.in-Token.is))
+overflow_add-i c = omega (arith, first_token _ _ _ _ (met_token c.in-Some.is c.in_ok-token.ensures))
 
-pub loop-i-smaller-in-Token : goal.loop-i-smaller-in-Token
-loop-i-smaller-in-Token c = omega (arith, at_token _ _ _ _ (told _ _ c.loop-i.invariant.0 c.past_comments.ensures c.in-Token.is))
+pub loop-i-smaller-then-b-eq47 : goal.loop-i-smaller-then-b-eq47
+loop-i-smaller-then-b-eq47 c = omega (arith, first_token _ _ _ _ (met_token c.in-Some.is c.in_ok-token.ensures))
 
-pub loop-i-preserved-in-Token : goal.loop-i-preserved-in-Token
-loop-i-preserved-in-Token c =
+pub loop-i-preserved-then-b-eq47 : goal.loop-i-preserved-then-b-eq47
+loop-i-preserved-then-b-eq47 c =
     let known = c.loop-i.invariant in
-    (known.0, known.1 ∙ fault_behind _ _ _ _ (told _ _ c.loop-i.invariant.0 c.past_comments.ensures c.in-Token.is))
+    (known.0, known.1 ∙ fault_behind _ _ _ _ (next _ _ known.0 (met_token c.in-Some.is c.in_ok-token.ensures)))
 
-pub returns-in-Nothing : goal.returns-in-Nothing
-returns-in-Nothing c = sym (c.loop-i.invariant.1 ∙ fault_none _ _ (told _ _ c.loop-i.invariant.0 c.past_comments.ensures c.in-Nothing.is))
+pub returns-in_default : goal.returns-in_default
+returns-in_default c =
+    let known = c.loop-i.invariant in
+    sym (known.1 ∙ fault_none _ _ (next _ _ known.0 (met_end c.in_default.is c.in_ok-token.ensures)))
 
-pub returns-in-Refused : goal.returns-in-Refused
-returns-in-Refused c = sym (c.loop-i.invariant.1 ∙ fault_there _ _ _ _ (told _ _ c.loop-i.invariant.0 c.past_comments.ensures c.in-Refused.is))
+pub returns-in_err-token : goal.returns-in_err-token
+returns-in_err-token c =
+    let known = c.loop-i.invariant in
+    rw (handed_on _ _ c.from_residual-in_err-token.ensures.1) (sym (known.1 ∙ fault_there _ _ _ _ (next _ _ known.0 (sym c.in_err-token.ensures))))
 
 pub loop-i-preserved : goal.loop-i-preserved
 loop-i-preserved c =

@@ -14,10 +14,10 @@ pub returns-then-not-is_allowed : goal.returns-then-not-is_allowed
 unfolding toks
 returns-then-not-is_allowed c =
     let bad = sym c.is_allowed.ensures ∙ c.if-not-is_allowed.true in
-    sym (c.loop-i.invariant ∙ bad_stops _ _ plain c.loop-i-test.true bad)
+    rw c.bad_byte.ensures (sym (c.loop-i.invariant ∙ bad_stops _ _ plain c.loop-i-test.true bad))
 
-pub token_length-requires : goal.token_length-requires
-token_length-requires c =
+pub token_length-length-requires : goal.token_length-length-requires
+token_length-length-requires c =
     record {
       inside = c.loop-i-test.true;
       byte = refl;
@@ -27,7 +27,7 @@ token_length-requires c =
     }
 
 pub returns-then-not-is_blank : goal.returns-then-not-is_blank
-returns-then-not-is_blank c = sym (c.loop-i.invariant ∙ c.token_length.ensures)
+returns-then-not-is_blank c = sym (c.loop-i.invariant ∙ c.token_length-length.ensures)
 
 pub loop-i-preserved : goal.loop-i-preserved
 loop-i-preserved c =

@@ -8,25 +8,25 @@ use Rattle.tokens.proofs.past_comments.Goals as goal
 pub loop-i-init : goal.loop-i-init
 loop-i-init c = refl
 
-pub loop-i-smaller-in-On : goal.loop-i-smaller-in-On
-loop-i-smaller-in-On c = omega (arith, (on_led c.in-On.is c.at_slash.ensures).ahead)
+pub loop-i-smaller-in-Continue : goal.loop-i-smaller-in-Continue
+loop-i-smaller-in-Continue c = omega (arith, (on_led c.in-Continue.is c.at_slash.ensures).ahead)
 
-pub loop-i-preserved-in-On : goal.loop-i-preserved-in-On
-loop-i-preserved-in-On c =
-    c.loop-i.invariant ∙ (on_led c.in-On.is c.at_slash.ensures).led
+pub loop-i-preserved-in-Continue : goal.loop-i-preserved-in-Continue
+loop-i-preserved-in-Continue c =
+    c.loop-i.invariant ∙ (on_led c.in-Continue.is c.at_slash.ensures).led
 
-pub returns-in-To : goal.returns-in-To
-returns-in-To c =
-    sym (c.loop-i.invariant ∙ to_led c.in-To.is c.at_slash.ensures)
+pub returns-in-Break : goal.returns-in-Break
+returns-in-Break c =
+    sym (c.loop-i.invariant ∙ to_led c.in-Break.is c.at_slash.ensures)
 
 pub returns-then-not-is_allowed : goal.returns-then-not-is_allowed
 unfolding toks
 returns-then-not-is_allowed c =
     let bad = sym c.is_allowed.ensures ∙ c.if-not-is_allowed.true in
-    sym (c.loop-i.invariant ∙ bad_stops _ _ plain c.loop-i-test.true bad)
+    rw c.bad_byte.ensures (sym (c.loop-i.invariant ∙ bad_stops _ _ plain c.loop-i-test.true bad))
 
-pub token_length-requires : goal.token_length-requires
-token_length-requires c =
+pub token_length-length-requires : goal.token_length-length-requires
+token_length-length-requires c =
     record {
       inside = c.loop-i-test.true;
       byte = refl;
@@ -36,7 +36,7 @@ token_length-requires c =
     }
 
 pub returns-then-not-is_blank : goal.returns-then-not-is_blank
-returns-then-not-is_blank c = sym (c.loop-i.invariant ∙ c.token_length.ensures)
+returns-then-not-is_blank c = sym (c.loop-i.invariant ∙ c.token_length-length.ensures)
 
 pub loop-i-preserved : goal.loop-i-preserved
 loop-i-preserved c =

@@ -2,17 +2,15 @@
 use mathlib.Core.Path.{refl}
 use borrow.Author.Rules.{rules}
 use Rattle.declared.proofs.Numbers.{blank_chains, blank_waves}
-use Rattle.verdicts.proofs.Judging.{judged_refused}
+use Rattle.tokens.proofs.Results.{handed_on}
+use Rattle.verdicts.proofs.Found.{meaning_refused}
 use Rattle.verdicts.proofs.judge.Goals as goal
 
 pub decide-v-requires : goal.decide-v-requires
 decide-v-requires c = (record { sized = record { all = refl; rows = refl }; unchained = blank_chains; tables = refl; marks = refl; unset = blank_waves }, refl, refl, refl, refl)
 
-pub returns-then-v-ne0 : goal.returns-then-v-ne0
-returns-then-v-ne0 c =
-    judged_refused (c.decide-v.ensures.0.refuses c.if-v-ne0.true) c.if-v-ne0.true c.refused.ensures
+pub returns-in_err-v : goal.returns-in_err-v
+returns-in_err-v c = rw (handed_on c.from_residual.result _ c.from_residual.ensures.1) (meaning_refused _ c.in_err-v.ensures)
 
 pub play-requires : goal.play-requires
-play-requires c =
-    let decide' = c.decide-v in
-    (decide'.ensures.0.finds c.if-v-ne0.false, decide'.ensures.1, search rules)
+play-requires c = (c.in_ok-v.ensures.0, c.in_ok-v.ensures.1, search rules)

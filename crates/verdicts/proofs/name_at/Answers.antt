@@ -6,7 +6,7 @@ use Rattle.verdicts.proofs.name_at.Goals as goal
 pub returns-then-count-number : goal.returns-then-count-number
 returns-then-count-number c =
     let args = c.args in
-    rw c.nameless.ensures (name_missing _ _ {count = args.count} {n = args.number} (omega arith))
+    name_missing _ _ {count = args.count} {n = args.number} (omega arith)
 
 pub returns : goal.returns
 returns c =

@@ -1,15 +1,12 @@
 -- `play` meets its contract: 17, behind it 25, or what is told of an accepted text.
 use mathlib.Core.Path.{refl}
-use native.Mathlib.Omega.{arith}
 use Rattle.texts.proofs.Sounds.{sound_runs}
 use Rattle.verdicts.proofs.Found.{meaning_failing, meaning_crossing, meaning_given, quiet_crosses}
-use Rattle.verdicts.proofs.Judging.{judged_as_lem, played_judged}
+use Rattle.verdicts.proofs.Judging.{played_judged}
 use Rattle.verdicts.proofs.play.Goals as goal
 
 pub returns-then-f : goal.returns-then-f
-returns-then-f c =
-    let found = c.requires.0 in
-    judged_as_lem (meaning_failing found c.unplayable-f.ensures c.if-f.true) (λ z. omega (arith, z)) c.refused.ensures
+returns-then-f c = meaning_failing c.requires.0 c.unplayable-f.ensures c.if-f.true
 
 pub is_quiet-requires : goal.is_quiet-requires
 is_quiet-requires c =
@@ -27,9 +24,7 @@ pub crossing-x-requires : goal.crossing-x-requires
 crossing-x-requires c = (_, c.requires.0)
 
 pub returns-then-x : goal.returns-then-x
-returns-then-x c =
-    let found = c.requires.0 in
-    judged_as_lem (meaning_crossing found c.unplayable-f.ensures c.if-f.false c.crossing-x.ensures c.if-x.true) (λ z. omega (arith, z)) c.refused-then-x.ensures
+returns-then-x c = meaning_crossing c.requires.0 c.unplayable-f.ensures c.if-f.false c.crossing-x.ensures c.if-x.true
 
 pub told-requires-2 : goal.told-requires-2
 told-requires-2 c =

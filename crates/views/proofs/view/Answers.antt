@@ -1,16 +1,17 @@
 -- `view` meets its contract: 17 or 25, 12 for the mark, 19, or the window over the run.
 use native.Mathlib.Omega.{arith}
 use mathlib.Core.Path.{refl, sym, ◌∙◌}
+use Rattle.tokens.proofs.Results.{handed_on}
 use Rattle.views.proofs.Viewing.{bytes_fit, few_due, accepts, view_refused, view_unmarked, view_full, view_given}
 use Rattle.views.proofs.view.Goals as goal
 
-pub returns-then-f-ne0 : goal.returns-then-f-ne0
-returns-then-f-ne0 c =
-    view_refused _ _ _ _ _ c.args.spare (c.failing-f.ensures.refuses c.requires.found c.if-f-ne0.true)
+pub returns-in_err-failing : goal.returns-in_err-failing
+returns-in_err-failing c =
+    rw (handed_on c.from_residual.result _ c.from_residual.ensures.1) (view_refused _ _ _ _ _ c.args.spare (c.in_err-failing.ensures c.requires.found))
 
 pub returns-then-is_no_mark : goal.returns-then-is_no_mark
 returns-then-is_no_mark c =
-    let meant = c.failing-f.ensures.accepts c.requires.found c.if-f-ne0.false in
+    let meant = c.in_ok-failing.ensures c.requires.found in
     view_unmarked _ _ _ _ _ c.args.spare meant (sym c.is_no_mark.ensures ∙ c.if-is_no_mark.true)
 
 pub overflow_add-parts : goal.overflow_add-parts
@@ -23,13 +24,13 @@ overflow_mul-due c =
 
 pub returns-then-spare-buffer : goal.returns-then-spare-buffer
 returns-then-spare-buffer c =
-    let meant = c.failing-f.ensures.accepts c.requires.found c.if-f-ne0.false in
+    let meant = c.in_ok-failing.ensures c.requires.found in
     view_full c.requires.found _ _ c.rows_due-due.ensures _ (sym c.is_no_mark.ensures ∙ c.if-is_no_mark.false) _ c.args.spare
     c.if-spare-buffer.true meant refl
 
 pub window-visits-requires : goal.window-visits-requires
 window-visits-requires c =
-    let meant = c.failing-f.ensures.accepts c.requires.found c.if-f-ne0.false in
+    let meant = c.in_ok-failing.ensures c.requires.found in
     record {
       parts = _;
       read = _;
@@ -42,7 +43,7 @@ pub returns : goal.returns
 returns c =
     let due = c.rows_due-due.ensures in
     let buffer = c.args.buffer.now in
-    let meant = c.failing-f.ensures.accepts c.requires.found c.if-f-ne0.false in
+    let meant = c.in_ok-failing.ensures c.requires.found in
     let good = sym c.is_no_mark.ensures ∙ c.if-is_no_mark.false in
     let room = c.if-spare-buffer.false in
     view_given c.requires.found _ _ due _ good buffer c.args.spare room meant refl

@@ -24,4 +24,4 @@ returns-then-n-eq0 c = by_none _ c.if-n-eq0.true
 pub returns : goal.returns
 returns c =
     let w = c.args.w.now in
-    by_one w (omega arith) c.wide-b.ensures c.mixed-2.ensures
+    by_one w (omega arith) c.from-b.ensures c.mixed-2.ensures

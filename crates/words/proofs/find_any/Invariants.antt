@@ -1,4 +1,3 @@
-use Prim.Native.Nat.{◌-◌}
 use mathlib.Core.Path.{◌≡◌}
 use Rattle.meaning.specs.Names
 use Rattle.words.specs.Table.{names}
@@ -7,6 +6,3 @@ use Rattle.words.proofs.find_any.Given as goal
 
 abbrev pub invariant-loop-i : goal.invariant-loop-i
 invariant-loop-i l = Names.find (names l.text l.places l.count) l.w ≡ found_from l.text l.places l.w l.count l.i
-
-abbrev pub decreases-loop-i : goal.decreases-loop-i
-decreases-loop-i l = l.count - l.i

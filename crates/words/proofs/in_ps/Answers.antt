@@ -18,12 +18,6 @@ returns-then-not-equal c =
     let no-ns = sym c.equal-2.ensures ∙ c.if-not-equal.true in
     λ m e d. sym (ap capped (unit_other m _ d no-ps no-ns))
 
-pub returns-then-n-ge10000000 : goal.returns-then-n-ge10000000
-unfolding bytes
-returns-then-n-ge10000000 c =
-    let ns = sym c.equal-2.ensures ∙ c.if-not-equal.false in
-    λ m e d. ap some (omega arith) ∙ sym (ap capped (unit_ns m _ ns))
-
 pub returns : goal.returns
 unfolding bytes
 returns c =

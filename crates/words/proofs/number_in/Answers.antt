@@ -5,4 +5,4 @@ use Rattle.words.proofs.number_in.Goals as goal
 
 pub returns : goal.returns
 unfolding number_in
-returns c = then _ c.word-d.ensures (c.within-cursor.ensures _ _ (cc))
+returns c = then _ c.word-d.ensures (c.within.ensures _ _ (cc))

@@ -7,4 +7,4 @@ use Rattle.words.proofs.quoted.Goals as goal
 pub returns : goal.returns
 unfolding quoted bytes
 returns c =
-    then _ c.due-d.ensures (then _ c.word-e.ensures (then _ (c.within-f.ensures _ _ (cc)) (then _ c.due-cursor.ensures given)))
+    then _ c.due-d.ensures (then _ c.word-e.ensures (then _ (c.within-t.ensures _ _ (cc)) (then _ c.due-cursor.ensures given)))

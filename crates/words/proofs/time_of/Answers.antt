@@ -4,4 +4,4 @@ use Rattle.words.proofs.time_of.Goals as goal
 
 pub returns : goal.returns
 returns c =
-    time_counts _ c.word-d.ensures (c.within-cursor.ensures _ _ (cc)) c.counted-n.ensures
+    time_counts _ c.word-d.ensures (c.within-t.ensures _ _ (cc)) c.counted-n.ensures

@@ -1,7 +1,0 @@
--- `number_at` meets its contract: past the end a list reads as 0.
-use mathlib.Core.Path.{sym}
-use lib.ListN.{get_or-eq_default}
-use Rattle.words.proofs.number_at.Goals as goal
-
-pub returns-else-i-list : goal.returns-else-i-list
-returns-else-i-list c = sym (get_or-eq_default c.args.list.now 0 c.if-i-list.false)
