@@ -4,11 +4,12 @@ use Prim.Native.Nat.{ℕ, ◌+◌, ◌-◌, ◌≤◌, ◌<◌, min}
 use native.Mathlib.Omega.{arith}
 use native.Mathlib.Nat.{add-zero}
 use mathlib.Core.Path.{◌≡◌, refl, sym, ap, ◌∙◌}
-use mathlib.Core.Bool.{Bool, true, false, not, ◌&&◌, ◌||◌, true≢false, not-not}
+use mathlib.Core.Bool.{Bool, true, false, not, ◌&&◌, ◌||◌, not-not}
 use mathlib.Core.List.{List, [], ◌∷◌, ◌++◌}
 use lib.Dec.{eqb}
 use lib.ListN.{length, get_or}
 use borrow.Author.Tests.{eq-eqb, ne_eqb, eqb-true, eqb-false, not-true, not-false}
+use Rattle.std.proofs.Common.{None, Some}
 use Rattle.meaning.specs.Bounds.{signals_most, argument_most}
 use Rattle.meaning.specs.Lists.{has, count}
 use Rattle.meaning.specs.Body.{Args, Body, outside, shifting, arg_of, supplied, length_due, fits}
@@ -66,11 +67,6 @@ module _ {text : List ℕ} {xs : Args} {given args : List ℕ} (sup : Supplied t
       by true e = (sup.each s e).few
       by false e = omega (arith, ap length (arg_none s xs e))
 
--- T is at most an argument's length
-pub turns_few : {text : List ℕ} {b : Body} {xs : Args} {given args : List ℕ} {t : ℕ} → Supplied text xs given args → TurnsBy b xs t → t ≤ argument_most
-turns_few sup (no_shift e p) = omega arith
-turns_few sup (by_signal s e p) = omega (arith, length_few sup s)
-
 -- ---- which signals have `#`
 
 module _ {b : Body} {row : List ℕ} (uses : Uses b row) (s : ℕ) (below : s < signals_most) where
@@ -114,9 +110,6 @@ module _ {text : List ℕ} {b : Body} {xs : Args} {row given args : List ℕ} (u
 
       pub turns_more : TurnsBy b xs (n - get_or row s 0)
       turns_more = by_signal s (in_shift_lem uses s below shift) beyond
-
-      pub turns_zero : n ≤ get_or row s 0 → TurnsBy b xs 0
-      turns_zero h = by_signal s (in_shift_lem uses s below shift) (omega (arith, beyond))
 
     -- does it fit, by the code's tests
     module _ (t : ℕ) where
@@ -163,14 +156,14 @@ module _ {text : List ℕ} {b : Body} {xs : Args} {row given args : List ℕ} (u
 
   -- all signals
   module _ {t : ℕ} (by : TurnsBy b xs t) where
-    pub fits_not : (s : ℕ) → fits_at b xs t s ≡ false → Fits b xs (record { fits = false; turns = t })
-    fits_not s h = record { told = sym (at (fits b xs) refl); turns_is = λ e. absurd (true≢false (sym e)) }
+    pub fits_not : (s : ℕ) → fits_at b xs t s ≡ false → Fits b xs None
+    fits_not s h = record { told = sym (at (fits b xs) refl); turns_is = λ n e. cc }
       where
         at : (z : Bool) → fits b xs ≡ z → z ≡ false
         at true e = sym (fits_each b xs by e s) ∙ h
         at false e = refl
 
-    pub fits_so : (s : ℕ) → signals_most ≤ s → ((k : ℕ) → k < s → fits_at b xs t k ≡ true) → Fits b xs (record { fits = true; turns = t })
+    pub fits_so : (s : ℕ) → signals_most ≤ s → ((k : ℕ) → k < s → fits_at b xs t k ≡ true) → Fits b xs (Some t)
     fits_so s h each =
         let all = fits_all b xs by sup.once sup.below uses.below (λ k l. each k (omega arith)) in
-        record { told = sym all; turns_is = λ e. turns_by b xs by all }
+        record { told = sym all; turns_is = λ n e. let is : t ≡ n = cc in sym is ∙ turns_by b xs by all }

@@ -13,7 +13,7 @@ use Rattle.sets.proofs.Tidy.{TidyBelow, next}
 use Rattle.signals.specs.Names.{row_length, list_at}
 use Rattle.assigns.proofs.Rows.{row_at}
 
-single : (l : List ℕ) → length l ≡ 1 → l ≡ get_or l 0 0 ∷ []
+pub single : (l : List ℕ) → length l ≡ 1 → l ≡ get_or l 0 0 ∷ []
 single [] h = absurd (omega arith)
 single (x ∷ []) h = refl
 single (x ∷ y ∷ l) h = absurd (omega arith)

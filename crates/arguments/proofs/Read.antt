@@ -1,12 +1,10 @@
 -- What arguments are, whatever the text: they take a token.
 use mathlib.Core.Bool.{false}
-use mathlib.Core.List.{[]}
 use Rattle.meaning.specs.Signals.{Names}
 use Rattle.meaning.specs.Body.{Args, Body}
-use Rattle.meaning.specs.Data.{argument, arguments}
+use Rattle.meaning.specs.Data.{argument}
 use Rattle.meaning.proofs.Takes.{Takes}
-use Rattle.meaning.proofs.Taking.{takes_keeps, takes_due, takes_old, takes_bind, takes_closed, takes_choose, keeps_bind, keeps_give, keeps_if}
-use Rattle.meaning.proofs.Choices.{◌also◌}
+use Rattle.meaning.proofs.Taking.{takes_keeps, takes_due, takes_old, takes_bind, keeps_bind, keeps_give, keeps_if}
 use Rattle.data.proofs.Characters.{takes_data}
 
 -- ---- tokens are taken
@@ -17,8 +15,3 @@ takes_argument ns b xs =
     takes_bind _ _ (takes_old ns) λ x. keeps_bind _ _ (keeps_if _ _ _) λ u. keeps_bind _ _ (keeps_if _ _ _) λ u.
     keeps_bind _ _ (takes_keeps (takes_due _)) λ p. keeps_bind _ _ (takes_keeps (takes_data false)) λ d. keeps_bind _ _ (keeps_if _ _ _) λ u.
     keeps_give _
-
-pub takes_arguments : (ns : Names) (b : Body) → Takes (arguments ns b)
-unfolding arguments
-takes_arguments ns b =
-    takes_choose _ ((λ p. keeps_give _) also (λ p. takes_keeps (takes_closed "}" (argument ns b) (takes_argument ns b) [])) also tt)

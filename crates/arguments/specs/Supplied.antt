@@ -1,5 +1,5 @@
 -- What the code has of a used body's arguments: which signals have one, how many characters each has, and where its DATA begins.
-use Rattle.std.specs.Prelude.{ℕ, ◌+◌, ◌*◌, ◌-◌, ◌<◌, ◌≤◌, ◌≡◌, Bool, true, false, not, List, [], ◌∷◌, ◌++◌, eqb, length, get_or}
+use Rattle.std.specs.Prelude.{ℕ, ◌+◌, ◌*◌, ◌-◌, ◌<◌, ◌≤◌, ◌≡◌, Bool, true, false, not, List, [], ◌∷◌, ◌++◌, eqb, length, get_or, Option, Some, is_some}
 use Rattle.tokens.specs.Tokens.{Toks, toks}
 use Rattle.meaning.specs.Bounds.{signals_most, argument_most}
 use Rattle.meaning.specs.Lists.{has, repeats, count}
@@ -8,7 +8,6 @@ use Rattle.meaning.specs.Body.{Assigns, Args, Body, outside, shifting, arg_of, s
 use Rattle.meaning.specs.Data.{data_read}
 use Rattle.assigns.specs.Given.{Gave}
 use Rattle.measures.specs.Uses.{Uses}
-use Rattle.arguments.specs.declared.Fit.{Fit}
 
 -- a mark for each signal that has an argument
 unfoldable pub marks_of : Args → Assigns
@@ -39,9 +38,9 @@ pub record UsedRow (row : List ℕ) : Type 0 where
   pub uses : Uses body row
 
 -- do the arguments fit the body, and if so how often does its Shift play
-pub record Fits (b : Body) (xs : Args) (r : Fit) : Type 0 where
-  pub told : r.fits ≡ fits b xs
-  pub turns_is : r.fits ≡ true → r.turns ≡ turns b xs
+pub record Fits (b : Body) (xs : Args) (r : Option ℕ) : Type 0 where
+  pub told : is_some r ≡ fits b xs
+  pub turns_is : (n : ℕ) → r ≡ Some n → n ≡ turns b xs
 
 -- T, as some signal with `#` in the Shift gives it; 0 where none has one
 pub data TurnsBy (b : Body) (xs : Args) (t : ℕ) : Type 0 where

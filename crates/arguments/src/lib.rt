@@ -29,13 +29,6 @@ pub struct Closed {
     pub last: usize,
 }
 
-// Do the arguments fit, and if so how often does the Shift play?
-#[derive(Clone, Copy)]
-pub struct Fit {
-    pub fits: bool,
-    pub turns: usize,
-}
-
 // Has signal s a `#` in the body of this row?
 fn needed(row: &[u16], s: usize) -> bool
     requires { (length row.now ≡ row_length) × (s < signals_most) }
@@ -49,10 +42,11 @@ fn suits(lists: &[u16], i: usize, row: &[u16]) -> bool
     requires { (length lists.now ≡ names_most * list_length) × (i < names_most) × TidyBelow signals_most (list_at lists.now i) × (length row.now ≡ row_length) }
     ensures { (b : Body) → Uses b row.now → result ≡ (is_one (list_at lists.now i) && inside (list_at lists.now i) (outside b ++ shifting b)) }
 {
-    if assigns::size(lists, i) != 1 {
+    let signals = assigns::signals_of(lists, i);
+    if signals.len() != 1 {
         return false;
     }
-    needed(row, lists[i * signals::ROW + 1] as usize)
+    needed(row, signals[0] as usize)
 }
 
 // NAME = DATA; behind other arguments.
@@ -139,11 +133,10 @@ fn unshifted(row: &[u16]) -> bool
     requires { length row.now ≡ row_length }
     ensures { result ≡ true → (k : ℕ) → k < signals_most → get_or row.now (signals_most + k) 0 ≡ 0 }
 {
+    let marks = &row[sets::MOST..];
     let mut shifted = false;
-    let mut s = 0;
-    while s < sets::MOST {
-        shifted = shifted | (row[sets::MOST + s] != 0);
-        s += 1;
+    for mark in marks {
+        shifted |= *mark != 0;
     }
     !shifted
 }
@@ -153,14 +146,11 @@ fn shift_turns(row: &[u16], given: &[u8], args: &[usize]) -> usize
     requires { (length row.now ≡ row_length) × (length given.now ≡ signals_most) × (length args.now ≡ signals_most * 2) }
     ensures { (text : List ℕ) (b : Body) (xs : Args) → Uses b row.now → Supplied text xs given.now args.now → TurnsBy b xs result }
 {
-    let mut s = 0;
-    while s < sets::MOST {
+    for s in 0..sets::MOST {
         if row[sets::MOST + s] != 0 {
             let n = supply(given, args, s);
-            let u = row[s] as usize;
-            return if u < n { n - u } else { 0 };
+            return n.saturating_sub(row[s] as usize);
         }
-        s += 1;
     }
     0
 }
@@ -202,11 +192,9 @@ fn idle(row: &[u16], given: &[u8], from: usize) -> bool
     ensures { result ≡ true → Idle row.now given.now from block_size }
 {
     let mut busy = false;
-    let mut k = 0;
-    while k < BLOCK {
+    for k in 0..BLOCK {
         let s = from + k;
-        busy = busy | (row[s] != 0) | (row[sets::MOST + s] != 0) | (given[s] != 0);
-        k += 1;
+        busy |= (row[s] != 0) | (row[sets::MOST + s] != 0) | (given[s] != 0);
     }
     !busy
 }
@@ -219,34 +207,24 @@ fn block_fits(row: &[u16], given: &[u8], args: &[usize], from: usize, t: usize) 
     if idle(row, given, from) {
         return true;
     }
-    let mut k = 0;
-    while k < BLOCK {
+    for k in 0..BLOCK {
         if !fitting(row, given, args, from + k, t) {
             return false;
         }
-        k += 1;
     }
     true
 }
 
-// The arguments against the body's uses.
-pub fn fitted(row: &[u16], given: &[u8], args: &[usize]) -> Fit
+// The arguments against the body's uses: how often does the Shift play, if they fit?
+pub fn fitted(row: &[u16], given: &[u8], args: &[usize]) -> Option<usize>
     requires { (length row.now ≡ row_length) × (length given.now ≡ signals_most) × (length args.now ≡ signals_most * 2) }
     ensures { (text : List ℕ) (b : Body) (xs : Args) → Uses b row.now → Supplied text xs given.now args.now → Fits b xs result }
 {
     let t = turns(row, given, args);
-    let mut s = 0;
-    while s < sets::MOST {
-        if !block_fits(row, given, args, s, t) {
-            return Fit {
-                fits: false,
-                turns: t,
-            };
+    for block in 0..sets::MOST / BLOCK {
+        if !block_fits(row, given, args, block * BLOCK, t) {
+            return None;
         }
-        s += BLOCK;
     }
-    Fit {
-        fits: true,
-        turns: t,
-    }
+    Some(t)
 }

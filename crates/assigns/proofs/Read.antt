@@ -17,12 +17,12 @@ use Rattle.meaning.specs.Signals.{Names}
 use Rattle.meaning.specs.Timing.{wave_char}
 use Rattle.meaning.specs.Data.{data_read, paired, assigned, assign, assigns}
 use Rattle.meaning.proofs.Takes.{Takes}
-use Rattle.meaning.proofs.Taking.{takes_keeps, takes_due, takes_old, takes_bind, takes_until, keeps_bind, keeps_give, keeps_if}
+use Rattle.meaning.proofs.Taking.{takes_keeps, takes_due, takes_old, takes_bind, keeps_bind, keeps_give, keeps_if}
 use Rattle.meaning.proofs.Gives.{Gives, gives_bind, gives_after, gives_give, gives_if, gives_until}
 use Rattle.sets.proofs.Tidy.{TidyBelow, bare, next, tidy_append}
 use Rattle.signals.specs.Names.{AllTidy, none, more}
 use Rattle.signals.proofs.Tidy.{gives_known}
-use Rattle.data.proofs.Characters.{takes_data, no_mark, no_zero, no_other}
+use Rattle.data.proofs.Characters.{takes_data, no_mark, no_other}
 use Rattle.assigns.specs.Given.{chars}
 use Rattle.assigns.proofs.Table.{chars_append, chars_paired}
 
@@ -51,10 +51,6 @@ unfolding assign
 takes_assign ns m xs =
     takes_bind _ _ (takes_old ns) λ x. keeps_bind _ _ (keeps_if _ _ _) λ u. keeps_bind _ _ (takes_keeps (takes_due _)) λ p.
     keeps_bind _ _ (takes_keeps (takes_data m)) λ d. keeps_bind _ _ (keeps_if _ _ _) λ u. keeps_give _
-
-pub takes_assigns : (ns : Names) (m : Bool) → Takes (assigns ns m)
-unfolding assigns
-takes_assigns ns m = takes_bind _ _ (takes_due _) λ p. takes_keeps (takes_until "}" (assign ns m) (takes_assign ns m) [])
 
 -- ---- signals
 
@@ -115,11 +111,6 @@ module _ (b : ℕ) (ns : Names) (m : Bool) (h : Gives (λ d. has b d.0 ≡ false
   without_assigns : Gives Without (assigns ns m)
   unfolding assigns Without chars has
   without_assigns = gives_after Without _ _ λ p. gives_until Without "}" (assign ns m) without_assign [] refl
-
--- none is 0
-pub no_zero_assigned : (ns : Names) (m : Bool) → Gives (λ xs. has 0 (chars xs) ≡ false) (assigns ns m)
-unfolding Without
-no_zero_assigned ns m = without_assigns 0 ns m (no_zero m)
 
 -- where `#` may not stand, none is assigned
 pub no_mark_assigned : (ns : Names) → Gives (λ xs. has mark (chars xs) ≡ false) (assigns ns false)

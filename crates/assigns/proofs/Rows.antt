@@ -1,39 +1,40 @@
 -- A name's row, read where it lies in the table: how long it is, its numbers, and one turn of a loop over them.
-use Prim.Native.Nat.{ℕ, zero, suc, ◌+◌, ◌*◌, ◌≤◌, ◌<◌, min}
+use Prim.Native.Nat.{ℕ, zero, suc, ◌+◌, ◌-◌, ◌*◌, ◌≤◌, ◌<◌, min}
 use native.Mathlib.Omega.{arith}
-use mathlib.Core.Path.{◌≡◌, ◌∙◌}
-use mathlib.Core.Bool.{true, false}
-use mathlib.Core.List.{List}
-use lib.ListN.{length, get_or, take, drop, set, length-take, length-drop, drop_of_length-le}
-use lib.Seq.{get_or-take, get_or-drop}
+use mathlib.Core.Path.{◌≡◌, refl, sym, ◌∙◌}
+use mathlib.Core.Bool.{Bool, true, false}
+use mathlib.Core.List.{List, [], ◌∷◌}
+use lib.ListN.{length, get_or, take, drop, set, length-take, drop_of_length-le}
+use lib.Dec.{leb}
+use lib.Seq.{take_all, take-take, get_or-take, get_or-drop}
+use borrow.Author.Tests.{leb-true, leb-false}
 use Rattle.tokens.proofs.Reading.{cut}
 use Rattle.meaning.specs.Bounds.{signals_most}
 use Rattle.meaning.specs.Lists.{has, meets}
 use Rattle.sets.proofs.Tidy.{TidyBelow, bare, next}
-use Rattle.signals.specs.Names.{names_most, row_length, list_at}
-use Rattle.assigns.specs.Given.{placed, Row}
+use Rattle.signals.specs.Names.{row_length, list_at}
+use Rattle.assigns.specs.Given.{placed}
 
 -- ---- a row
 
-module _ (lists : List ℕ) (i : ℕ) where
-  pub row_length_lem : length lists ≡ names_most * row_length → i < names_most → length (list_at lists i) ≡ min (get_or lists (i * row_length) 0) signals_most
-  unfolding list_at
-  row_length_lem e h =
-      omega (
-        arith,
-        length-take (get_or lists (i * row_length) 0) (take signals_most (drop (i * row_length + 1) lists)),
-        length-take signals_most (drop (i * row_length + 1) lists),
-        length-drop (i * row_length + 1) lists,
-      )
+take_min : (m n : ℕ) (l : List ℕ) → take (min m n) l ≡ take m (take n l)
+take_min m n l = by (leb m n) refl
+  where
+    by : (b : Bool) → leb m n ≡ b → take (min m n) l ≡ take m (take n l)
+    by true e = let h = leb-true m n e in let least : min m n ≡ m = omega arith in rw least (sym (take-take m n l h))
+    by false e =
+        let h = leb-false m n e in
+        let few : length (take n l) ≤ m = omega (arith, length-take n l) in
+        let least : min m n ≡ n = omega arith in
+        rw least (sym (take_all m (take n l) few))
 
-  pub row_most_lem : length (list_at lists i) ≤ signals_most
+module _ (lists : List ℕ) (i : ℕ) where
+  pub row_is : (n : ℕ) → n ≡ min (get_or lists (i * row_length) 0) signals_most
+      → take (i * row_length + 1 + n - (i * row_length + 1)) (drop (i * row_length + 1) lists) ≡ list_at lists i
   unfolding list_at
-  row_most_lem =
-      omega (
-        arith,
-        length-take (get_or lists (i * row_length) 0) (take signals_most (drop (i * row_length + 1) lists)),
-        length-take signals_most (drop (i * row_length + 1) lists),
-      )
+  row_is n e =
+      let w : i * row_length + 1 + n - (i * row_length + 1) ≡ n = omega arith in
+      rw (w, e) (take_min (get_or lists (i * row_length) 0) signals_most (drop (i * row_length + 1) lists))
 
   pub row_at : (j : ℕ) → j < length (list_at lists i) → get_or (list_at lists i) j 0 ≡ get_or lists (i * row_length + 1 + j) 0
   unfolding list_at
@@ -45,19 +46,27 @@ module _ (lists : List ℕ) (i : ℕ) where
       ∙ get_or-take signals_most (drop (i * row_length + 1) lists) j 0 (omega arith)
       ∙ get_or-drop (i * row_length + 1) lists j 0
 
+  pub row_most_lem : length (list_at lists i) ≤ signals_most
+  unfolding list_at
+  row_most_lem =
+      omega (
+        arith,
+        length-take (get_or lists (i * row_length) 0) (take signals_most (drop (i * row_length + 1) lists)),
+        length-take signals_most (drop (i * row_length + 1) lists),
+      )
+
 -- each number lies below the bound
 pub tidy_below : {most : ℕ} {l : List ℕ} → TidyBelow most l → (j : ℕ) → j < length l → get_or l j 0 < most
 tidy_below bare j h = absurd (omega arith)
 tidy_below (next b e t) zero h = b
 tidy_below (next b e t) (suc j) h = tidy_below t j (omega arith)
 
--- a number of the row lies in the table, and its signal has a place
-module _ {lists given : List ℕ} {i : ℕ} (row : Row lists i given) (j : ℕ) (h : j < length (list_at lists i)) where
-  pub row_inside : i * row_length + 1 + j < length lists
-  row_inside = omega (arith, row.rows, row.below, row_most_lem lists i)
-
-  pub signal_below : get_or lists (i * row_length + 1 + j) 0 < signals_most
-  signal_below = omega (arith, row_at lists i j h, tidy_below row.tidy j h)
+-- the first of those, and the others
+pub tidy_first : {most s : ℕ} {l l' : List ℕ} → l ≡ s ∷ l' → TidyBelow most l → (s < most) × TidyBelow most l'
+tidy_first {most} {s} {l' = l'} e t = by (rw e at t)
+  where
+    by : TidyBelow most (s ∷ l') → (s < most) × TidyBelow most l'
+    by (next b e t) = (b, t)
 
 -- ---- a turn
 
@@ -76,12 +85,18 @@ module _ (l : List ℕ) (j : ℕ) where
   unfolding meets
   meets_end h g = rw (drop_of_length-le l h)
 
-module _ (ss cs : List ℕ) (j : ℕ) (given : List ℕ) where
-  pub placed_next : j < length ss → j < length cs
-      → placed (drop j ss) (drop j cs) given ≡ placed (drop (j + 1) ss) (drop (j + 1) cs) (set given (get_or ss j 0) (get_or cs j 0))
-  unfolding placed
-  placed_next h k = rw (cut ss j h, cut cs j k)
+pub placed_next : {ss ss' cs cs' : List ℕ} {s c : ℕ} (given : List ℕ) → ss ≡ s ∷ ss' → cs ≡ c ∷ cs' → placed ss cs given ≡ placed ss' cs' (set given s c)
+unfolding placed
+placed_next given e f = rw (e, f) refl
 
-  pub placed_end : length ss ≤ j → placed (drop j ss) (drop j cs) given ≡ given
-  unfolding placed
-  placed_end h = rw (drop_of_length-le ss h)
+-- without signals, and without characters
+pub placed_bare : (ss cs given : List ℕ) → length ss ≡ 0 → placed ss cs given ≡ given
+unfolding placed
+placed_bare [] cs given h = refl
+placed_bare (s ∷ ss) cs given h = absurd (omega arith)
+
+pub placed_out : (ss cs given : List ℕ) → length cs ≡ 0 → placed ss cs given ≡ given
+unfolding placed
+placed_out [] cs given h = refl
+placed_out (s ∷ ss) [] given h = refl
+placed_out (s ∷ ss) (c ∷ cs) given h = absurd (omega arith)

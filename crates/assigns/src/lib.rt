@@ -11,13 +11,14 @@ ghost use Rattle.assigns.specs.Given.{Gave, Gives, placed, Row, Ready};
 
 use words::{BAD_DATA, Cursor};
 
-// How many signals the name of number i has.
-pub fn size(lists: &[u16], i: usize) -> usize
+// The signals of the name of number i.
+pub fn signals_of(lists: &[u16], i: usize) -> &[u16]
     requires { (length lists.now ≡ names_most * row_length) × (i < names_most) }
-    ensures { result ≡ length (list_at lists.now i) }
+    ensures { result.now ≡ list_at lists.now i }
 {
-    let n = lists[i * signals::ROW] as usize;
-    if n < sets::MOST { n } else { sets::MOST }
+    let at = i * signals::ROW;
+    let n = (lists[at] as usize).min(sets::MOST);
+    &lists[at + 1..at + 1 + n]
 }
 
 // Is one of its signals given a character already?
@@ -25,15 +26,12 @@ pub fn met(lists: &[u16], i: usize, given: &[u8]) -> bool
     requires { Row lists.now i given.now }
     ensures { (xs : Assigns) → Gave xs given.now → result ≡ meets (list_at lists.now i) (assigned xs) }
 {
-    let n = size(lists, i);
-    let at = i * signals::ROW;
-    let mut j = 0;
-    while j < n {
-        let s = lists[at + 1 + j] as usize;
-        if given[s] != 0 {
+    // No `any`: in a closure it is not known that the table has a place for the signal.
+    let signals = signals_of(lists, i);
+    for s in signals {
+        if given[*s as usize] != 0 {
             return true;
         }
-        j += 1;
     }
     false
 }
@@ -43,13 +41,8 @@ fn put(lists: &[u16], i: usize, buffer: &[u8], given: &mut [u8])
     requires { Row lists.now i given.old × (length (list_at lists.now i) ≤ length buffer.now) }
     ensures { given.new ≡ placed (list_at lists.now i) buffer.now given.old }
 {
-    let n = size(lists, i);
-    let at = i * signals::ROW;
-    let mut j = 0;
-    while j < n {
-        let s = lists[at + 1 + j] as usize;
-        given[s] = buffer[j];
-        j += 1;
+    for (s, b) in signals_of(lists, i).iter().zip(buffer) {
+        given[*s as usize] = *b;
     }
 }
 
@@ -77,7 +70,7 @@ fn assign<'a>(
     let mut buffer = [0; sets::MOST];
     let f = data::data(text, d, may, &mut buffer);
     let e = f.cursor;
-    let r = words::refuse_if(e, f.n != size(lists, i), BAD_DATA, f.last);
+    let r = words::refuse_if(e, f.n != signals_of(lists, i).len(), BAD_DATA, f.last);
     if r.no != 0 {
         return r;
     }

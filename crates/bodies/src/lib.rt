@@ -16,12 +16,12 @@ ghost use Rattle.assigns.specs.Given.{Ready};
 ghost use Rattle.measures.specs.Uses.{row_length, Given};
 ghost use Rattle.measures.specs.Book.{book_length, rows_length};
 ghost use Rattle.noted.specs.Noted.{Grows};
-ghost use Rattle.heads.specs.Known.{Describes, Described};
+ghost use Rattle.heads.specs.Known.{Described, Describing, DescribingSome};
 ghost use Rattle.bodies.specs.Bodies.{Notes, Counted, Summed, HeadIs, Held, went as went_on, last as last_of, Turned, Begun};
 ghost use Rattle.bodies.specs.Blocks.{one_more, one_of as one_due, opening, block_of, word_of, Declares};
 
 use data::BAD_ARGUMENT;
-use heads::Known;
+use heads::{Declared, Known};
 use measures::{DEPTH, Measure};
 use words::{Cursor, TOO_MANY};
 
@@ -172,14 +172,8 @@ fn behind<'a>(
 
 // One statement, but of a Loop only its head.
 fn begin<'a>(
-    text: &'a [u8],
+    declared: &'a Declared<'a>,
     c: Cursor,
-    places: &'a [usize],
-    lists: &'a [u16],
-    tplaces: &'a [usize],
-    book: &'a [usize],
-    rows: &'a [u16],
-    known: Known,
     own: bool,
     d: usize,
     seen: bool,
@@ -188,30 +182,34 @@ fn begin<'a>(
     args: &mut [usize],
     used: &mut [u8],
 ) -> Turn
-    requires { Described text.now places.now lists.now tplaces.now book.now rows.now known × (d ≤ depth_most) × (length row.old ≡ row_length) × (length args.old ≡ signals_most * 2) × (length used.old ≡ table_size) }
-    ensures { ((e : Env) → Describes text.now places.now lists.now tplaces.now book.now rows.now known e → Begun text.now e own d c seen before row.old result row.new (Notes known.tables e used.old used.new)) × Grows used.old used.new }
+    requires { DescribingSome declared.now × (d ≤ depth_most) × (length row.old ≡ row_length) × (length args.old ≡ signals_most * 2) × (length used.old ≡ table_size) }
+    ensures { ((e : Env) → Describing declared.now e → Begun declared.now.text.now e own d c seen before row.old result row.new (Notes declared.now.known.tables e used.old used.new)) × Grows used.old used.new }
 {
     let mut given = [0; sets::MOST];
-    let h = heads::head(
-        text, c, places, lists, tplaces, book, rows, known, own, d, seen, &mut given, args,
-    );
-    let names = known.names;
+    let h = heads::head(declared, c, own, d, seen, &mut given, args);
+    let names = declared.known.names;
     behind(
-        text, h, places, lists, names, book, own, seen, before, &given, args, row, used,
+        declared.text,
+        h,
+        declared.places,
+        declared.lists,
+        names,
+        declared.book,
+        own,
+        seen,
+        before,
+        &given,
+        args,
+        row,
+        used,
     )
 }
 
 // One statement, behind others of this measure.
 #[cycle(statement_statements)]
 fn statement<'a>(
-    text: &'a [u8],
+    declared: &'a Declared<'a>,
     c: Cursor,
-    places: &'a [usize],
-    lists: &'a [u16],
-    tplaces: &'a [usize],
-    book: &'a [usize],
-    rows: &'a [u16],
-    known: Known,
     own: bool,
     d: usize,
     seen: bool,
@@ -220,32 +218,16 @@ fn statement<'a>(
     args: &mut [usize],
     used: &mut [u8],
 ) -> Turn
-    requires { Described text.now places.now lists.now tplaces.now book.now rows.now known × (d ≤ depth_most) × (length row.old ≡ row_length) × (length args.old ≡ signals_most * 2) × (length used.old ≡ table_size) }
-    ensures { ((e : Env) → Describes text.now places.now lists.now tplaces.now book.now rows.now known e → Turned text.now e own d c seen before row.old result row.new (Notes known.tables e used.old used.new)) × Grows used.old used.new }
+    requires { DescribingSome declared.now × (d ≤ depth_most) × (length row.old ≡ row_length) × (length args.old ≡ signals_most * 2) × (length used.old ≡ table_size) }
+    ensures { ((e : Env) → Describing declared.now e → Turned declared.now.text.now e own d c seen before row.old result row.new (Notes declared.now.known.tables e used.old used.new)) × Grows used.old used.new }
 {
-    let t = begin(
-        text, c, places, lists, tplaces, book, rows, known, own, d, seen, before, row, args, used,
-    );
+    let t = begin(declared, c, own, d, seen, before, row, args, used);
     let n = t.turns;
     if n == 0 {
         return t;
     }
     let b = t.cursor;
-    let x = statements(
-        text,
-        b,
-        places,
-        lists,
-        tplaces,
-        book,
-        rows,
-        known,
-        false,
-        d - 1,
-        row,
-        args,
-        used,
-    );
+    let x = statements(declared, b, false, d - 1, row, args, used);
     let inner = x.measure;
     let r = x.cursor;
     went(r, measures::plus(before, measures::looped(n, inner)), seen)
@@ -255,32 +237,23 @@ fn statement<'a>(
 // they assign is noted in `used`.
 #[cycle(statement_statements)]
 pub fn statements<'a>(
-    text: &'a [u8],
+    declared: &'a Declared<'a>,
     c: Cursor,
-    places: &'a [usize],
-    lists: &'a [u16],
-    tplaces: &'a [usize],
-    book: &'a [usize],
-    rows: &'a [u16],
-    known: Known,
     own: bool,
     d: usize,
     row: &mut [u16],
     args: &mut [usize],
     used: &mut [u8],
 ) -> Measured
-    requires { Described text.now places.now lists.now tplaces.now book.now rows.now known × (d ≤ depth_most) × (length row.old ≡ row_length) × (length args.old ≡ signals_most * 2) × (length used.old ≡ table_size) }
-    ensures { (length row.new ≡ row_length) × (length args.new ≡ signals_most * 2) × ((e : Env) → Describes text.now places.now lists.now tplaces.now book.now rows.now known e → Makes text.now c (statements_due e d own) result.cursor (Summed own row.old row.new result.measure (Notes known.tables e used.old used.new))) × Grows used.old used.new }
+    requires { DescribingSome declared.now × (d ≤ depth_most) × (length row.old ≡ row_length) × (length args.old ≡ signals_most * 2) × (length used.old ≡ table_size) }
+    ensures { (length row.new ≡ row_length) × (length args.new ≡ signals_most * 2) × ((e : Env) → Describing declared.now e → Makes declared.now.text.now c (statements_due e d own) result.cursor (Summed own row.old row.new result.measure (Notes declared.now.known.tables e used.old used.new))) × Grows used.old used.new }
 {
     let mut cursor = c;
     let mut measure = measures::nothing();
     let mut seen = false;
     let mut ends = false;
     while (cursor.no == 0) & !ends {
-        let t = statement(
-            text, cursor, places, lists, tplaces, book, rows, known, own, d, seen, measure, row,
-            args, used,
-        );
+        let t = statement(declared, cursor, own, d, seen, measure, row, args, used);
         cursor = t.cursor;
         measure = t.measure;
         seen = t.seen;
@@ -339,9 +312,16 @@ fn one_body<'a>(
     let b = words::refuse_if(a, many, TOO_MANY, c.at);
     let d = words::due(text, b, b"{");
     let mut row = [0u16; measures::ROW];
-    let x = statements(
-        text, d, places, lists, tplaces, book, rows, known, true, DEPTH, &mut row, args, used,
-    );
+    let declared = Declared {
+        text,
+        places,
+        lists,
+        tplaces,
+        book,
+        rows,
+        known,
+    };
+    let x = statements(&declared, d, true, DEPTH, &mut row, args, used);
     let end = x.cursor;
     if end.no != 0 {
         return Blocks { cursor: end, known };

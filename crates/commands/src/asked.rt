@@ -82,11 +82,10 @@ pub fn number(rt: &impl System, i: usize) -> Option<usize> {
     let mut word = word();
     let n = put_word(rt, i, &mut word);
     let value = lines::number(&word[..n]);
-    if value.right {
-        return Some(value.value as usize);
+    if value.is_none() {
+        fault(rt, b"not a number", &word[..n]);
     }
-    fault(rt, b"not a number", &word[..n]);
-    None
+    Some(value? as usize)
 }
 
 // Word i as one byte.

@@ -1,19 +1,16 @@
 // intake FILE
 use crate::{answers, asked, files};
-use intake::Progress;
 use streams::System;
-use tokens::Refusal;
 
 // What the intake stores of a raw text.
 fn answer(rt: &impl System, raw: &[u8]) {
     let mut store = streams::room();
     let taken = intake::take(intake::begin(), raw, &mut store);
     match intake::close(taken, &mut store) {
-        Progress::Closed(n) => {
+        Ok(n) => {
             streams::write(rt, &store, n);
         }
-        Progress::Refused(no, place) => answers::refused(rt, raw, Refusal { no, place }),
-        Progress::Open(_) => streams::broken(rt, b"the intake is not closed\n"),
+        Err(refusal) => answers::refused(rt, raw, refusal),
     }
 }
 

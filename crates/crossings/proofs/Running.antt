@@ -21,7 +21,7 @@ use Rattle.heads.specs.declared.Known.{Known}
 use Rattle.texts.specs.declared.Parts.{Parts}
 use Rattle.texts.proofs.Runs.{list_from, list_cut, list_end}
 use Rattle.plays.specs.declared.Played.{Played}
-use Rattle.plays.specs.Plays.{Ground, ground_of, Arrays, Sized}
+use Rattle.plays.specs.Plays.{Ground, grounded, Arrays, Sized}
 use Rattle.plays.specs.Run.{ListedAt, Runs}
 use Rattle.plays.proofs.Running.{opening_long}
 use Rattle.plays.proofs.Texts.{is_whole, is_listed, listed_at}
@@ -94,7 +94,7 @@ module _ {tabs : Tables} {n : ℕ} {E : Env} {ps : Decls} {run : Body} {t : Tok}
 
 module _ (text places lists tplaces waves book rows list : List ℕ) (known : Known) (signals count patterns : ℕ) where
   abbrev all : Ground
-  all = ground_of text places lists tplaces book rows waves known signals
+  all = grounded text places lists tplaces book rows waves known signals
 
   module _ {p : Parts} {d : Read} {run : Body} (h : Runs text places lists tplaces waves book rows list known signals count patterns p d run) where
     abbrev env : Env

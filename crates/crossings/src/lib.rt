@@ -12,7 +12,7 @@ ghost use Rattle.meaning.specs.Edges.{in_order};
 ghost use Rattle.spans.specs.Spans.{Spans, Sized};
 ghost use Rattle.pins.specs.Shown.{Roomy, Others};
 ghost use Rattle.plays.specs.Plays.{ground_of, arrays};
-ghost use Rattle.plays.specs.Run.{SomeRun, Runs};
+ghost use Rattle.plays.specs.Run.{SomeRunOn, RunsOn};
 ghost use Rattle.meaning.specs.Body.{Body};
 ghost use Rattle.meaning.specs.Document.{Read};
 ghost use Rattle.texts.specs.declared.Parts.{Parts};
@@ -20,9 +20,8 @@ ghost use Rattle.crossings.specs.Rows.{rows_most, seen, Ample, cycle_in, row_at,
 ghost use Rattle.crossings.specs.Crossings.{Stood, Promised, Vectored, Stepped, Shifted, Looped, Used, Entered};
 ghost use Rattle.crossings.specs.Run.{SomeListed, PlaysListed, Decides};
 
-use heads::Known;
 use measures::DEPTH;
-use plays::{Failing, Played};
+use plays::{Failing, Ground, Played};
 use timing::TABLES;
 use words::Cursor;
 
@@ -362,16 +361,8 @@ fn vectors<'a>(
 
 // Shift { V { .. } }: the V as often as the frame says, and the `}` behind it.
 fn shift<'a>(
-    text: &'a [u8],
+    ground: &'a Ground<'a>,
     c: Cursor,
-    places: &'a [usize],
-    lists: &'a [u16],
-    tplaces: &'a [usize],
-    book: &'a [usize],
-    rows: &'a [u16],
-    waves: &'a [u8],
-    known: Known,
-    signals: usize,
     firsts: &'a [u32],
     lasts: &'a [u32],
     periods: &'a [u64],
@@ -383,20 +374,18 @@ fn shift<'a>(
     shown: &mut [u8],
     marks: &mut [usize],
 ) -> Played
-    requires { (alive c ≡ true) × Stood (ground_of text.now places.now lists.now tplaces.now book.now rows.now waves.now known signals) (clock firsts.now lasts.now periods.now) (stream text.now c) frame.depth frame.level table (arrays values.old feeds.old args.old) (seen shown.old marks.old) }
-    ensures { Shifted (ground_of text.now places.now lists.now tplaces.now book.now rows.now waves.now known signals) (clock firsts.now lasts.now periods.now) (stream text.now c) frame.depth frame.level table frame.turns (arrays values.old feeds.old args.old) (arrays values.new feeds.new args.new) (seen shown.old marks.old) (seen shown.new marks.new) result }
+    requires { (alive c ≡ true) × Stood (ground_of ground.now) (clock firsts.now lasts.now periods.now) (stream ground.now.declared.text.now c) frame.depth frame.level table (arrays values.old feeds.old args.old) (seen shown.old marks.old) }
+    ensures { Shifted (ground_of ground.now) (clock firsts.now lasts.now periods.now) (stream ground.now.declared.text.now c) frame.depth frame.level table frame.turns (arrays values.old feeds.old args.old) (arrays values.new feeds.new args.new) (seen shown.old marks.old) (seen shown.new marks.new) result }
 {
     let mut given = [0; sets::MOST];
-    let h = heads::head(
-        text, c, places, lists, tplaces, book, rows, known, true, DEPTH, false, &mut given, args,
-    );
+    let h = heads::head(&ground.declared, c, true, DEPTH, false, &mut given, args);
     let failed = vectors(
-        text,
+        ground.declared.text,
         &given,
         values,
         feeds,
         frame.level,
-        signals,
+        ground.signals,
         table,
         c.at,
         frame.turns,
@@ -408,7 +397,7 @@ fn shift<'a>(
         rows_of(frame.depth),
     );
     let behind = h.cursor;
-    let cursor = words::due(text, behind, b"}");
+    let cursor = words::due(ground.declared.text, behind, b"}");
     Played {
         cursor,
         failed,
@@ -421,16 +410,8 @@ fn shift<'a>(
 // Loop N { .. }: one turn, where it leaves what it found, and else two; and the next turn's first cycle, if there is one.
 #[cycle(enter_statement_statements_turns)]
 fn turns<'a>(
-    text: &'a [u8],
+    ground: &'a Ground<'a>,
     c: Cursor,
-    places: &'a [usize],
-    lists: &'a [u16],
-    tplaces: &'a [usize],
-    book: &'a [usize],
-    rows: &'a [u16],
-    waves: &'a [u8],
-    known: Known,
-    signals: usize,
     firsts: &'a [u32],
     lasts: &'a [u32],
     periods: &'a [u64],
@@ -443,8 +424,8 @@ fn turns<'a>(
     shown: &mut [u8],
     marks: &mut [usize],
 ) -> Played
-    requires { (alive c ≡ true) × (0 < n) × (0 < frame.depth) × (frame.depth ≤ depth_most) × Stood (ground_of text.now places.now lists.now tplaces.now book.now rows.now waves.now known signals) (clock firsts.now lasts.now periods.now) (stream text.now c) (frame.depth - 1) frame.level table (arrays values.old feeds.old args.old) (seen shown.old marks.old) }
-    ensures { Looped (ground_of text.now places.now lists.now tplaces.now book.now rows.now waves.now known signals) (clock firsts.now lasts.now periods.now) (stream text.now c) frame.depth frame.level table frame.turns n (arrays values.old feeds.old args.old) (arrays values.new feeds.new args.new) (seen shown.old marks.old) (seen shown.new marks.new) result }
+    requires { (alive c ≡ true) × (0 < n) × (0 < frame.depth) × (frame.depth ≤ depth_most) × Stood (ground_of ground.now) (clock firsts.now lasts.now periods.now) (stream ground.now.declared.text.now c) (frame.depth - 1) frame.level table (arrays values.old feeds.old args.old) (seen shown.old marks.old) }
+    ensures { Looped (ground_of ground.now) (clock firsts.now lasts.now periods.now) (stream ground.now.declared.text.now c) frame.depth frame.level table frame.turns n (arrays values.old feeds.old args.old) (arrays values.new feeds.new args.new) (seen shown.old marks.old) (seen shown.new marks.new) result }
 {
     let inner = Frame {
         turns: frame.turns,
@@ -453,40 +434,48 @@ fn turns<'a>(
     };
     let first = rows_of(frame.depth);
     forget(marks, first);
-    store(values, signals, table, 0, shown, marks, first + 1);
+    store(values, ground.signals, table, 0, shown, marks, first + 1);
     let a = statements(
-        text, c, places, lists, tplaces, book, rows, waves, known, signals, firsts, lasts, periods,
-        inner, table, values, feeds, args, shown, marks,
+        ground, c, firsts, lasts, periods, inner, table, values, feeds, args, shown, marks,
     );
     if a.failed | (n < 2) {
         return a;
     }
-    if same(values, a.table, shown, marks, first + 1, signals) {
-        return finish(firsts, lasts, periods, shown, marks, first, signals, a);
+    if same(values, a.table, shown, marks, first + 1, ground.signals) {
+        return finish(
+            firsts,
+            lasts,
+            periods,
+            shown,
+            marks,
+            first,
+            ground.signals,
+            a,
+        );
     }
     forget(marks, first);
     let b = statements(
-        text, c, places, lists, tplaces, book, rows, waves, known, signals, firsts, lasts, periods,
-        inner, a.table, values, feeds, args, shown, marks,
+        ground, c, firsts, lasts, periods, inner, a.table, values, feeds, args, shown, marks,
     );
     if b.failed | (n < 3) {
         return b;
     }
-    finish(firsts, lasts, periods, shown, marks, first, signals, b)
+    finish(
+        firsts,
+        lasts,
+        periods,
+        shown,
+        marks,
+        first,
+        ground.signals,
+        b,
+    )
 }
 
 // Macro or Call: the body of number i, its Shift played t times, from its own first byte. A macro runs in place; from a procedure the caller's pins and table come back.
 #[cycle(enter_statement_statements_turns)]
 fn enter<'a>(
-    text: &'a [u8],
-    places: &'a [usize],
-    lists: &'a [u16],
-    tplaces: &'a [usize],
-    book: &'a [usize],
-    rows: &'a [u16],
-    waves: &'a [u8],
-    known: Known,
-    signals: usize,
+    ground: &'a Ground<'a>,
     firsts: &'a [u32],
     lasts: &'a [u32],
     periods: &'a [u64],
@@ -500,25 +489,26 @@ fn enter<'a>(
     shown: &mut [u8],
     marks: &mut [usize],
 ) -> Played
-    requires { Used (ground_of text.now places.now lists.now tplaces.now book.now rows.now waves.now known signals) (clock firsts.now lasts.now periods.now) i frame.depth frame.level table (arrays values.old feeds.old args.old) (seen shown.old marks.old) }
-    ensures { Entered (ground_of text.now places.now lists.now tplaces.now book.now rows.now waves.now known signals) (clock firsts.now lasts.now periods.now) i frame.depth frame.level table t (arrays values.old feeds.old args.old) (arrays values.new feeds.new args.new) (seen shown.old marks.old) (seen shown.new marks.new) result }
+    requires { Used (ground_of ground.now) (clock firsts.now lasts.now periods.now) i frame.depth frame.level table (arrays values.old feeds.old args.old) (seen shown.old marks.old) }
+    ensures { Entered (ground_of ground.now) (clock firsts.now lasts.now periods.now) i frame.depth frame.level table t (arrays values.old feeds.old args.old) (arrays values.new feeds.new args.new) (seen shown.old marks.old) (seen shown.new marks.new) result }
 {
     let inner = Frame {
         turns: t,
         depth: frame.depth - 1,
         level: frame.level + 1,
     };
-    let c = words::cursor_at(text, measures::start_at(book, i));
+    let c = words::cursor_at(
+        ground.declared.text,
+        measures::start_at(ground.declared.book, i),
+    );
     if i < measures::PROCEDURES {
         return statements(
-            text, c, places, lists, tplaces, book, rows, waves, known, signals, firsts, lasts,
-            periods, inner, table, values, feeds, args, shown, marks,
+            ground, c, firsts, lasts, periods, inner, table, values, feeds, args, shown, marks,
         );
     }
     pins::leave(values, inner.level);
     let r = statements(
-        text, c, places, lists, tplaces, book, rows, waves, known, signals, firsts, lasts, periods,
-        inner, table, values, feeds, args, shown, marks,
+        ground, c, firsts, lasts, periods, inner, table, values, feeds, args, shown, marks,
     );
     pins::come_back(values, inner.level);
     let cursor = r.cursor;
@@ -534,16 +524,8 @@ fn enter<'a>(
 // The statement at the cursor, or the `}` there.
 #[cycle(enter_statement_statements_turns)]
 fn statement<'a>(
-    text: &'a [u8],
+    ground: &'a Ground<'a>,
     c: Cursor,
-    places: &'a [usize],
-    lists: &'a [u16],
-    tplaces: &'a [usize],
-    book: &'a [usize],
-    rows: &'a [u16],
-    waves: &'a [u8],
-    known: Known,
-    signals: usize,
     firsts: &'a [u32],
     lasts: &'a [u32],
     periods: &'a [u64],
@@ -555,13 +537,11 @@ fn statement<'a>(
     shown: &mut [u8],
     marks: &mut [usize],
 ) -> Played
-    requires { (alive c ≡ true) × Stood (ground_of text.now places.now lists.now tplaces.now book.now rows.now waves.now known signals) (clock firsts.now lasts.now periods.now) (stream text.now c) frame.depth frame.level table (arrays values.old feeds.old args.old) (seen shown.old marks.old) }
-    ensures { Stepped (ground_of text.now places.now lists.now tplaces.now book.now rows.now waves.now known signals) (clock firsts.now lasts.now periods.now) (stream text.now c) frame.depth frame.level table frame.turns (arrays values.old feeds.old args.old) (arrays values.new feeds.new args.new) (seen shown.old marks.old) (seen shown.new marks.new) result }
+    requires { (alive c ≡ true) × Stood (ground_of ground.now) (clock firsts.now lasts.now periods.now) (stream ground.now.declared.text.now c) frame.depth frame.level table (arrays values.old feeds.old args.old) (seen shown.old marks.old) }
+    ensures { Stepped (ground_of ground.now) (clock firsts.now lasts.now periods.now) (stream ground.now.declared.text.now c) frame.depth frame.level table frame.turns (arrays values.old feeds.old args.old) (arrays values.new feeds.new args.new) (seen shown.old marks.old) (seen shown.new marks.new) result }
 {
     let mut given = [0; sets::MOST];
-    let h = heads::head(
-        text, c, places, lists, tplaces, book, rows, known, true, DEPTH, false, &mut given, args,
-    );
+    let h = heads::head(&ground.declared, c, true, DEPTH, false, &mut given, args);
     let cursor = h.cursor;
     let what = h.what;
     match what {
@@ -574,12 +554,12 @@ fn statement<'a>(
         },
         heads::What::Vector(place) => {
             let failed = vectors(
-                text,
+                ground.declared.text,
                 &given,
                 values,
                 feeds,
                 frame.level,
-                signals,
+                ground.signals,
                 table,
                 place,
                 1,
@@ -599,27 +579,33 @@ fn statement<'a>(
             }
         }
         heads::What::Assigns => {
-            pins::put(text, &given, values, feeds, frame.level, signals);
+            pins::put(
+                ground.declared.text,
+                &given,
+                values,
+                feeds,
+                frame.level,
+                ground.signals,
+            );
             gone(cursor, table)
         }
         heads::What::Chooses(k) => gone(cursor, k),
         heads::What::Loops(n) => {
             let r = turns(
-                text, cursor, places, lists, tplaces, book, rows, waves, known, signals, firsts,
-                lasts, periods, frame, n, table, values, feeds, args, shown, marks,
+                ground, cursor, firsts, lasts, periods, frame, n, table, values, feeds, args,
+                shown, marks,
             );
             let behind = r.cursor;
             on_to(behind, r)
         }
         heads::What::Shifts => shift(
-            text, cursor, places, lists, tplaces, book, rows, waves, known, signals, firsts, lasts,
-            periods, frame, table, values, feeds, args, shown, marks,
+            ground, cursor, firsts, lasts, periods, frame, table, values, feeds, args, shown, marks,
         ),
         heads::What::Uses(i, t) => {
             pins::supply(&given, args, feeds, frame.level + 1);
             let r = enter(
-                text, places, lists, tplaces, book, rows, waves, known, signals, firsts, lasts,
-                periods, frame, i, t, table, values, feeds, args, shown, marks,
+                ground, firsts, lasts, periods, frame, i, t, table, values, feeds, args, shown,
+                marks,
             );
             on_to(cursor, r)
         }
@@ -629,16 +615,8 @@ fn statement<'a>(
 // Statements from the cursor on, up to their `}`.
 #[cycle(enter_statement_statements_turns)]
 fn statements<'a>(
-    text: &'a [u8],
+    ground: &'a Ground<'a>,
     c: Cursor,
-    places: &'a [usize],
-    lists: &'a [u16],
-    tplaces: &'a [usize],
-    book: &'a [usize],
-    rows: &'a [u16],
-    waves: &'a [u8],
-    known: Known,
-    signals: usize,
     firsts: &'a [u32],
     lasts: &'a [u32],
     periods: &'a [u64],
@@ -650,15 +628,15 @@ fn statements<'a>(
     shown: &mut [u8],
     marks: &mut [usize],
 ) -> Played
-    requires { (alive c ≡ true) × Stood (ground_of text.now places.now lists.now tplaces.now book.now rows.now waves.now known signals) (clock firsts.now lasts.now periods.now) (stream text.now c) frame.depth frame.level table (arrays values.old feeds.old args.old) (seen shown.old marks.old) }
-    ensures { Promised (ground_of text.now places.now lists.now tplaces.now book.now rows.now waves.now known signals) (clock firsts.now lasts.now periods.now) (stream text.now c) frame.depth frame.level table frame.turns (arrays values.old feeds.old args.old) (arrays values.new feeds.new args.new) (seen shown.old marks.old) (seen shown.new marks.new) result }
+    requires { (alive c ≡ true) × Stood (ground_of ground.now) (clock firsts.now lasts.now periods.now) (stream ground.now.declared.text.now c) frame.depth frame.level table (arrays values.old feeds.old args.old) (seen shown.old marks.old) }
+    ensures { Promised (ground_of ground.now) (clock firsts.now lasts.now periods.now) (stream ground.now.declared.text.now c) frame.depth frame.level table frame.turns (arrays values.old feeds.old args.old) (arrays values.new feeds.new args.new) (seen shown.old marks.old) (seen shown.new marks.new) result }
 {
     let mut cursor = c;
     let mut chosen = table;
     loop {
         let r = statement(
-            text, cursor, places, lists, tplaces, book, rows, waves, known, signals, firsts, lasts,
-            periods, frame, chosen, values, feeds, args, shown, marks,
+            ground, cursor, firsts, lasts, periods, frame, chosen, values, feeds, args, shown,
+            marks,
         );
         if r.failed | r.ends {
             return r;
@@ -672,16 +650,8 @@ fn statements<'a>(
 
 // The listed pattern of number k, from its own first byte. It starts with no cycle before it, no table and all signals unassigned.
 fn pattern<'a>(
-    text: &'a [u8],
-    places: &'a [usize],
-    lists: &'a [u16],
-    tplaces: &'a [usize],
-    book: &'a [usize],
-    rows: &'a [u16],
-    waves: &'a [u8],
+    ground: &'a Ground<'a>,
     list: &'a [usize],
-    known: Known,
-    signals: usize,
     firsts: &'a [u32],
     lasts: &'a [u32],
     periods: &'a [u64],
@@ -693,12 +663,20 @@ fn pattern<'a>(
     shown: &mut [u8],
     marks: &mut [usize],
 ) -> Played
-    requires { SomeListed (ground_of text.now places.now lists.now tplaces.now book.now rows.now waves.now known signals) (clock firsts.now lasts.now periods.now) list.now patterns k (arrays values.old feeds.old args.old) (seen shown.old marks.old) }
-    ensures { PlaysListed (ground_of text.now places.now lists.now tplaces.now book.now rows.now waves.now known signals) (clock firsts.now lasts.now periods.now) list.now patterns k (arrays values.new feeds.new args.new) (seen shown.new marks.new) result }
+    requires { SomeListed (ground_of ground.now) (clock firsts.now lasts.now periods.now) list.now patterns k (arrays values.old feeds.old args.old) (seen shown.old marks.old) }
+    ensures { PlaysListed (ground_of ground.now) (clock firsts.now lasts.now periods.now) list.now patterns k (arrays values.new feeds.new args.new) (seen shown.new marks.new) result }
 {
-    let names = &book[measures::PATTERNS * 2..];
-    let i = words::find(text, words::name_bytes(text, list, k), names, patterns);
-    let c = words::cursor_at(text, measures::start_at(book, measures::PATTERNS + i));
+    let names = &ground.declared.book[measures::PATTERNS * 2..];
+    let i = words::find(
+        ground.declared.text,
+        words::name_bytes(ground.declared.text, list, k),
+        names,
+        patterns,
+    );
+    let c = words::cursor_at(
+        ground.declared.text,
+        measures::start_at(ground.declared.book, measures::PATTERNS + i),
+    );
     let frame = Frame {
         turns: 0,
         depth: DEPTH,
@@ -707,16 +685,8 @@ fn pattern<'a>(
     pins::leave(values, 0);
     forget(marks, 0);
     statements(
-        text,
+        ground,
         c,
-        places,
-        lists,
-        tplaces,
-        book,
-        rows,
-        waves,
-        known,
-        signals,
         firsts,
         lasts,
         periods,
@@ -732,16 +702,8 @@ fn pattern<'a>(
 
 // The listed patterns in order: is a pair of neighbouring cycles not in order, and where does the V of the first one's later cycle stand?
 pub fn first_failing_pair<'a>(
-    text: &'a [u8],
-    places: &'a [usize],
-    lists: &'a [u16],
-    tplaces: &'a [usize],
-    book: &'a [usize],
-    rows: &'a [u16],
-    waves: &'a [u8],
+    ground: &'a Ground<'a>,
     list: &'a [usize],
-    known: Known,
-    signals: usize,
     listed: usize,
     patterns: usize,
     firsts: &'a [u32],
@@ -749,8 +711,8 @@ pub fn first_failing_pair<'a>(
     periods: &'a [u64],
 ) -> Failing
     requires sized { Sized firsts.now lasts.now periods.now }
-    requires spans { (h : SomeRun text.now places.now lists.now tplaces.now waves.now book.now rows.now list.now known signals listed patterns) × Spans h.read.tables firsts.now lasts.now periods.now }
-    ensures { (p : Parts) (d : Read) (run : Body) → Runs text.now places.now lists.now tplaces.now waves.now book.now rows.now list.now known signals listed patterns p d run → Spans d.tables firsts.now lasts.now periods.now → Decides d run result }
+    requires spans { (h : SomeRunOn (ground_of ground.now) list.now listed patterns) × Spans h.read.tables firsts.now lasts.now periods.now }
+    ensures { (p : Parts) (d : Read) (run : Body) → RunsOn (ground_of ground.now) list.now listed patterns p d run → Spans d.tables firsts.now lasts.now periods.now → Decides d run result }
 {
     let mut values = [0u8; pins::VALUES];
     let mut feeds = [0usize; pins::FEEDS];
@@ -760,16 +722,8 @@ pub fn first_failing_pair<'a>(
     let mut k = 0;
     while k < listed {
         let r = pattern(
-            text,
-            places,
-            lists,
-            tplaces,
-            book,
-            rows,
-            waves,
+            ground,
             list,
-            known,
-            signals,
             firsts,
             lasts,
             periods,

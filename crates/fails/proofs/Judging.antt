@@ -3,6 +3,8 @@ use Prim.Native.Nat.{ℕ, suc, ◌+◌, ◌-◌, ◌≤◌, ◌<◌}
 use native.Mathlib.Omega.{arith}
 use mathlib.Core.Path.{◌≡◌, refl, sym, ap, ◌∙◌, subst}
 use mathlib.Core.Bool.{Bool, true, false, not, ◌&&◌, ◌||◌}
+use Rattle.std.specs.Prelude.{Option as Maybe, Some, None}
+use Rattle.words.specs.Values.{value_of}
 use mathlib.Core.Option.{Option, none, some}
 use mathlib.Core.List.{List, [], ◌∷◌, ◌++◌, append_assoc, append-nil}
 use lib.Dec.{leb, ltb, eqb}
@@ -131,12 +133,12 @@ module _ {report : List ℕ} {c a : Cursor} (ss : Signals) (cycles : ℕ) (past 
       by false = refl
 
   pub judges_out : (not b.known || (eqb p.count 0 && eqb left 0)) ≡ true
-      → JudgesRecord report c ss cycles past (record { cursor = p.cursor; outside = true; place = c.at; count = 0 })
+      → JudgesRecord report c ss cycles past (record { cursor = p.cursor; outside = Some c.at; count = 0 })
   judges_out e = record {
     it = it;
     goes = record_goes ss g os.goes;
-    refuses = λ z first. by first b.known refl (eqb p.count 0) refl (eqb left 0) refl e;
-    answers = λ z. never (sym z);
+    refuses = λ place z first. (let q : c.at ≡ place = cc in by first b.known refl (eqb p.count 0) refl (eqb left 0) refl e ∙ ap (refused not_in_pattern) q);
+    answers = λ z. (let y : ◌≡◌ {A = ℕ} 0 1 = cc in absurd (omega arith));
   }
     where
       by : (first : ℕ) (x : Bool) → b.known ≡ x → (y : Bool) → eqb p.count 0 ≡ y → (z : Bool) → eqb left 0 ≡ z → (not x || (y && z)) ≡ true
@@ -147,7 +149,7 @@ module _ {report : List ℕ} {c a : Cursor} (ss : Signals) (cycles : ℕ) (past 
       by first true q false r z t e = never e
 
   pub judges_in : (not b.known || (eqb p.count 0 && eqb left 0)) ≡ false → {n : ℕ} → (p.count ≡ 0 → n ≡ 1) × ((p.count ≡ 0 → ⊥) → n ≡ p.count)
-      → JudgesRecord report c ss cycles past (record { cursor = p.cursor; outside = p.outside; place = p.place; count = n })
+      → JudgesRecord report c ss cycles past (record { cursor = p.cursor; outside = p.outside; count = n })
   unfolding first_outside
   judges_in e {n} m = by (eqb p.count 0) refl (eqb left 0) refl (neither (not b.known) (eqb p.count 0 && eqb left 0) e).1
     where
@@ -155,31 +157,31 @@ module _ {report : List ℕ} {c a : Cursor} (ss : Signals) (cycles : ℕ) (past 
       on = not-false b.known (neither (not b.known) (eqb p.count 0 && eqb left 0) e).0
 
       by : (y : Bool) → eqb p.count 0 ≡ y → (z : Bool) → eqb left 0 ≡ z → (y && z) ≡ false
-          → JudgesRecord report c ss cycles past (record { cursor = p.cursor; outside = p.outside; place = p.place; count = n })
+          → JudgesRecord report c ss cycles past (record { cursor = p.cursor; outside = p.outside; count = n })
       by true q true t f = never (sym f)
       by true q false t f =
           let z = eqb-true p.count 0 q in
-          let none_out : told p.outside p.place ≡ none = os.first ∙ ap (first_outside left) (none_listed z) in
+          let none_out : value_of p.outside ≡ none = os.first ∙ ap (first_outside left) (none_listed z) in
           let more : leb left 0 ≡ false = lt-leb left 0 (omega (arith, eqb-false left 0 t)) in
           record {
             it = it;
             goes = record_goes ss g os.goes;
-            refuses = λ w. (let no : told true p.place ≡ none = ap (λ (x : Bool). told x p.place) (sym w) ∙ none_out in let y : ◌≡◌ {A = ℕ} 0 1 = cc in absurd (omega arith));
+            refuses = λ place w. (let no : some place ≡ none = ap value_of (sym w) ∙ none_out in let y : ◌≡◌ {A = ℕ} 0 1 = cc in absurd (omega arith));
             answers = λ w first. (_, alone_by on z more first, sym (m.0 z));
           }
       by false q z t f =
           let some_there : p.count ≡ 0 → ⊥ = eqb-false p.count 0 q in
-          let are : (first : ℕ) → answered_of first cycles past it ≡ answered_by (told p.outside p.place) (fails_from (first + b.cycles) s os.list) =
+          let are : (first : ℕ) → answered_of first cycles past it ≡ answered_by (value_of p.outside) (fails_from (first + b.cycles) s os.list) =
           λ first. by_offsets on first
           ∙ ap (λ (xs : List Offset). answered_by (first_outside left xs) (fails_from (first + b.cycles) s xs)) (some_listed some_there)
           ∙ ap (λ (o : Option ℕ). answered_by o (fails_from (first + b.cycles) s os.list)) (sym os.first) in
           record {
             it = it;
             goes = record_goes ss g os.goes;
-            refuses = λ w first. are first ∙ ap (λ (x : Bool). answered_by (told x p.place) (fails_from (first + b.cycles) s os.list)) w;
+            refuses = λ place w first. are first ∙ ap (λ (o : Maybe ℕ). answered_by (value_of o) (fails_from (first + b.cycles) s os.list)) w;
             answers = λ w first. (
               _,
-              are first ∙ ap (λ (x : Bool). answered_by (told x p.place) (fails_from (first + b.cycles) s os.list)) w,
+              are first ∙ ap (λ (o : Maybe ℕ). answered_by (value_of o) (fails_from (first + b.cycles) s os.list)) w,
               fails_long (first + b.cycles) s os.list ∙ sym os.many ∙ sym (m.1 some_there),
             );
           }
@@ -256,7 +258,7 @@ module _ (report : List ℕ) (ss : Signals) where
     }
 
     module _ {close : List ℕ} {c₀ c : Cursor} {x : Room} (k : Kept close c₀ c x) {b : Bool} (e : b ≡ (alive c && not (ahead_of close (stream report c)))) where
-      pub kept_more : {r : Judged} {y : Room} → b ≡ true → JudgesRecord report c ss cycles past r → r.outside ≡ false
+      pub kept_more : {r : Judged} {y : Room} → b ≡ true → JudgesRecord report c ss cycles past r → r.outside ≡ None
           → ((all used : ℕ) → Roomed all used x → Roomed all (used + r.count) y) → Kept close c₀ r.cursor y
       unfolding answering
       kept_more {r} {y} h j o t = record {
@@ -272,24 +274,25 @@ module _ (report : List ℕ) (ss : Signals) where
 
     module _ {at : ℕ} {c₀ c : Cursor} {x : Room} (st : Stands report at c₀) (k : Kept (bytes "}") c₀ c x) {b : Bool} (e : b ≡ (alive c && not (ahead_of (bytes "}") (stream report c)))) where
       -- a 24
-      pub judges_refused : {r : Judged} → b ≡ true → JudgesRecord report c ss cycles past r → r.outside ≡ true
-          → Judges report at ss cycles past room (record { outside = true; place = r.place; full = false })
+      pub judges_refused : {r : Judged} {place : ℕ} → b ≡ true → JudgesRecord report c ss cycles past r → r.outside ≡ Some place
+          → Judges report at ss cycles past room (record { outside = Some place; full = false })
       unfolding answering
-      judges_refused {r} h j o = record {
-        refuses = λ z first l us q. (
+      judges_refused {r} {place} h j o = record {
+        refuses = λ at z first l us q. (
+            let same : place ≡ at = cc in
             let u = reads_on (k.so_far ++ j.it ∷ []) st (turned _ (one_record ss) (takes_record ss) k.leads e h (j.goes k.so_far)) q in
             let m = grows (bytes "}") _ _ _ _ u.2 in
             let f = k.answered first in
-            let front : answered_all first cycles past (k.so_far ++ j.it ∷ []) ≡ refused not_in_pattern r.place =
-            answered_last first cycles past k.so_far j.it ∙ rw (f.1, j.refuses o first) in
-            ap (answered_all first cycles past) (sym m.1) ∙ answered_append first cycles past (k.so_far ++ j.it ∷ []) m.0 ∙ rw front);
-        answers = λ z. never (sym z);
+            let front : answered_all first cycles past (k.so_far ++ j.it ∷ []) ≡ refused not_in_pattern place =
+            answered_last first cycles past k.so_far j.it ∙ rw (f.1, j.refuses place o first) in
+            ap (answered_all first cycles past) (sym m.1) ∙ answered_append first cycles past (k.so_far ++ j.it ∷ []) m.0 ∙ rw front (ap (refused not_in_pattern) same));
+        answers = λ z. (let y : ◌≡◌ {A = ℕ} 0 1 = cc in absurd (omega arith));
       }
 
       -- none
-      pub judges_all : b ≡ false → Judges report at ss cycles past room (record { outside = false; place = 0; full = x.full })
+      pub judges_all : b ≡ false → Judges report at ss cycles past room (record { outside = None; full = x.full })
       judges_all h = record {
-        refuses = λ z. never z;
+        refuses = λ place z. (let y : ◌≡◌ {A = ℕ} 0 1 = cc in absurd (omega arith));
         answers = λ z first l us q. (
             let u = reads_on k.so_far st k.leads q in
             let is = ended c k.so_far e h u.1 u.2 in

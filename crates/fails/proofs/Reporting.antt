@@ -8,7 +8,7 @@ use mathlib.Core.List.{List, [], ◌∷◌, ◌++◌}
 use lib.Dec.{leb}
 use lib.ListN.{length}
 use borrow.Author.Tests.{le-leb, leb-true}
-use Rattle.std.specs.Prelude.{Result, Ok, Err}
+use Rattle.std.specs.Prelude.{Result, Ok, Err, Some, None}
 use Rattle.tokens.specs.declared.Refusal.{Refusal}
 use Rattle.tokens.specs.Tokens.{Tok}
 use Rattle.tokens.proofs.Bools.{never}
@@ -138,11 +138,11 @@ module _ {text places lists tplaces book rows : List ℕ} {known : Known} {patte
       same_answers first count _ _ (λ w. sym (x.past_is E ps d (subst (λ (n : List ℕ). Pattern text places lists tplaces book rows known patterns n E ps d) (sym name_is) p) w
       ∙ ap (λ (n : List ℕ). past E d.from d.body n w) name_is)) rs
 
-  pub answer_outside : v.outside ≡ true → Answering text places lists tplaces book rows known signals patterns report at end from first count spare c c s s l l (Err (Report (record { no = not_in_pattern; place = v.place })))
+  pub answer_outside : {place : ℕ} → v.outside ≡ Some place → Answering text places lists tplaces book rows known signals patterns report at end from first count spare c c s s l l (Err (Report (record { no = not_in_pattern; place = place })))
   unfolding spared_told telling
-  answer_outside o = record { reports = λ E ps d p rs us q fits. reports_of (rw (as_found p rs ∙ j.refuses o first rs us q)) }
+  answer_outside {place} o = record { reports = λ E ps d p rs us q fits. reports_of (rw (as_found p rs ∙ j.refuses place o first rs us q)) }
 
-  module _ (o : v.outside ≡ false) where
+  module _ (o : v.outside ≡ None) where
     pub answer_full : (v.full || not spare) ≡ true → Answering text places lists tplaces book rows known signals patterns report at end from first count spare c c s s l l (Err (Text (record { no = no_room; place = 0 })))
     unfolding spared_told telling
     answer_full e = record {

@@ -1,5 +1,5 @@
 -- The pass for 24 over a report's records: what is promised of one of them, of all, and of the room for their answers.
-use Rattle.std.specs.Prelude.{ℕ, ◌+◌, ◌≤◌, ◌<◌, ◌≡◌, Bool, true, false, List, [], ◌∷◌, ◌++◌, length}
+use Rattle.std.specs.Prelude.{ℕ, ◌+◌, ◌≤◌, ◌<◌, ◌≡◌, Bool, true, false, List, [], ◌∷◌, ◌++◌, length, Some, None}
 use Rattle.std.proofs.Math.Option.{Option}
 use Rattle.tokens.specs.Tokens.{Toks, toks}
 use Rattle.meaning.specs.Reader.{ok, until}
@@ -15,8 +15,8 @@ use Rattle.fails.specs.declared.Verdict.{Verdict}
 pub record JudgesRecord (report : List ℕ) (c : Cursor) (ss : Signals) (cycles : ℕ) (past : List ℕ → Option ℕ) (r : Judged) : Type 0 where
   pub it : Record
   pub goes : (l : List Record) → Goes report c (one_record ss l) r.cursor (l ++ it ∷ [])
-  pub refuses : r.outside ≡ true → (first : ℕ) → answered_of first cycles past it ≡ refused not_in_pattern r.place
-  pub answers : r.outside ≡ false → (first : ℕ) → (fs : List Fail) × (answered_of first cycles past it ≡ given fs) × (length fs ≡ r.count)
+  pub refuses : (place : ℕ) → r.outside ≡ Some place → (first : ℕ) → answered_of first cycles past it ≡ refused not_in_pattern place
+  pub answers : r.outside ≡ None → (first : ℕ) → (fs : List Fail) × (answered_of first cycles past it ≡ given fs) × (length fs ≡ r.count)
 
 -- of so much room so much is used, or there was not enough
 pub record Roomed (room used : ℕ) (x : Room) : Type 0 where
@@ -36,5 +36,5 @@ Records report from ss l us = until "}" (one_record ss) [] (toks report from) �
 
 -- THE PROMISE for all of them: the first 24, or all answers
 pub record Judges (report : List ℕ) (from : ℕ) (ss : Signals) (cycles : ℕ) (past : List ℕ → Option ℕ) (room : ℕ) (r : Verdict) : Type 0 where
-  pub refuses : r.outside ≡ true → (first : ℕ) (l : List Record) (us : Toks) → Records report from ss l us → answered_all first cycles past l ≡ refused not_in_pattern r.place
-  pub answers : r.outside ≡ false → (first : ℕ) (l : List Record) (us : Toks) → Records report from ss l us → Answered first cycles past l room r.full
+  pub refuses : (place : ℕ) → r.outside ≡ Some place → (first : ℕ) (l : List Record) (us : Toks) → Records report from ss l us → answered_all first cycles past l ≡ refused not_in_pattern place
+  pub answers : r.outside ≡ None → (first : ℕ) (l : List Record) (us : Toks) → Records report from ss l us → Answered first cycles past l room r.full

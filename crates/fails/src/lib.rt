@@ -23,7 +23,7 @@ ghost use Rattle.fails.specs.Written.{PutsOne, WritesOffsets, WritesRecord, Writ
 ghost use Rattle.fails.specs.Referred.{SomePattern, Blank, Refers};
 ghost use Rattle.fails.specs.Service.{rows_of, spared_told, Reports, Answering};
 
-use heads::Known;
+use heads::{Declared, Known};
 use measures::DEPTH;
 use references::Before;
 use tokens::Refusal;
@@ -41,12 +41,11 @@ struct Times {
     cycles: usize,
 }
 
-// A record: the cursor behind it; does it have a 24, and where; or else how many answers are due to it.
+// A record: the cursor behind it; the place of its 24, if it has one; or else how many answers are due to it.
 #[derive(Clone, Copy)]
 struct Judged {
     cursor: Cursor,
-    outside: bool,
-    place: usize,
+    outside: Option<usize>,
     count: usize,
 }
 
@@ -57,11 +56,10 @@ struct Room {
     full: bool,
 }
 
-// All records: is there a 24, and where is the first; or else are there more answers than have room?
+// All records: the place of the first 24, if there is one; or else are there more answers than have room?
 #[derive(Clone, Copy)]
 struct Verdict {
-    outside: bool,
-    place: usize,
+    outside: Option<usize>,
     full: bool,
 }
 
@@ -195,15 +193,13 @@ fn judge_record<'a>(
     if !b.known | ((p.count == 0) & (left == 0)) {
         return Judged {
             cursor,
-            outside: true,
-            place: at,
+            outside: Some(at),
             count: 0,
         };
     }
     Judged {
         cursor,
         outside: p.outside,
-        place: p.place,
         count: or_one(p.count),
     }
 }
@@ -253,10 +249,9 @@ fn judge<'a>(
             report, cursor, text, places, signals, name, labels, chains, nexts, count, table,
             cycles,
         );
-        if j.outside {
+        if let Some(place) = j.outside {
             return Verdict {
-                outside: true,
-                place: j.place,
+                outside: Some(place),
                 full: false,
             };
         }
@@ -264,8 +259,7 @@ fn judge<'a>(
         cursor = j.cursor;
     }
     Verdict {
-        outside: false,
-        place: 0,
+        outside: None,
         full: x.full,
     }
 }
@@ -436,9 +430,17 @@ fn refer<'a>(
     let count = labels::gather(text, start, b"", labels, chains, nexts).unwrap_or(0);
     let c = words::cursor_at(text, start);
     let mut args = [0usize; measures::ROW];
+    let declared = Declared {
+        text,
+        places,
+        lists,
+        tplaces,
+        book,
+        rows,
+        known,
+    };
     references::fill(
-        text, c, places, lists, tplaces, book, rows, known, labels, chains, nexts, count, DEPTH, 0,
-        &mut args, table,
+        &declared, c, labels, chains, nexts, count, DEPTH, 0, &mut args, table,
     );
     count
 }
@@ -506,10 +508,10 @@ fn answer<'a>(
         count,
         room,
     );
-    if v.outside {
+    if let Some(place) = v.outside {
         return Err(Unanswered::Report(Refusal {
             no: NOT_IN_PATTERN,
-            place: v.place,
+            place,
         }));
     }
     if v.full | !spare {
@@ -563,40 +565,39 @@ fn answer_found<'a>(
     verdicts::failing(
         text, places, lists, tplaces, waves, book, rows, list, used, v,
     )?;
-    match reports::reported(report, text, places, parts.signals) {
-        reports::Finding::Refused(no, place) => Err(Unanswered::Report(Refusal { no, place })),
-        reports::Finding::Sound(at, end, from) => {
-            let name = words::bytes_of(report, at, end);
-            let t = times_listed(text, book, list, parts.listed, parts.patterns, name);
-            if t.times != 1 {
-                return Err(Unanswered::Report(Refusal {
-                    no: NOT_IN_PATTERN,
-                    place: at,
-                }));
-            }
-            answer(
-                text,
-                places,
-                lists,
-                tplaces,
-                book,
-                rows,
-                parts.known,
-                parts.signals,
-                parts.patterns,
-                report,
-                at,
-                end,
-                from,
-                t.first,
-                t.cycles,
-                spare,
-                cycles,
-                signals,
-                letters,
-            )
-        }
+    let sound = match reports::reported(report, text, places, parts.signals) {
+        Ok(sound) => sound,
+        Err(refusal) => return Err(Unanswered::Report(refusal)),
+    };
+    let name = words::bytes_of(report, sound.at, sound.end);
+    let t = times_listed(text, book, list, parts.listed, parts.patterns, name);
+    if t.times != 1 {
+        return Err(Unanswered::Report(Refusal {
+            no: NOT_IN_PATTERN,
+            place: sound.at,
+        }));
     }
+    answer(
+        text,
+        places,
+        lists,
+        tplaces,
+        book,
+        rows,
+        parts.known,
+        parts.signals,
+        parts.patterns,
+        report,
+        sound.at,
+        sound.end,
+        sound.records,
+        t.first,
+        t.cycles,
+        spare,
+        cycles,
+        signals,
+        letters,
+    )
 }
 
 // There is room for what else is handed out (`spare`), or that is 19 too.

@@ -46,21 +46,14 @@ pub fn start(place: usize) -> Feed
     }
 }
 
-// a less b, or 0.
-fn less(a: usize, b: usize) -> usize
-    ensures { result ≡ a - b }
-{
-    if a <= b { 0 } else { a - b }
-}
-
 // ---- within a word
 
 // How many characters the word still says, at most so many.
 pub fn said(feed: Feed, most: usize) -> usize
     ensures { result ≡ min most (feed.end - feed.at + feed.left * (feed.end - feed.from)) }
 {
-    let this = less(feed.end, feed.at);
-    let width = less(feed.end, feed.from);
+    let this = feed.end.saturating_sub(feed.at);
+    let width = feed.end.saturating_sub(feed.from);
     let times = feed.left;
     if most <= this {
         return most;
@@ -87,12 +80,7 @@ fn behind_one(feed: Feed) -> Feed
     }
     let second = at + 1;
     if second < end {
-        return Feed {
-            at: second,
-            end,
-            left,
-            from,
-        };
+        return Feed { at: second, ..feed };
     }
     if left == 0 {
         return Feed {
@@ -104,9 +92,8 @@ fn behind_one(feed: Feed) -> Feed
     }
     Feed {
         at: from,
-        end,
         left: left - 1,
-        from,
+        ..feed
     }
 }
 
@@ -139,9 +126,8 @@ fn pass_times(feed: Feed, n: usize) -> Passed
     }
     let here = Feed {
         at: from + n % width,
-        end,
         left: left - 1 - times,
-        from,
+        ..feed
     };
     Passed { feed: here, n: 0 }
 }
@@ -157,12 +143,7 @@ fn pass(feed: Feed, n: usize) -> Passed
     }
     let this = end - at;
     if n < this {
-        let here = Feed {
-            at: at + n,
-            end,
-            left: feed.left,
-            from: feed.from,
-        };
+        let here = Feed { at: at + n, ..feed };
         return Passed { feed: here, n: 0 };
     }
     pass_times(feed, n - this)
@@ -241,8 +222,7 @@ fn marked(text: &[u8], at: usize, end: usize, marks: &[u8]) -> usize
     requires { (at ≤ end) × (end ≤ length text.now) }
     ensures { result ≡ at + front marks.now (span text.now at end) }
 {
-    let mut i = at;
-    while i < end {
+    for i in at..end {
         let b = text[i] as usize;
         if marks.len() <= b {
             return i;
@@ -250,9 +230,8 @@ fn marked(text: &[u8], at: usize, end: usize, marks: &[u8]) -> usize
         if marks[b] != 1 {
             return i;
         }
-        i += 1;
     }
-    i
+    end
 }
 
 // How many characters of a word that is said so many times are marked before the first that is not, at most so many.
@@ -273,7 +252,7 @@ fn fine_times(
     let width = end - from;
     let n = marked(text, from, end, marks) - from;
     if n < width {
-        return sets::least(most, n);
+        return most.min(n);
     }
     if most / width < times {
         return most;
@@ -296,7 +275,7 @@ pub fn fine(text: &[u8], feed: Feed, marks: &[u8], most: usize) -> usize
     }
     let n = marked(text, at, end, marks) - at;
     if n < end - at {
-        return sets::least(most, n);
+        return most.min(n);
     }
     if most <= n {
         return most;

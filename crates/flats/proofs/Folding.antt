@@ -19,7 +19,7 @@ use Rattle.meaning.specs.Services.{Counts, counts, names_of}
 use Rattle.timing.specs.declared.Watch.{Watch}
 use Rattle.texts.specs.Tables.{Found}
 use Rattle.texts.specs.declared.Verdict.{Verdict}
-use Rattle.plays.specs.Plays.{ground_of}
+use Rattle.plays.specs.Plays.{grounded}
 use Rattle.pages.specs.Pages.{Puts as Put}
 use Rattle.verdicts.specs.Found.{meant_by}
 use Rattle.verdicts.proofs.Found.{runs, names_are, counts_met}
@@ -53,7 +53,7 @@ module _ {w : Watch} {text places lists tplaces waves book rows list : List ℕ}
   flat_many l = by_cycles (lt-leb (cycles 0 f.it.run) folded_most (omega (arith, cycles_are)))
 
   module _ (l : v.total.cycles ≤ folded_most) where
-    pub is_meant : Meant (ground_of text places lists tplaces book rows waves v.parts.known v.parts.signals) list v.parts.listed v.parts.patterns v.total.size (meant_by f.it)
+    pub is_meant : Meant (grounded text places lists tplaces book rows waves v.parts.known v.parts.signals) list v.parts.listed v.parts.patterns v.total.size (meant_by f.it)
     unfolding counts names_of
     is_meant = record {
       parts = v.parts;
@@ -67,7 +67,7 @@ module _ {w : Watch} {text places lists tplaces waves book rows list : List ℕ}
     }
 
     pub flat_put : {page : List ℕ} {r : Result ℕ Refusal}
-        → Puts (ground_of text places lists tplaces book rows waves v.parts.known v.parts.signals) list v.parts.listed v.parts.patterns v.total.size page r → Flattens text page r
+        → Puts (grounded text places lists tplaces book rows waves v.parts.known v.parts.signals) list v.parts.listed v.parts.patterns v.total.size page r → Flattens text page r
     flat_put {page} {r} s = by r (s.stands _ is_meant)
       where
         few : flat_of text ≡ flat_in text (meant_by f.it)

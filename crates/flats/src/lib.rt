@@ -13,9 +13,10 @@ ghost use Rattle.flats.specs.Meant.{Window, Shows, Listed, Parts, Run, Patterned
 ghost use Rattle.verdicts.specs.Buffers.{spared};
 ghost use Rattle.flats.specs.Flattens.{row_most, SomeHead, Heads, Joins, Puts, Flattens, Folds};
 
-use heads::Known;
+use heads::Declared;
 use pens::Pen;
-use stretches::{Folding, TAIL};
+use plays::Ground;
+use stretches::{Folding, Names, TAIL};
 use texts::{PATTERNS, Verdict};
 use tokens::{Refusal, TEXT_MOST};
 use words::NO_ROOM;
@@ -49,16 +50,8 @@ pub struct Part {
 fn window<'a>(
     page: &mut [u8],
     f: Folding,
-    text: &'a [u8],
-    places: &'a [usize],
-    lists: &'a [u16],
-    tplaces: &'a [usize],
-    book: &'a [usize],
-    rows: &'a [u16],
-    waves: &'a [u8],
+    ground: &'a Ground<'a>,
     list: &'a [usize],
-    known: Known,
-    signals: usize,
     listed: usize,
     patterns: usize,
     size: usize,
@@ -67,25 +60,20 @@ fn window<'a>(
     hand: &mut [u8],
     buffer: &mut [u8],
 ) -> Folding
-    requires { Window (ground_of text.now places.now lists.now tplaces.now book.now rows.now waves.now known signals) list.now listed patterns size first due f hand.old buffer.old }
-    ensures { Shows (ground_of text.now places.now lists.now tplaces.now book.now rows.now waves.now known signals) list.now listed patterns size first due page.old f hand.old page.new result hand.new }
+    requires { Window (ground_of ground.now) list.now listed patterns size first due f hand.old buffer.old }
+    ensures { Shows (ground_of ground.now) list.now listed patterns size first due page.old f hand.old page.new result hand.new }
 {
     windows::window(
-        text, places, lists, tplaces, book, rows, waves, list, known, signals, listed, patterns,
-        size, first, due, MARK, buffer,
+        ground, list, listed, patterns, size, first, due, MARK, buffer,
     );
-    stretches::rows(
-        page,
-        f,
-        text,
-        places,
-        tplaces,
-        known.tables,
-        signals,
-        hand,
-        buffer,
-        due,
-    )
+    let names = Names {
+        text: ground.declared.text,
+        places: ground.declared.places,
+        tplaces: ground.declared.tplaces,
+        tables: ground.declared.known.tables,
+        signals: ground.signals,
+    };
+    stretches::rows(page, f, names, hand, buffer, due)
 }
 
 // A listed pattern: `count` cycles from the cycle `first` on, window by window, in Patterns from number i on.
@@ -93,16 +81,8 @@ fn pattern<'a>(
     page: &mut [u8],
     pen: Pen,
     i: usize,
-    text: &'a [u8],
-    places: &'a [usize],
-    lists: &'a [u16],
-    tplaces: &'a [usize],
-    book: &'a [usize],
-    rows: &'a [u16],
-    waves: &'a [u8],
+    ground: &'a Ground<'a>,
     list: &'a [usize],
-    known: Known,
-    signals: usize,
     listed: usize,
     patterns: usize,
     size: usize,
@@ -111,27 +91,19 @@ fn pattern<'a>(
     hand: &mut [u8],
     buffer: &mut [u8],
 ) -> Part
-    requires { Listed (ground_of text.now places.now lists.now tplaces.now book.now rows.now waves.now known signals) list.now listed patterns size first count i hand.old buffer.old }
-    ensures { Parts (ground_of text.now places.now lists.now tplaces.now book.now rows.now waves.now known signals) list.now listed patterns size first count page.old pen i page.new result }
+    requires { Listed (ground_of ground.now) list.now listed patterns size first count i hand.old buffer.old }
+    ensures { Parts (ground_of ground.now) list.now listed patterns size first count page.old pen i page.new result }
 {
-    let most = buffer.len() / (signals + TAIL);
+    let most = buffer.len() / (ground.signals + TAIL);
     let mut f = stretches::begin(page, pen, i);
     let mut done = 0;
     while done < count {
         let due = sets::least(most, count - done);
         f = window(
             page,
+            ground,
             f,
-            text,
-            places,
-            lists,
-            tplaces,
-            book,
-            rows,
-            waves,
             list,
-            known,
-            signals,
             listed,
             patterns,
             size,
@@ -142,7 +114,14 @@ fn pattern<'a>(
         );
         done += due;
     }
-    let p = stretches::finish(page, f, text, places, tplaces, known.tables, signals, hand);
+    let names = Names {
+        text: ground.declared.text,
+        places: ground.declared.places,
+        tplaces: ground.declared.tplaces,
+        tables: ground.declared.known.tables,
+        signals: ground.signals,
+    };
+    let p = stretches::finish(page, f, names, hand);
     Part {
         pen: p,
         pattern: f.pattern + 1,
@@ -152,47 +131,37 @@ fn pattern<'a>(
 // All listed patterns.
 fn patterns_of<'a>(
     page: &mut [u8],
-    text: &'a [u8],
-    places: &'a [usize],
-    lists: &'a [u16],
-    tplaces: &'a [usize],
-    book: &'a [usize],
-    rows: &'a [u16],
-    waves: &'a [u8],
+    ground: &'a Ground<'a>,
     list: &'a [usize],
-    known: Known,
-    signals: usize,
     listed: usize,
     patterns: usize,
     size: usize,
     hand: &mut [u8],
     buffer: &mut [u8],
 ) -> Part
-    requires { Run (ground_of text.now places.now lists.now tplaces.now book.now rows.now waves.now known signals) list.now listed patterns size hand.old buffer.old }
-    ensures { Patterned (ground_of text.now places.now lists.now tplaces.now book.now rows.now waves.now known signals) list.now listed patterns size page.old page.new result }
+    requires { Run (ground_of ground.now) list.now listed patterns size hand.old buffer.old }
+    ensures { Patterned (ground_of ground.now) list.now listed patterns size page.old page.new result }
 {
     let mut part = Part {
-        pen: Pen { at: 0, full: false },
+        pen: Pen { at: Some(0) },
         pattern: 0,
     };
     let mut first = 0;
     let mut k = 0;
     while k < listed {
-        let share = index::listed_at(text, book, list, patterns, k);
+        let share = index::listed_at(
+            ground.declared.text,
+            ground.declared.book,
+            list,
+            patterns,
+            k,
+        );
         part = pattern(
             page,
+            ground,
             part.pen,
             part.pattern,
-            text,
-            places,
-            lists,
-            tplaces,
-            book,
-            rows,
-            waves,
             list,
-            known,
-            signals,
             listed,
             patterns,
             size,
@@ -210,33 +179,22 @@ fn patterns_of<'a>(
 // All Patterns; where none is listed one without statements, which is not counted.
 fn all_patterns<'a>(
     page: &mut [u8],
-    text: &'a [u8],
-    places: &'a [usize],
-    lists: &'a [u16],
-    tplaces: &'a [usize],
-    book: &'a [usize],
-    rows: &'a [u16],
-    waves: &'a [u8],
+    ground: &'a Ground<'a>,
     list: &'a [usize],
-    known: Known,
-    signals: usize,
     listed: usize,
     patterns: usize,
     size: usize,
     hand: &mut [u8],
     buffer: &mut [u8],
 ) -> Part
-    requires { Run (ground_of text.now places.now lists.now tplaces.now book.now rows.now waves.now known signals) list.now listed patterns size hand.old buffer.old }
-    ensures { Bodied (ground_of text.now places.now lists.now tplaces.now book.now rows.now waves.now known signals) list.now listed patterns size page.old page.new result }
+    requires { Run (ground_of ground.now) list.now listed patterns size hand.old buffer.old }
+    ensures { Bodied (ground_of ground.now) list.now listed patterns size page.old page.new result }
 {
     if listed == 0 {
-        let p = pens::add(page, Pen { at: 0, full: false }, b"Pattern p0{\n}\n");
+        let p = pens::add(page, Pen { at: Some(0) }, b"Pattern p0{\n}\n");
         return Part { pen: p, pattern: 0 };
     }
-    patterns_of(
-        page, text, places, lists, tplaces, book, rows, waves, list, known, signals, listed,
-        patterns, size, hand, buffer,
-    )
+    patterns_of(page, ground, list, listed, patterns, size, hand, buffer)
 }
 
 // ---- the whole text
@@ -252,7 +210,7 @@ fn head<'a>(
     requires { SomeHead text.now places.now signals }
     ensures { Heads text.now places.now signals count page.old page.new result }
 {
-    let a = pens::add(page, Pen { at: 0, full: false }, b"STIL 1.0;\n");
+    let a = pens::add(page, Pen { at: Some(0) }, b"STIL 1.0;\n");
     let b = folds::signals(page, a, text, places, signals);
     let c = timings::timing(page, b, text);
     let d = folds::burst(page, c, count);
@@ -263,20 +221,15 @@ fn head<'a>(
 fn join(page: &mut [u8], pen: Pen, other: &[u8], q: Pen) -> Result<usize, Refusal>
     ensures { Joins page.old pen other.now q page.new result }
 {
-    if q.full {
-        return Err(Refusal {
-            no: NO_ROOM,
-            place: 0,
-        });
-    }
-    let p = pens::add(page, pen, words::bytes_of(other, 0, q.at));
-    if p.full {
-        return Err(Refusal {
-            no: NO_ROOM,
-            place: 0,
-        });
-    }
-    Ok(p.at)
+    let no_room = Refusal {
+        no: NO_ROOM,
+        place: 0,
+    };
+    let Some(length) = q.at else {
+        return Err(no_room);
+    };
+    let p = pens::add(page, pen, words::bytes_of(other, 0, length));
+    p.at.ok_or(no_room)
 }
 
 // Room for a text; made here alone, so that a caller's proof sees its length and no zeros.
@@ -296,38 +249,22 @@ fn window_room() -> [u8; WINDOW]
 // An accepted text folded flat, to the front of a page: 22, 19, or its length.
 fn put<'a>(
     page: &mut [u8],
-    text: &'a [u8],
-    places: &'a [usize],
-    lists: &'a [u16],
-    tplaces: &'a [usize],
-    book: &'a [usize],
-    rows: &'a [u16],
-    waves: &'a [u8],
+    ground: &'a Ground<'a>,
     list: &'a [usize],
-    known: Known,
-    signals: usize,
     listed: usize,
     patterns: usize,
     size: usize,
 ) -> Result<usize, Refusal>
-    requires { SomeMeant (ground_of text.now places.now lists.now tplaces.now book.now rows.now waves.now known signals) list.now listed patterns size × (length page.old ≡ text_most) }
-    ensures { Puts (ground_of text.now places.now lists.now tplaces.now book.now rows.now waves.now known signals) list.now listed patterns size page.new result }
+    requires { SomeMeant (ground_of ground.now) list.now listed patterns size × (length page.old ≡ text_most) }
+    ensures { Puts (ground_of ground.now) list.now listed patterns size page.new result }
 {
     let mut body = room();
     let mut hand = [0u8; ROW];
     let mut buffer = window_room();
     let part = all_patterns(
         &mut body,
-        text,
-        places,
-        lists,
-        tplaces,
-        book,
-        rows,
-        waves,
+        ground,
         list,
-        known,
-        signals,
         listed,
         patterns,
         size,
@@ -340,7 +277,13 @@ fn put<'a>(
             place: 0,
         });
     }
-    let pen = head(page, text, places, signals, part.pattern);
+    let pen = head(
+        page,
+        ground.declared.text,
+        ground.declared.places,
+        ground.signals,
+        part.pattern,
+    );
     join(page, pen, &body, part.pen)
 }
 
@@ -372,18 +315,23 @@ fn flat_found<'a>(
             place: 0,
         });
     }
+    let ground = Ground {
+        declared: Declared {
+            text,
+            places,
+            lists,
+            tplaces,
+            book,
+            rows,
+            known: parts.known,
+        },
+        waves,
+        signals: parts.signals,
+    };
     put(
         page,
-        text,
-        places,
-        lists,
-        tplaces,
-        book,
-        rows,
-        waves,
+        &ground,
         list,
-        parts.known,
-        parts.signals,
         parts.listed,
         parts.patterns,
         total.size,

@@ -9,7 +9,7 @@ use Rattle.meaning.specs.Document.{Read}
 use Rattle.heads.specs.declared.Known.{Known}
 use Rattle.texts.specs.declared.Parts.{Parts}
 use Rattle.texts.proofs.Runs.{list_from}
-use Rattle.plays.specs.Plays.{Ground, ground_of, Summed}
+use Rattle.plays.specs.Plays.{Ground, grounded, Summed}
 use Rattle.plays.specs.Run.{Runs, SomeRun}
 use Rattle.plays.proofs.Running.{Left, next_left}
 use Rattle.plays.proofs.Summing.{summed_none}
@@ -19,7 +19,7 @@ use Rattle.grants.proofs.Listing.{cleared_plays}
 
 module _ (text places lists tplaces waves book rows list : List ℕ) (known : Known) (signals listed patterns : ℕ) where
   abbrev all : Ground
-  all = ground_of text places lists tplaces book rows waves known signals
+  all = grounded text places lists tplaces book rows waves known signals
 
   -- from the listed name of number k on, whatever text the tables hold, what was marked is summed up; its patterns are left if those before are granted
   pub record Ungranted (k : ℕ) (marks sums : List ℕ) (granted : Bool) : Type 0 where

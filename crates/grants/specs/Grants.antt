@@ -15,7 +15,7 @@ use Rattle.measures.specs.Book.{bodies, book_length, start_at}
 use Rattle.arguments.specs.Supplied.{Supplied}
 use Rattle.heads.specs.Heads.{kind_of}
 use Rattle.heads.specs.declared.Known.{Known}
-use Rattle.plays.specs.Plays.{Ground, ground_of, Holding, Summed, Single}
+use Rattle.plays.specs.Plays.{Ground, grounded, Holding, Summed, Single}
 use Rattle.sums.specs.Sums.{Sums}
 use Rattle.plays.specs.Run.{ListedAt}
 use Rattle.sums.specs.Parts.{Exact, Cleared}
@@ -243,7 +243,7 @@ pub record TableFirst (b : Body) : Type 0 where
 -- so it is in the pattern of the listed name of number k, whatever text holds it
 pub record ListedFirst (text book list : List ℕ) (patterns k : ℕ) : Type 0 where
   pub first : (places lists tplaces rows waves : List ℕ) (known : Known) (signals : ℕ) (E : Env) (ps : Decls) (d : Decl)
-      → ListedAt (ground_of text places lists tplaces book rows waves known signals) list patterns k E ps d → TableFirst d.body
+      → ListedAt (grounded text places lists tplaces book rows waves known signals) list patterns k E ps d → TableFirst d.body
 
 -- arrays of the right length, and bounds
 pub record Marking (book waves used : List ℕ) (tables patterns : ℕ) : Type 0 where

@@ -15,7 +15,7 @@ ghost use Rattle.meaning.specs.Document.{Read};
 ghost use Rattle.held.specs.Held.{All};
 ghost use Rattle.texts.specs.declared.Parts.{Parts};
 ghost use Rattle.plays.specs.Plays.{ground_of, Summed};
-ghost use Rattle.plays.specs.Run.{SomeRun, Runs};
+ghost use Rattle.plays.specs.Run.{Runs, RunsOn, SomeRunOn};
 ghost use Rattle.timing.specs.Marks.{table_size};
 ghost use Rattle.measures.specs.Uses.{Given};
 ghost use Rattle.measures.specs.Book.{book_length};
@@ -27,6 +27,7 @@ ghost use Rattle.grants.specs.Grants.{Unknown, Sized, Stood, Promised, Stepped, 
 
 use heads::Known;
 use measures::DEPTH;
+use plays::Ground;
 use words::Cursor;
 
 // Rows of sums: one for each macro and procedure, that of a listed pattern, and one for each Loop around a place.
@@ -60,32 +61,24 @@ fn vector(given: &[u8], waves: &[u8], signals: usize, r: usize, sums: &mut [u8])
 }
 
 // Shift { V { .. } }: as its V, where it plays at all.
-fn shift<'a>(
-    text: &'a [u8],
-    c: Cursor,
-    places: &'a [usize],
-    lists: &'a [u16],
-    tplaces: &'a [usize],
-    book: &'a [usize],
-    rows: &'a [u16],
-    waves: &'a [u8],
-    known: Known,
-    signals: usize,
-    r: usize,
-    sums: &mut [u8],
-) -> Tallied
-    requires { (alive c ≡ true) × ShiftStood (ground_of text.now places.now lists.now tplaces.now book.now rows.now waves.now known signals) (stream text.now c) r sums.old }
-    ensures { (more : ℕ) (marks : List ℕ) → Sized (ground_of text.now places.now lists.now tplaces.now book.now rows.now waves.now known signals) more r marks sums.old → Shifted (ground_of text.now places.now lists.now tplaces.now book.now rows.now waves.now known signals) (stream text.now c) more r marks sums.old sums.new result }
+fn shift<'a>(ground: &'a Ground<'a>, c: Cursor, r: usize, sums: &mut [u8]) -> Tallied
+    requires { (alive c ≡ true) × ShiftStood (ground_of ground.now) (stream ground.now.declared.text.now c) r sums.old }
+    ensures { (more : ℕ) (marks : List ℕ) → Sized (ground_of ground.now) more r marks sums.old → Shifted (ground_of ground.now) (stream ground.now.declared.text.now c) more r marks sums.old sums.new result }
 {
     let mut given = [0; sets::MOST];
     let mut args = [0usize; measures::ROW];
     let h = heads::head(
-        text, c, places, lists, tplaces, book, rows, known, true, DEPTH, false, &mut given,
+        &ground.declared,
+        c,
+        true,
+        DEPTH,
+        false,
+        &mut given,
         &mut args,
     );
-    vector(&given, waves, signals, r, sums);
+    vector(&given, ground.waves, ground.signals, r, sums);
     let behind = h.cursor;
-    let cursor = words::due(text, behind, b"}");
+    let cursor = words::due(ground.declared.text, behind, b"}");
     Tallied {
         cursor,
         ends: false,
@@ -111,44 +104,29 @@ fn turns(text: &[u8], waves: &[u8], signals: usize, n: usize, r: usize, row: usi
 // Loop N { .. }: its body is summed up in a row of its own, and entered.
 #[cycle(body_looped_statement_tally_used)]
 fn looped<'a>(
-    text: &'a [u8],
+    ground: &'a Ground<'a>,
     c: Cursor,
-    places: &'a [usize],
-    lists: &'a [u16],
-    tplaces: &'a [usize],
-    book: &'a [usize],
-    rows: &'a [u16],
-    waves: &'a [u8],
-    known: Known,
-    signals: usize,
     depth: usize,
     n: usize,
     r: usize,
     marks: &mut [u8],
     sums: &mut [u8],
 ) -> Tallied
-    requires { (alive c ≡ true) × LoopStood (ground_of text.now places.now lists.now tplaces.now book.now rows.now waves.now known signals) (stream text.now c) depth n r marks.old sums.old }
-    ensures { Looped (ground_of text.now places.now lists.now tplaces.now book.now rows.now waves.now known signals) (stream text.now c) depth n r marks.old marks.new sums.old sums.new result }
+    requires { (alive c ≡ true) × LoopStood (ground_of ground.now) (stream ground.now.declared.text.now c) depth n r marks.old sums.old }
+    ensures { Looped (ground_of ground.now) (stream ground.now.declared.text.now c) depth n r marks.old marks.new sums.old sums.new result }
 {
     let row = LOOPS + DEPTH - depth;
     tallies::clear(sums, row);
-    let x = tally(
-        text,
-        c,
-        places,
-        lists,
-        tplaces,
-        book,
-        rows,
-        waves,
-        known,
-        signals,
-        depth - 1,
+    let x = tally(ground, c, depth - 1, row, marks, sums);
+    turns(
+        ground.declared.text,
+        ground.waves,
+        ground.signals,
+        n,
+        r,
         row,
-        marks,
         sums,
     );
-    turns(text, waves, signals, n, r, row, sums);
     let cursor = x.cursor;
     Tallied {
         cursor,
@@ -160,33 +138,20 @@ fn looped<'a>(
 
 // The body of number i is summed up in its row, unless that was begun before.
 #[cycle(body_looped_statement_tally_used)]
-fn body<'a>(
-    text: &'a [u8],
-    places: &'a [usize],
-    lists: &'a [u16],
-    tplaces: &'a [usize],
-    book: &'a [usize],
-    rows: &'a [u16],
-    waves: &'a [u8],
-    known: Known,
-    signals: usize,
-    depth: usize,
-    i: usize,
-    marks: &mut [u8],
-    sums: &mut [u8],
-)
-    requires { BodyStood (ground_of text.now places.now lists.now tplaces.now book.now rows.now waves.now known signals) depth i marks.old sums.old }
-    ensures { Bodied (ground_of text.now places.now lists.now tplaces.now book.now rows.now waves.now known signals) depth i marks.old marks.new sums.old sums.new }
+fn body<'a>(ground: &'a Ground<'a>, depth: usize, i: usize, marks: &mut [u8], sums: &mut [u8])
+    requires { BodyStood (ground_of ground.now) depth i marks.old sums.old }
+    ensures { Bodied (ground_of ground.now) depth i marks.old marks.new sums.old sums.new }
 {
     if marks[i] != 0 {
         return;
     }
     marks[i] = BEGUN;
     tallies::clear(sums, i);
-    let c = words::cursor_at(text, measures::start_at(book, i));
-    let x = tally(
-        text, c, places, lists, tplaces, book, rows, waves, known, signals, depth, i, marks, sums,
+    let c = words::cursor_at(
+        ground.declared.text,
+        measures::start_at(ground.declared.book, i),
     );
+    let x = tally(ground, c, depth, i, marks, sums);
     if x.twice {
         return;
     }
@@ -200,15 +165,7 @@ fn body<'a>(
 // Macro or Call: the body of number i, with its Shift played t times, behind the row r.
 #[cycle(body_looped_statement_tally_used)]
 fn used<'a>(
-    text: &'a [u8],
-    places: &'a [usize],
-    lists: &'a [u16],
-    tplaces: &'a [usize],
-    book: &'a [usize],
-    rows: &'a [u16],
-    waves: &'a [u8],
-    known: Known,
-    signals: usize,
+    ground: &'a Ground<'a>,
     depth: usize,
     i: usize,
     t: usize,
@@ -218,33 +175,37 @@ fn used<'a>(
     marks: &mut [u8],
     sums: &mut [u8],
 )
-    requires { UseStood (ground_of text.now places.now lists.now tplaces.now book.now rows.now waves.now known signals) depth i t r given.now args.now marks.old sums.old }
-    ensures { Used (ground_of text.now places.now lists.now tplaces.now book.now rows.now waves.now known signals) depth i t r given.now args.now marks.old marks.new sums.old sums.new }
+    requires { UseStood (ground_of ground.now) depth i t r given.now args.now marks.old sums.old }
+    ensures { Used (ground_of ground.now) depth i t r given.now args.now marks.old marks.new sums.old sums.new }
 {
-    body(
-        text,
-        places,
-        lists,
-        tplaces,
-        book,
-        rows,
-        waves,
-        known,
-        signals,
-        depth - 1,
-        i,
-        marks,
-        sums,
-    );
+    body(ground, depth - 1, i, marks, sums);
     if !tallies::usable(marks[i], t) {
         tallies::spoil(sums, r);
         return;
     }
     if i < measures::PROCEDURES {
-        tallies::in_place(text, sums, r, i, waves, signals, given, args);
+        tallies::in_place(
+            ground.declared.text,
+            sums,
+            r,
+            i,
+            ground.waves,
+            ground.signals,
+            given,
+            args,
+        );
         return;
     }
-    tallies::called(text, sums, r, i, waves, signals, given, args);
+    tallies::called(
+        ground.declared.text,
+        sums,
+        r,
+        i,
+        ground.waves,
+        ground.signals,
+        given,
+        args,
+    );
 }
 
 // A statement without a Shift ends there.
@@ -262,28 +223,25 @@ fn behind(cursor: Cursor) -> Tallied
 // The statement at the cursor, or the `}` there, behind the row r.
 #[cycle(body_looped_statement_tally_used)]
 fn statement<'a>(
-    text: &'a [u8],
+    ground: &'a Ground<'a>,
     c: Cursor,
-    places: &'a [usize],
-    lists: &'a [u16],
-    tplaces: &'a [usize],
-    book: &'a [usize],
-    rows: &'a [u16],
-    waves: &'a [u8],
-    known: Known,
-    signals: usize,
     depth: usize,
     r: usize,
     marks: &mut [u8],
     sums: &mut [u8],
 ) -> Tallied
-    requires { (alive c ≡ true) × Stood (ground_of text.now places.now lists.now tplaces.now book.now rows.now waves.now known signals) (stream text.now c) depth r marks.old sums.old }
-    ensures { Stepped (ground_of text.now places.now lists.now tplaces.now book.now rows.now waves.now known signals) (stream text.now c) depth r marks.old marks.new sums.old sums.new result }
+    requires { (alive c ≡ true) × Stood (ground_of ground.now) (stream ground.now.declared.text.now c) depth r marks.old sums.old }
+    ensures { Stepped (ground_of ground.now) (stream ground.now.declared.text.now c) depth r marks.old marks.new sums.old sums.new result }
 {
     let mut given = [0; sets::MOST];
     let mut args = [0usize; measures::ROW];
     let h = heads::head(
-        text, c, places, lists, tplaces, book, rows, known, true, DEPTH, false, &mut given,
+        &ground.declared,
+        c,
+        true,
+        DEPTH,
+        false,
+        &mut given,
         &mut args,
     );
     let cursor = h.cursor;
@@ -296,7 +254,7 @@ fn statement<'a>(
             twice: false,
         },
         heads::What::Vector(place) => {
-            vector(&given, waves, signals, r, sums);
+            vector(&given, ground.waves, ground.signals, r, sums);
             behind(cursor)
         }
         heads::What::Assigns => {
@@ -307,18 +265,10 @@ fn statement<'a>(
             tallies::choose(sums, r, k);
             behind(cursor)
         }
-        heads::What::Loops(n) => looped(
-            text, cursor, places, lists, tplaces, book, rows, waves, known, signals, depth, n, r,
-            marks, sums,
-        ),
-        heads::What::Shifts => shift(
-            text, cursor, places, lists, tplaces, book, rows, waves, known, signals, r, sums,
-        ),
+        heads::What::Loops(n) => looped(ground, cursor, depth, n, r, marks, sums),
+        heads::What::Shifts => shift(ground, cursor, r, sums),
         heads::What::Uses(i, t) => {
-            used(
-                text, places, lists, tplaces, book, rows, waves, known, signals, depth, i, t, r,
-                &given, &args, marks, sums,
-            );
+            used(ground, depth, i, t, r, &given, &args, marks, sums);
             behind(cursor)
         }
     }
@@ -329,32 +279,21 @@ fn statement<'a>(
 // Statements from the cursor on, up to their `}`, behind the row r.
 #[cycle(body_looped_statement_tally_used)]
 fn tally<'a>(
-    text: &'a [u8],
+    ground: &'a Ground<'a>,
     c: Cursor,
-    places: &'a [usize],
-    lists: &'a [u16],
-    tplaces: &'a [usize],
-    book: &'a [usize],
-    rows: &'a [u16],
-    waves: &'a [u8],
-    known: Known,
-    signals: usize,
     depth: usize,
     r: usize,
     marks: &mut [u8],
     sums: &mut [u8],
 ) -> Tallied
-    requires { (alive c ≡ true) × Stood (ground_of text.now places.now lists.now tplaces.now book.now rows.now waves.now known signals) (stream text.now c) depth r marks.old sums.old }
-    ensures { Promised (ground_of text.now places.now lists.now tplaces.now book.now rows.now waves.now known signals) (stream text.now c) depth r marks.old marks.new sums.old sums.new result }
+    requires { (alive c ≡ true) × Stood (ground_of ground.now) (stream ground.now.declared.text.now c) depth r marks.old sums.old }
+    ensures { Promised (ground_of ground.now) (stream ground.now.declared.text.now c) depth r marks.old marks.new sums.old sums.new result }
 {
     let mut cursor = c;
     let mut shifts = false;
     let mut twice = false;
     loop {
-        let x = statement(
-            text, cursor, places, lists, tplaces, book, rows, waves, known, signals, depth, r,
-            marks, sums,
-        );
+        let x = statement(ground, cursor, depth, r, marks, sums);
         cursor = x.cursor;
         twice = twice | x.twice | (shifts & x.shifts);
         shifts = shifts | x.shifts;
@@ -373,65 +312,51 @@ fn tally<'a>(
 
 // Does the listed pattern of number k ask for nothing that isn't there where it begins?
 fn pattern<'a>(
-    text: &'a [u8],
-    places: &'a [usize],
-    lists: &'a [u16],
-    tplaces: &'a [usize],
-    book: &'a [usize],
-    rows: &'a [u16],
-    waves: &'a [u8],
+    ground: &'a Ground<'a>,
     list: &'a [usize],
-    known: Known,
-    signals: usize,
     patterns: usize,
     k: usize,
     marks: &mut [u8],
     sums: &mut [u8],
 ) -> bool
-    requires { SomePattern (ground_of text.now places.now lists.now tplaces.now book.now rows.now waves.now known signals) list.now patterns k marks.old sums.old }
-    ensures { Patterned (ground_of text.now places.now lists.now tplaces.now book.now rows.now waves.now known signals) list.now patterns k marks.old marks.new sums.old sums.new result }
+    requires { SomePattern (ground_of ground.now) list.now patterns k marks.old sums.old }
+    ensures { Patterned (ground_of ground.now) list.now patterns k marks.old marks.new sums.old sums.new result }
 {
-    let names = &book[measures::PATTERNS * 2..];
-    let i = words::find(text, words::name_bytes(text, list, k), names, patterns);
-    let c = words::cursor_at(text, measures::start_at(book, measures::PATTERNS + i));
-    tallies::clear(sums, PATTERN);
-    let x = tally(
-        text, c, places, lists, tplaces, book, rows, waves, known, signals, DEPTH, PATTERN, marks,
-        sums,
+    let names = &ground.declared.book[measures::PATTERNS * 2..];
+    let i = words::find(
+        ground.declared.text,
+        words::name_bytes(ground.declared.text, list, k),
+        names,
+        patterns,
     );
+    let c = words::cursor_at(
+        ground.declared.text,
+        measures::start_at(ground.declared.book, measures::PATTERNS + i),
+    );
+    tallies::clear(sums, PATTERN);
+    let x = tally(ground, c, DEPTH, PATTERN, marks, sums);
     if x.shifts {
         return false;
     }
-    tallies::grants(sums, PATTERN, signals)
+    tallies::grants(sums, PATTERN, ground.signals)
 }
 
 // Does no listed pattern ask for anything that isn't there where it begins? Behind it the marks and sums of every body that the run uses are known.
 pub fn granted<'a>(
-    text: &'a [u8],
-    places: &'a [usize],
-    lists: &'a [u16],
-    tplaces: &'a [usize],
-    book: &'a [usize],
-    rows: &'a [u16],
-    waves: &'a [u8],
+    ground: &'a Ground<'a>,
     list: &'a [usize],
-    known: Known,
-    signals: usize,
     listed: usize,
     patterns: usize,
     marks: &mut [u8],
     sums: &mut [u8],
 ) -> bool
-    requires { SomeRun text.now places.now lists.now tplaces.now waves.now book.now rows.now list.now known signals listed patterns × Unknown marks.old sums.old }
-    ensures { (length marks.new ≡ length marks.old) × (length sums.new ≡ length sums.old) × ((p : Parts) (d : Read) (run : Body) (h : Runs text.now places.now lists.now tplaces.now waves.now book.now rows.now list.now known signals listed patterns p d run) → Summed (ground_of text.now places.now lists.now tplaces.now book.now rows.now waves.now known signals) marks.new sums.new h.tabled.parts.env × (result ≡ true → first_failing d.tables (cycles_of (length d.signals) run) ≡ none)) }
+    requires { SomeRunOn (ground_of ground.now) list.now listed patterns × Unknown marks.old sums.old }
+    ensures { (length marks.new ≡ length marks.old) × (length sums.new ≡ length sums.old) × ((p : Parts) (d : Read) (run : Body) (h : RunsOn (ground_of ground.now) list.now listed patterns p d run) → Summed (ground_of ground.now) marks.new sums.new h.tabled.parts.env × (result ≡ true → first_failing d.tables (cycles_of (length d.signals) run) ≡ none)) }
 {
     let mut all = true;
     let mut k = 0;
     while k < listed {
-        let one = pattern(
-            text, places, lists, tplaces, book, rows, waves, list, known, signals, patterns, k,
-            marks, sums,
-        );
+        let one = pattern(ground, list, patterns, k, marks, sums);
         all = all & one;
         k += 1;
     }

@@ -8,6 +8,7 @@ use Rattle.signals.specs.Names.{names_of}
 use Rattle.assigns.specs.Given.{Ready}
 use Rattle.measures.specs.Book.{first_procedure, book_length, rows_length, Listed, Used}
 use Rattle.heads.specs.declared.Known.{Known}
+use Rattle.heads.specs.declared.Declared.{Declared}
 
 -- the tables and the counts of what they hold describe what is declared
 pub record Describes (text places lists tplaces book rows : List ℕ) (known : Known) (e : Env) : Type 0 where
@@ -28,3 +29,11 @@ pub record Describes (text places lists tplaces book rows : List ℕ) (known : K
 pub record Described (text places lists tplaces book rows : List ℕ) (known : Known) : Type 0 where
   pub env : Env
   pub describes : Describes text places lists tplaces book rows known env
+
+-- what the code has as declared describes this
+abbrev pub Describing : Declared → Env → Type 0
+Describing d e = Describes d.text.now d.places.now d.lists.now d.tplaces.now d.book.now d.rows.now d.known e
+
+-- it describes something
+abbrev pub DescribingSome : Declared → Type 0
+DescribingSome d = Described d.text.now d.places.now d.lists.now d.tplaces.now d.book.now d.rows.now d.known

@@ -13,7 +13,7 @@ ghost use Rattle.signals.specs.Names.{names_of};
 ghost use Rattle.timing.specs.Makes.{Makes};
 ghost use Rattle.assigns.specs.Given.{Gave, Ready};
 ghost use Rattle.measures.specs.Book.{book_length, rows_length};
-ghost use Rattle.heads.specs.Known.{Describes, Described};
+ghost use Rattle.heads.specs.Known.{Describing, DescribingSome};
 ghost use Rattle.heads.specs.Heads.{Tells, Plainly, OfKind, SomeKind, part_of, last_heads, others};
 
 use data::BAD_ARGUMENT;
@@ -33,6 +33,18 @@ pub struct Known {
     pub macros: usize,
     pub procs: usize,
     pub pattern: bool,
+}
+
+// What is declared before a statement, as the tables of a text have it: names and their signals, the names of tables, the bodies and what those use.
+#[derive(Clone, Copy)]
+pub struct Declared<'a> {
+    pub text: &'a [u8],
+    pub places: &'a [usize],
+    pub lists: &'a [u16],
+    pub tplaces: &'a [usize],
+    pub book: &'a [usize],
+    pub rows: &'a [u16],
+    pub known: Known,
 }
 
 // Where the bodies of one kind stand in the book: the number of the first, and how many there are.
@@ -170,10 +182,10 @@ fn used<'a>(
     let g = arguments::arguments(text, b, places, lists, names, row, given, args);
     let e = g.cursor;
     let f = arguments::fitted(row, given, args);
-    let cursor = words::refuse_if(e, !f.fits, BAD_ARGUMENT, g.last);
+    let cursor = words::refuse_if(e, f.is_none(), BAD_ARGUMENT, g.last);
     Headed {
         cursor,
-        what: What::Uses(i, f.turns),
+        what: What::Uses(i, f.unwrap_or(0)),
     }
 }
 
@@ -193,92 +205,98 @@ fn shift_or_end(text: &[u8], w: &[u8], at: usize, behind: Cursor, may: bool, d: 
 
 // The heads behind those of V, C, W and Loop. The token w at `at` is read, up to `behind`. `may`: may a Shift stand here?
 fn further<'a>(
-    text: &'a [u8],
+    declared: &'a Declared<'a>,
     w: &'a [u8],
     at: usize,
     behind: Cursor,
-    places: &'a [usize],
-    lists: &'a [u16],
-    book: &'a [usize],
-    rows: &'a [u16],
-    known: Known,
     may: bool,
     d: usize,
     given: &mut [u8],
     args: &mut [usize],
 ) -> Headed
-    requires { ((tplaces : List ℕ) × Described text.now places.now lists.now tplaces book.now rows.now known) × (d ≤ depth_most) × Gave [] given.old × (length args.old ≡ signals_most * 2) }
-    ensures { (tplaces : List ℕ) (e : Env) → Describes text.now places.now lists.now tplaces book.now rows.now known e → Makes text.now behind (one_of (others e may d) (record { at = at; word = w.now })) result.cursor (λ h. Tells text.now book.now rows.now given.new args.new known.tables result.what h) }
+    requires { DescribingSome declared.now × (d ≤ depth_most) × Gave [] given.old × (length args.old ≡ signals_most * 2) }
+    ensures { (e : Env) → Describing declared.now e → Makes declared.now.text.now behind (one_of (others e may d) (record { at = at; word = w.now })) result.cursor (λ h. Tells declared.now.text.now declared.now.book.now declared.now.rows.now given.new args.new declared.now.known.tables result.what h) }
 {
     let macros = words::equal(w, b"Macro");
     if macros | words::equal(w, b"Call") {
-        let names = known.names;
-        let part = part_of(known, macros);
+        let names = declared.known.names;
+        let part = part_of(declared.known, macros);
         return used(
-            text, behind, places, lists, names, book, rows, part, d, given, args,
+            declared.text,
+            behind,
+            declared.places,
+            declared.lists,
+            names,
+            declared.book,
+            declared.rows,
+            part,
+            d,
+            given,
+            args,
         );
     }
     if words::equal(w, b"X") {
-        return labelling(text, behind, known.pattern, at);
+        return labelling(declared.text, behind, declared.known.pattern, at);
     }
-    shift_or_end(text, w, at, behind, may, d)
+    shift_or_end(declared.text, w, at, behind, may, d)
 }
 
 // One statement's head. `own`: it stands directly in a macro or procedure; d: how many levels of bodies may stand in this one; `seen`: a Shift came before.
 pub fn head<'a>(
-    text: &'a [u8],
+    declared: &'a Declared<'a>,
     c: Cursor,
-    places: &'a [usize],
-    lists: &'a [u16],
-    tplaces: &'a [usize],
-    book: &'a [usize],
-    rows: &'a [u16],
-    known: Known,
     own: bool,
     d: usize,
     seen: bool,
     given: &mut [u8],
     args: &mut [usize],
 ) -> Headed
-    requires { Described text.now places.now lists.now tplaces.now book.now rows.now known × (d ≤ depth_most) × Gave [] given.old × (length args.old ≡ signals_most * 2) }
-    ensures { (length given.new ≡ signals_most) × (length args.new ≡ signals_most * 2) × ((e : Env) → Describes text.now places.now lists.now tplaces.now book.now rows.now known e → Makes text.now c (head_due e own d seen) result.cursor (λ h. Tells text.now book.now rows.now given.new args.new known.tables result.what h)) }
+    requires { DescribingSome declared.now × (d ≤ depth_most) × Gave [] given.old × (length args.old ≡ signals_most * 2) }
+    ensures { (length given.new ≡ signals_most) × (length args.new ≡ signals_most * 2) × ((e : Env) → Describing declared.now e → Makes declared.now.text.now c (head_due e own d seen) result.cursor (λ h. Tells declared.now.text.now declared.now.book.now declared.now.rows.now given.new args.new declared.now.known.tables result.what h)) }
 {
     let at = c.at;
-    let w = words::bytes_of(text, at, c.end);
-    let behind = words::step(text, c);
+    let w = words::bytes_of(declared.text, at, c.end);
+    let behind = words::step(declared.text, c);
     if words::equal(w, b"V") {
-        let cursor = assigns::assigns(text, behind, places, lists, known.names, own, given);
+        let cursor = assigns::assigns(
+            declared.text,
+            behind,
+            declared.places,
+            declared.lists,
+            declared.known.names,
+            own,
+            given,
+        );
         return Headed {
             cursor,
             what: What::Vector(at),
         };
     }
     if words::equal(w, b"C") {
-        let cursor = assigns::assigns(text, behind, places, lists, known.names, false, given);
+        let cursor = assigns::assigns(
+            declared.text,
+            behind,
+            declared.places,
+            declared.lists,
+            declared.known.names,
+            false,
+            given,
+        );
         return Headed {
             cursor,
             what: What::Assigns,
         };
     }
     if words::equal(w, b"W") {
-        return chosen(text, behind, tplaces, known.tables);
+        return chosen(
+            declared.text,
+            behind,
+            declared.tplaces,
+            declared.known.tables,
+        );
     }
     if words::equal(w, b"Loop") {
-        return looping(text, behind, d, at);
+        return looping(declared.text, behind, d, at);
     }
-    further(
-        text,
-        w,
-        at,
-        behind,
-        places,
-        lists,
-        book,
-        rows,
-        known,
-        own & !seen,
-        d,
-        given,
-        args,
-    )
+    further(declared, w, at, behind, own & !seen, d, given, args)
 }

@@ -14,10 +14,8 @@ use Rattle.tokens.specs.Tokens.{Mode, plain, block, ended, lex, fault_in}
 use Rattle.tokens.proofs.Reading.{slash_does, block_does}
 use Rattle.tokens.specs.Written.{starts, cases}
 use Rattle.intake.specs.declared.Intake.{Intake}
-use Rattle.intake.specs.declared.Progress.{Progress}
-use Rattle.intake.specs.declared.Progress.TheVariants.{Open, Refused, Closed}
 use Rattle.intake.specs.Squeezed.{pieces, of_run, joined_runs}
-use Rattle.intake.specs.Intake.{room_of, is_block, is_star, waiting, step, refusal, Taken, on, refused, behind, takes, written, after_taking, chunked, last_bytes}
+use Rattle.intake.specs.Intake.{Progress, open_at, refused_with, closed_at, room_of, is_block, is_star, waiting, step, refusal, Taken, on, refused, behind, takes, written, after_taking, chunked, last_bytes}
 use Rattle.intake.specs.Calls.{calls, all_chunks}
 use Rattle.intake.proofs.Stores.{Within, written_none, written_more, written_length, room_least}
 use Rattle.intake.proofs.Turns.{takes_on, takes_refused}
@@ -67,20 +65,20 @@ module _ (room : ℕ) where
 -- ---- calls
 
 -- behind a refusal or the close nothing changes
-pub calls_refused : (n q : ℕ) (cs : List (List ℕ)) (store : List ℕ) → calls (Refused n q) cs store ≡ (Refused n q, store)
+pub calls_refused : (n q : ℕ) (cs : List (List ℕ)) (store : List ℕ) → calls (refused_with n q) cs store ≡ (refused_with n q, store)
 unfolding calls chunked
 calls_refused n q [] store = refl
 calls_refused n q (c ∷ cs) store = calls_refused n q cs store
 
-pub calls_closed : (n : ℕ) (cs : List (List ℕ)) (store : List ℕ) → calls (Closed n) cs store ≡ (Closed n, store)
+pub calls_closed : (n : ℕ) (cs : List (List ℕ)) (store : List ℕ) → calls (closed_at n) cs store ≡ (closed_at n, store)
 unfolding calls chunked
 calls_closed n [] store = refl
 calls_closed n (c ∷ cs) store = calls_closed n cs store
 
 -- what all the bytes do, from the place `at` of the store on, is what the calls did; a refusal tells nothing of the store
 abbrev pub Called : List ℕ → ℕ → Taken → Progress × List ℕ → Type 0
-Called store at (on y a) r = r ≡ (Open y, written store at a)
-Called store at (refused n p) r = r.0 ≡ Refused n p
+Called store at (on y a) r = r ≡ (open_at y, written store at a)
+Called store at (refused n p) r = r.0 ≡ refused_with n p
 
 pub within_store : (store : List ℕ) (at n : ℕ) → Within (room_of store) at n → Within (length store) at n
 within_store store at n (inl e) = inl e
@@ -93,20 +91,20 @@ same_room store at a h = ap (min text_most) (written_length store at a (within_s
 called_behind : (store : List ℕ) (at : ℕ) (a : List ℕ) (next : ℕ) (t : Taken) (r : Progress × List ℕ) → Within (length store) at (length a)
     → next ≡ at + length a → Called (written store at a) next t r → Called store at (behind a t) r
 unfolding behind
-called_behind store at a next (on y m) r h e c = c ∙ ap (λ (l : List ℕ). (Open y, l)) (rw e (written_more store at a m h))
+called_behind store at a next (on y m) r h e c = c ∙ ap (λ (l : List ℕ). (open_at y, l)) (rw e (written_more store at a m h))
 called_behind store at a next (refused n p) r h e c = c
 
 pub calls_is : {x : Intake} {m : Mode} {p : ℕ} {held : List ℕ} {r : Option Bool} → Reads x m p held r → (cs : List (List ℕ)) (store : List ℕ)
-    → Called store x.stored (takes (room_of store) x (all_chunks cs)) (calls (Open x) cs store)
+    → Called store x.stored (takes (room_of store) x (all_chunks cs)) (calls (open_at x) cs store)
 unfolding takes calls all_chunks chunked after_taking
-calls_is {x} k [] store = ap (λ (l : List ℕ). (Open x, l)) (sym (written_none store x.stored))
+calls_is {x} k [] store = ap (λ (l : List ℕ). (open_at x, l)) (sym (written_none store x.stored))
 calls_is {x} {m} {p} {held} {r} k (c ∷ cs) store =
     rw (takes_join (room_of store) x c (all_chunks cs))
     (by (takes (room_of store) x c) (reads_through (room_of store) k c) (λ y n q h t l after. calls_is {x = y} {m = n} {p = q} {held = h} {r = t} l cs after))
   where
     by : (t : Taken) → Passes (room_of store) x m p (held ++ c) (length c) r t
         → ((y : Intake) (n : Mode) (q : ℕ) (h : List ℕ) (u : Option Bool) → Reads y n q h u → (after : List ℕ)
-        → Called after y.stored (takes (room_of after) y (all_chunks cs)) (calls (Open y) cs after))
+        → Called after y.stored (takes (room_of after) y (all_chunks cs)) (calls (open_at y) cs after))
         → Called store x.stored (then_takes t (λ y. takes (room_of store) y (all_chunks cs)))
         (calls (after_taking store x.stored t).0 cs (after_taking store x.stored t).1)
     by (on y a) g ih =

@@ -12,9 +12,11 @@ use Rattle.tokens.specs.Refusals.{text_most, open_comment}
 use Rattle.tokens.proofs.Reading.{cut}
 use Rattle.intake.specs.declared.Intake.{Intake}
 use Rattle.intake.specs.declared.Change.{Change}
-use Rattle.intake.specs.declared.Progress.{Progress}
-use Rattle.intake.specs.declared.Progress.TheVariants.{Open, Refused, Closed}
-use Rattle.intake.specs.Intake.{room_of, Step, stepped, step, lacks, refusal_of, refusal, Taken, on, refused, behind, takes, written, after_taking, chunked, no_store, is_slash, is_block, is_star, last_bytes, closing, after_closing, closed}
+use Rattle.std.specs.Prelude.{Result, Ok, Err}
+use Rattle.tokens.specs.declared.Refusal.{Refusal}
+use Rattle.intake.specs.declared.Stage.{Stage}
+use Rattle.intake.specs.declared.Stage.TheVariants.{Open, Closed}
+use Rattle.intake.specs.Intake.{Progress, open_at, refused_with, closed_at, ended, room_of, Step, stepped, step, lacks, refusal_of, refusal, Taken, on, refused, behind, takes, written, after_taking, chunked, no_store, is_slash, is_block, is_star, last_bytes, closing, after_closing, closed}
 use Rattle.intake.specs.Answers.{adds_of, step_by, moved_by, last_of, answered, added, passes, Puts}
 use Rattle.intake.proofs.Bytes.{Free, free, last_adds}
 use Rattle.intake.proofs.Stores.{Within, written_none, written_more, puts_length, lacks_more, room_least, within_lacks}
@@ -92,19 +94,21 @@ module _ (room : ℕ) (chunk : List ℕ) (first here : Intake) (i n : ℕ) (c : 
       ∙ ap (λ (y : Intake). answered (takes room y (drop (i + 1) chunk)))
       (sym (m ∙ intake_is here (get_or chunk i 0) c e (here.stored + n) (ap (λ (z : ℕ). here.stored + z) k)))
 
-  pub looked_refused : (number : ℕ) → number ≡ refusal_of room here (get_or chunk i 0) n → (number ≡ 0 → ⊥)
-      → Refused number here.taken ≡ answered (takes room first chunk)
+  pub looked_refused : {x : Refusal} → x ≡ record { no = refusal_of room here (get_or chunk i 0) n; place = here.taken } → (x.no ≡ 0 → ⊥)
+      → Err x ≡ answered (takes room first chunk)
   unfolding answered
-  looked_refused number m z =
-      let q : number ≡ refusal room here (get_or chunk i 0) = m ∙ refusal_is here (get_or chunk i 0) c e room n k in
+  looked_refused {x} m z =
+      let q : refusal_of room here (get_or chunk i 0) n ≡ refusal room here (get_or chunk i 0) = refusal_is here (get_or chunk i 0) c e room n k in
+      let no : x.no ≡ refusal_of room here (get_or chunk i 0) n = ap (λ (y : Refusal). y.no) m in
       sym
       (known
       ∙ ap (λ (l : List ℕ). answered (takes room here l)) (cut chunk i h)
-      ∙ ap answered (takes_refused room here (get_or chunk i 0) (drop (i + 1) chunk) (λ y. z (q ∙ y)))
-      ∙ ap (λ (v : ℕ). Refused v here.taken) (sym q))
+      ∙ ap answered (takes_refused room here (get_or chunk i 0) (drop (i + 1) chunk) (λ y. z (no ∙ q ∙ y)))
+      ∙ ap (λ (v : ℕ). Err (record { no = v; place = here.taken })) (sym q)
+      ∙ ap Err (sym m))
 
 pub looked_all : (room : ℕ) (chunk : List ℕ) (first here : Intake) (i : ℕ) → Looking room chunk first here i → length chunk ≤ i
-    → Open here ≡ answered (takes room first chunk)
+    → Ok here ≡ answered (takes room first chunk)
 unfolding takes answered
 looked_all room chunk first here i known h = sym (known ∙ ap (λ (l : List ℕ). answered (takes room here l)) (drop_of_length-le chunk h))
 
@@ -179,63 +183,54 @@ abbrev pub Takes : Progress → List ℕ → List ℕ → Progress → List ℕ 
 Takes p chunk store r after = (r ≡ (chunked p chunk store).0) × (after ≡ (chunked p chunk store).1)
 
 module _ (store : List ℕ) (at : ℕ) where
-  passed : (t : Taken) {x : Intake} → Open x ≡ answered t → passes t ≡ true
+  passed : (t : Taken) {x : Intake} → Ok x ≡ answered t → passes t ≡ true
   unfolding answered passes
   passed (on y a) h = refl
   passed (refused n p) h = cc
 
-  opened : (t : Taken) {x : Intake} {after : List ℕ} → Open x ≡ answered t → after ≡ written store at (added t)
-      → (Open x ≡ (after_taking store at t).0) × (after ≡ (after_taking store at t).1)
+  opened : (t : Taken) {x : Intake} {after : List ℕ} → Ok x ≡ answered t → after ≡ written store at (added t)
+      → (open_at x ≡ (after_taking store at t).0) × (after ≡ (after_taking store at t).1)
   unfolding answered added after_taking
-  opened (on y a) h k = (h, k)
+  opened (on y a) h k = (cc, k)
   opened (refused n p) h k = (cc, cc)
 
-  halted : (t : Taken) {n q : ℕ} → Refused n q ≡ answered t → (Refused n q ≡ (after_taking store at t).0) × (store ≡ (after_taking store at t).1)
+  halted : (t : Taken) {x : Refusal} → Err x ≡ answered t → (Err x ≡ (after_taking store at t).0) × (store ≡ (after_taking store at t).1)
   unfolding answered after_taking
   halted (on y a) h = (cc, cc)
-  halted (refused n p) h = (h, refl)
-
-  never : (t : Taken) {n : ℕ} → Closed n ≡ answered t → (Closed n ≡ (after_taking store at t).0) × (store ≡ (after_taking store at t).1)
-  unfolding answered after_taking
-  never (on y a) h = (cc, cc)
-  never (refused n p) h = (cc, cc)
+  halted (refused n p) h = (cc, refl)
 
 module _ (x : Intake) (chunk store : List ℕ) where
   -- what a look with the store's room answered
-  abbrev pub Looked : Progress → Type 0
+  abbrev pub Looked : Result Intake Refusal → Type 0
   Looked r = r ≡ answered (takes (room_of store) x chunk)
 
-  pub look_said : {room : ℕ} {r y : Progress} → room ≡ min text_most (length store) → r ≡ y → r ≡ answered (takes room x chunk) → Looked y
+  pub look_said : {room : ℕ} {r : Result Intake Refusal} → room ≡ min text_most (length store) → r ≡ answered (takes room x chunk) → Looked r
   unfolding room_of
-  look_said e k h = sym k ∙ h ∙ rw e
+  look_said e h = h ∙ rw e
 
-  pub look_passes : {y : Intake} → Looked (Open y) → passes (takes (room_of store) x chunk) ≡ true
+  pub look_passes : {y : Intake} → Looked (Ok y) → passes (takes (room_of store) x chunk) ≡ true
   look_passes e = passed store x.stored (takes (room_of store) x chunk) e
 
-  pub taken_on : {y : Intake} {after : List ℕ} → Looked (Open y) → after ≡ written store x.stored (added (takes (room_of store) x chunk))
-      → Takes (Open x) chunk store (Open y) after
+  pub taken_on : {y : Intake} {after : List ℕ} → Looked (Ok y) → after ≡ written store x.stored (added (takes (room_of store) x chunk))
+      → Takes (open_at x) chunk store (open_at y) after
   unfolding chunked
   taken_on e k = opened store x.stored (takes (room_of store) x chunk) e k
 
-  pub taken_refused : {n q : ℕ} → Looked (Refused n q) → Takes (Open x) chunk store (Refused n q) store
+  pub taken_refused : {r : Refusal} → Looked (Err r) → Takes (open_at x) chunk store (Err r) store
   unfolding chunked
   taken_refused e = halted store x.stored (takes (room_of store) x chunk) e
 
-  pub never_closed : {n : ℕ} → Looked (Closed n) → Takes (Open x) chunk store (Closed n) store
-  unfolding chunked
-  never_closed e = never store x.stored (takes (room_of store) x chunk) e
-
 module _ {p : Progress} (chunk store : List ℕ) where
-  pub take_open : {x : Intake} {r : Progress} {after : List ℕ} → p ≡ Open x → Takes (Open x) chunk store r after → Takes p chunk store r after
-  take_open e t = rw e t
+  pub take_open : {s : Stage} {x : Intake} {r : Progress} {after : List ℕ} → p ≡ Ok s → s ≡ Open x → Takes (open_at x) chunk store r after → Takes p chunk store r after
+  take_open e k t = rw (e, k) t
 
-  pub take_refused : {n q : ℕ} → p ≡ Refused n q → Takes p chunk store (Refused n q) store
+  pub take_refused : {x : Refusal} {r : Progress} → p ≡ Err x → r ≡ Err x → Takes p chunk store r store
   unfolding chunked
-  take_refused e = rw e (refl, refl)
+  take_refused e k = rw (e, k) (refl, refl)
 
-  pub take_closed : {n : ℕ} → p ≡ Closed n → Takes p chunk store (Closed n) store
+  pub take_closed : {s : Stage} {n : ℕ} → p ≡ Ok s → s ≡ Closed n → Takes p chunk store p store
   unfolding chunked
-  take_closed e = rw e (refl, refl)
+  take_closed e k = rw (e, k) (refl, refl)
 
 -- ---- the close
 
@@ -250,45 +245,45 @@ abbrev pub Closes : Progress → List ℕ → Progress → List ℕ → Type 0
 Closes p store r after = (r ≡ (closed p store).0) × (after ≡ (closed p store).1)
 
 module _ (store : List ℕ) (x : Intake) where
-  pub closed_in_comment : (eqb x.mode is_block || eqb x.mode is_star) ≡ true → closed (Open x) store ≡ (Refused open_comment x.opening, store)
+  pub closed_in_comment : (eqb x.mode is_block || eqb x.mode is_star) ≡ true → closed (open_at x) store ≡ (refused_with open_comment x.opening, store)
   unfolding closed closing after_closing cases
   closed_in_comment e = rw e
 
   module _ (e : (eqb x.mode is_block || eqb x.mode is_star) ≡ false) where
-    pub closed_no_room : lacks (room_of store) x.stored (length (last_bytes x)) ≡ true → closed (Open x) store ≡ (Refused no_store x.taken, store)
+    pub closed_no_room : lacks (room_of store) x.stored (length (last_bytes x)) ≡ true → closed (open_at x) store ≡ (refused_with no_store x.taken, store)
     unfolding closed closing after_closing cases
     closed_no_room h = rw (e, h)
 
     pub closed_closes : lacks (room_of store) x.stored (length (last_bytes x)) ≡ false
-        → closed (Open x) store ≡ (Closed (x.stored + length (last_bytes x)), written store x.stored (last_bytes x))
+        → closed (open_at x) store ≡ (closed_at (x.stored + length (last_bytes x)), written store x.stored (last_bytes x))
     unfolding closed closing after_closing cases
     closed_closes h = rw (e, h)
 
 module _ (store : List ℕ) (x : Intake) where
-  pub close_in_comment : (eqb x.mode is_block || eqb x.mode is_star) ≡ true → Closes (Open x) store (Refused open_comment x.opening) store
+  pub close_in_comment : (eqb x.mode is_block || eqb x.mode is_star) ≡ true → Closes (open_at x) store (refused_with open_comment x.opening) store
   close_in_comment e = rw (closed_in_comment store x e) (refl, refl)
 
   module _ (e : (eqb x.mode is_block || eqb x.mode is_star) ≡ false) {c : Change} (k : c ≡ last_of (eqb x.mode is_slash)) where
-    pub close_no_room : lacks (room_of store) x.stored (length (adds_of x.run 0 c)) ≡ true → Closes (Open x) store (Refused no_store x.taken) store
+    pub close_no_room : lacks (room_of store) x.stored (length (adds_of x.run 0 c)) ≡ true → Closes (open_at x) store (refused_with no_store x.taken) store
     close_no_room h = rw (closed_no_room store x e (rw (last_adds x k) at h)) (refl, refl)
 
     module _ (h : lacks (room_of store) x.stored (length (adds_of x.run 0 c)) ≡ false) where
       pub close_room : lacks (length store) x.stored (length (adds_of x.run 0 c)) ≡ false
       close_room = within_lacks (length store) x.stored _ (lacks_more (room_of store) (length store) x.stored _ (room_least store) h)
 
-      pub close_closes : {end : ℕ} {after : List ℕ} → Puts store x.stored (adds_of x.run 0 c) end after → Closes (Open x) store (Closed end) after
+      pub close_closes : {end : ℕ} {after : List ℕ} → Puts store x.stored (adds_of x.run 0 c) end after → Closes (open_at x) store (closed_at end) after
       close_closes {end} {after} p =
           let r : Puts store x.stored (last_bytes x) end after = rw (last_adds x k) at p in
-          rw (closed_closes store x e (rw (last_adds x k) at h)) (ap Closed r.behind, r.store)
+          rw (closed_closes store x e (rw (last_adds x k) at h)) (ap closed_at r.behind, r.store)
 
 module _ {p : Progress} (store : List ℕ) where
-  pub close_open : {x : Intake} {r : Progress} {after : List ℕ} → p ≡ Open x → Closes (Open x) store r after → Closes p store r after
-  close_open e t = rw e t
+  pub close_open : {s : Stage} {x : Intake} {r : Progress} {after : List ℕ} → p ≡ Ok s → s ≡ Open x → Closes (open_at x) store r after → Closes p store r after
+  close_open e k t = rw (e, k) t
 
-  pub close_refused : {n q : ℕ} → p ≡ Refused n q → Closes p store (Refused n q) store
+  pub close_refused : {x : Refusal} {r : Result ℕ Refusal} → p ≡ Err x → r ≡ Err x → Closes p store (ended r) store
   unfolding closed
-  close_refused e = rw e (refl, refl)
+  close_refused e k = rw (e, k) (refl, refl)
 
-  pub close_closed : {n : ℕ} → p ≡ Closed n → Closes p store (Closed n) store
+  pub close_closed : {s : Stage} {n : ℕ} → p ≡ Ok s → s ≡ Closed n → Closes p store (closed_at n) store
   unfolding closed
-  close_closed e = rw e (refl, refl)
+  close_closed e k = rw (e, k) (refl, refl)

@@ -1,9 +1,8 @@
 -- The code's values as the definitions': what a change of the code stands for, and what a look through a chunk answers.
-use Rattle.std.specs.Prelude.{ℕ, ◌+◌, ◌≡◌, Bool, true, false, not, ◌&&◌, List, [], ◌∷◌, ◌++◌, length, eqb}
+use Rattle.std.specs.Prelude.{ℕ, ◌+◌, ◌≡◌, Bool, true, false, not, ◌&&◌, List, [], ◌∷◌, ◌++◌, length, eqb, Result, Ok, Err}
 use Rattle.intake.specs.declared.Intake.{Intake}
 use Rattle.intake.specs.declared.Change.{Change}
-use Rattle.intake.specs.declared.Progress.{Progress}
-use Rattle.intake.specs.declared.Progress.TheVariants.{Open, Refused}
+use Rattle.tokens.specs.declared.Refusal.{Refusal}
 use Rattle.intake.specs.Intake.{Step, stepped, Taken, on, refused, written}
 
 -- a byte that is stored, or is not
@@ -31,9 +30,9 @@ abbrev pub last_of : Bool → Change
 last_of slash = record { mark = true; slash = slash; kept = false; run = 0; mode = 0; opening = 0 }
 
 -- the answer to a chunk
-unfoldable pub answered : Taken → Progress
-answered (on x adds) = Open x
-answered (refused n p) = Refused n p
+unfoldable pub answered : Taken → Result Intake Refusal
+answered (on x adds) = Ok x
+answered (refused n p) = Err (record { no = n; place = p })
 
 -- what a chunk adds
 unfoldable pub added : Taken → List ℕ

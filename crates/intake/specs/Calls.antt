@@ -1,8 +1,7 @@
 -- Calls one after the other, each lent the store as the last one left it, and the close (request 3).
 use Rattle.std.specs.Prelude.{ℕ, List, [], ◌∷◌, ◌++◌}
 use Rattle.tokens.specs.Tokens.{Toks, stop, tok}
-use Rattle.intake.specs.declared.Progress.{Progress}
-use Rattle.intake.specs.Intake.{chunked, closed, begun}
+use Rattle.intake.specs.Intake.{Progress, chunked, closed, begun}
 
 unfoldable pub calls : Progress → List (List ℕ) → List ℕ → Progress × List ℕ
 calls p [] store = (p, store)

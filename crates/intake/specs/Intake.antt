@@ -1,11 +1,12 @@
 -- The intake (request 3), byte by byte: what each byte of the raw text adds to the store, and what is refused.
-use Rattle.std.specs.Prelude.{ℕ, suc, ◌+◌, min, Bool, true, false, not, ◌&&◌, ◌||◌, List, [], ◌∷◌, ◌++◌, length, take, drop, eqb, leb, ltb}
+use Rattle.std.specs.Prelude.{ℕ, suc, ◌+◌, min, Bool, true, false, not, ◌&&◌, ◌||◌, List, [], ◌∷◌, ◌++◌, length, take, drop, eqb, leb, ltb, Result, Ok, Err}
 use Rattle.tokens.specs.Written.{cases}
 use Rattle.tokens.specs.Bytes.{allowed, blank}
 use Rattle.tokens.specs.Refusals.{text_most, too_long, bad_byte, open_comment}
 use Rattle.intake.specs.declared.Intake.{Intake}
-use Rattle.intake.specs.declared.Progress.{Progress}
-use Rattle.intake.specs.declared.Progress.TheVariants.{Open, Refused, Closed}
+use Rattle.tokens.specs.declared.Refusal.{Refusal}
+use Rattle.intake.specs.declared.Stage.{Stage}
+use Rattle.intake.specs.declared.Stage.TheVariants.{Open, Closed}
 
 -- ---- bounds and the refusal
 
@@ -131,19 +132,37 @@ takes room x (b ∷ s) =
 
 -- ---- the calls: each is a function of what the last one answered, of the bytes and of the store
 
+-- the code's `Progress`, and what it can be
+abbrev pub Progress : Type 0
+Progress = Result Stage Refusal
+
+abbrev pub open_at : Intake → Progress
+open_at x = Ok (Open x)
+
+abbrev pub refused_with : ℕ → ℕ → Progress
+refused_with n p = Err (record { no = n; place = p })
+
+abbrev pub closed_at : ℕ → Progress
+closed_at n = Ok (Closed n)
+
+-- what the close answered
+abbrev pub ended : Result ℕ Refusal → Progress
+ended (Ok n) = closed_at n
+ended (Err r) = Err r
+
 -- the bytes xs at a place; the rest stays
 unfoldable pub written : List ℕ → ℕ → List ℕ → List ℕ
 written store at xs = take at store ++ (xs ++ drop (at + length xs) store)
 
 unfoldable pub after_taking : List ℕ → ℕ → Taken → Progress × List ℕ
-after_taking store at (on x adds) = (Open x, written store at adds)
-after_taking store at (refused n p) = (Refused n p, store)
+after_taking store at (on x adds) = (open_at x, written store at adds)
+after_taking store at (refused n p) = (refused_with n p, store)
 
 -- THE PROMISE of a chunk: where the intake is refused or closed, the same answer again, and nothing is written
 unfoldable pub chunked : Progress → List ℕ → List ℕ → Progress × List ℕ
-chunked (Open x) chunk store = after_taking store x.stored (takes (room_of store) x chunk)
-chunked (Refused n p) chunk store = (Refused n p, store)
-chunked (Closed n) chunk store = (Closed n, store)
+chunked (Ok (Open x)) chunk store = after_taking store x.stored (takes (room_of store) x chunk)
+chunked (Err r) chunk store = (Err r, store)
+chunked (Ok (Closed n)) chunk store = (closed_at n, store)
 
 -- what still waits at the close
 unfoldable pub last_bytes : Intake → List ℕ
@@ -157,15 +176,15 @@ closing room x =
     ∷ []) (on x (last_bytes x))
 
 unfoldable pub after_closing : List ℕ → ℕ → Taken → Progress × List ℕ
-after_closing store at (on x adds) = (Closed (at + length adds), written store at adds)
-after_closing store at (refused n p) = (Refused n p, store)
+after_closing store at (on x adds) = (closed_at (at + length adds), written store at adds)
+after_closing store at (refused n p) = (refused_with n p, store)
 
 -- THE PROMISE of the close
 unfoldable pub closed : Progress → List ℕ → Progress × List ℕ
-closed (Open x) store = after_closing store x.stored (closing (room_of store) x)
-closed (Refused n p) store = (Refused n p, store)
-closed (Closed n) store = (Closed n, store)
+closed (Ok (Open x)) store = after_closing store x.stored (closing (room_of store) x)
+closed (Err r) store = (Err r, store)
+closed (Ok (Closed n)) store = (closed_at n, store)
 
 -- where every intake begins
 abbrev pub begun : Progress
-begun = Open (record { taken = 0; stored = 0; run = 0; mode = is_plain; opening = 0 })
+begun = open_at (record { taken = 0; stored = 0; run = 0; mode = is_plain; opening = 0 })

@@ -1,12 +1,12 @@
 // A raw text in chunks of any length, squeezed into a lent store: each longest run of blanks and comments becomes one LF if it holds an LF, else one space.
 #![tactic(auto)]
 
-ghost use Rattle.std.specs.Prelude.{◌≡◌, true, false, ℕ, ◌<◌, min, length};
+ghost use Rattle.std.specs.Prelude.{◌≡◌, ◌≢◌, true, false, ℕ, ◌<◌, min, length, MatchResult};
 ghost use Rattle.tokens.specs.Refusals.{text_most};
-ghost use Rattle.intake.specs.Intake.{raw_most, room_of, mark_with, outside as outside_of, behind_slash, in_line, in_block, behind_star, step as step_of, lacks as lacks_of, refusal_of, takes, written, chunked, closed as closed_of, begun};
+ghost use Rattle.intake.specs.Intake.{raw_most, room_of, mark_with, outside as outside_of, behind_slash, in_line, in_block, behind_star, step as step_of, lacks as lacks_of, refusal_of, takes, written, chunked, closed as closed_of, ended, begun};
 ghost use Rattle.intake.specs.Answers.{only_if, adds_of, step_by, holds_of, last_of, moved_by, answered, added, passes, Puts};
 
-use tokens::{BAD_BYTE, OPEN_COMMENT, TOO_LONG, is_allowed, is_blank};
+use tokens::{BAD_BYTE, OPEN_COMMENT, Refusal, TOO_LONG, is_allowed, is_blank};
 
 // The most bytes of a raw text, and of a store.
 pub const RAW: usize = 1_048_576;
@@ -16,7 +16,8 @@ const STORE: usize = tokens::TEXT_MOST;
 // The refusal of a store that is too short or too long.
 const NO_STORE: u8 = 20;
 
-// Where the intake stands: outside comments, behind a `/` that might open one, in `//`, in `/*`, and there behind a `*` that might close it.
+// Where the intake stands: outside comments, behind a `/` that might open one, in `//`, in `/*`, and there behind a `*` that might close it. No enum: a caller in C
+// may hand in a state with any other byte, which an empty chunk hands back (`lutemeteor_intake`).
 const PLAIN: u8 = 0;
 
 const SLASH: u8 = 1;
@@ -37,14 +38,15 @@ pub struct Intake {
     pub opening: usize,
 }
 
-// What the last call answered. A refusal, or the stored length after the close, stays.
+// An intake that is not refused; after the close it has the stored length.
 #[derive(Clone, Copy)]
-pub enum Progress {
+pub enum Stage {
     Open(Intake),
-    // the number of the refusal, and the place in the raw text
-    Refused(u8, usize),
     Closed(usize),
 }
+
+// What the last call answered. A refusal, with its place in the raw text, stays, and so does the stored length after the close.
+pub type Progress = Result<Stage, Refusal>;
 
 // What a byte changes: whether the mark that waits, the `/` that waits and the byte itself are stored; then the mark behind it, and where the intake stands.
 #[derive(Clone, Copy)]
@@ -205,22 +207,32 @@ fn lacks(room: usize, stored: usize, n: usize) -> bool
     room - stored < n
 }
 
-// The refusal of a byte that adds n bytes, or 0.
-fn refusal(room: usize, it: Intake, b: u8, n: usize) -> u8
-    ensures { result ≡ refusal_of room it b n }
+// Is a byte that adds n bytes refused?
+fn refusal(room: usize, it: Intake, b: u8, n: usize) -> Result<(), Refusal>
+    ensures { MatchResult result (λ _. refusal_of room it b n ≡ 0) (λ r. (r ≡ record { no = refusal_of room it b n; place = it.taken }) × (r.no ≢ 0)) }
 {
     let good = is_allowed(b);
     let full = lacks(room, it.stored, n);
-    if RAW <= it.taken {
-        return TOO_LONG;
+    let place = it.taken;
+    if RAW <= place {
+        return Err(Refusal {
+            no: TOO_LONG,
+            place,
+        });
     }
     if !good {
-        return BAD_BYTE;
+        return Err(Refusal {
+            no: BAD_BYTE,
+            place,
+        });
     }
     if full {
-        return NO_STORE;
+        return Err(Refusal {
+            no: NO_STORE,
+            place,
+        });
     }
-    0
+    Ok(())
 }
 
 // Behind a byte, with so many bytes stored.
@@ -243,7 +255,7 @@ fn moved(it: Intake, c: Change, stored: usize) -> Intake
 fn room(len: usize) -> usize
     ensures { result ≡ min text_most len }
 {
-    if len < STORE { len } else { STORE }
+    len.min(STORE)
 }
 
 // A byte, if it is to be stored; the place behind it.
@@ -271,24 +283,18 @@ fn put(store: &mut [u8], at: usize, run: u8, b: u8, c: Change) -> usize
 
 // ---- a chunk
 
-// What it answers, without writing: a refused chunk writes nothing.
-fn look(room: usize, it: Intake, chunk: &[u8]) -> Progress
+// Where it leads, without writing: a refused chunk writes nothing.
+fn look(room: usize, it: Intake, chunk: &[u8]) -> Result<Intake, Refusal>
     ensures { result ≡ answered (takes room it chunk.now) }
 {
     let mut here = it;
-    let mut i = 0;
-    while i < chunk.len() {
-        let b = chunk[i];
+    for &b in chunk {
         let c = changes(here, b);
         let n = count(here.run, c);
-        let no = refusal(room, here, b, n);
-        if no != 0 {
-            return Progress::Refused(no, here.taken);
-        }
+        refusal(room, here, b, n)?;
         here = moved(here, c, here.stored + n);
-        i += 1;
     }
-    Progress::Open(here)
+    Ok(here)
 }
 
 // The bytes of a chunk that is not refused.
@@ -297,28 +303,10 @@ fn fill(it: Intake, chunk: &[u8], store: &mut [u8])
     ensures { store.new ≡ written store.old it.stored (added (takes (room_of store.old) it chunk.now)) }
 {
     let mut here = it;
-    let mut i = 0;
-    while i < chunk.len() {
-        let b = chunk[i];
+    for &b in chunk {
         let c = changes(here, b);
         let end = put(store, here.stored, here.run, b, c);
         here = moved(here, c, end);
-        i += 1;
-    }
-}
-
-// A chunk, where the intake is open.
-fn take_open(it: Intake, chunk: &[u8], store: &mut [u8]) -> Progress
-    ensures value { result ≡ (chunked (Progress.Open it) chunk.now store.old).0 }
-    ensures store_after { store.new ≡ (chunked (Progress.Open it) chunk.now store.old).1 }
-{
-    match look(room(store.len()), it, chunk) {
-        Progress::Open(x) => {
-            fill(it, chunk, store);
-            Progress::Open(x)
-        }
-        Progress::Refused(n, p) => Progress::Refused(n, p),
-        Progress::Closed(n) => Progress::Closed(n),
     }
 }
 
@@ -337,20 +325,26 @@ fn last(slash: bool) -> Change
 }
 
 // The close, where the intake is open.
-fn close_open(it: Intake, store: &mut [u8]) -> Progress
-    ensures value { result ≡ (closed_of (Progress.Open it) store.old).0 }
-    ensures store_after { store.new ≡ (closed_of (Progress.Open it) store.old).1 }
+fn close_open(it: Intake, store: &mut [u8]) -> Result<usize, Refusal>
+    ensures value { ended result ≡ (closed_of (Ok (Stage.Open it)) store.old).0 }
+    ensures store_after { store.new ≡ (closed_of (Ok (Stage.Open it)) store.old).1 }
 {
     if (it.mode == BLOCK) | (it.mode == STAR) {
-        return Progress::Refused(OPEN_COMMENT, it.opening);
+        return Err(Refusal {
+            no: OPEN_COMMENT,
+            place: it.opening,
+        });
     }
     let c = last(it.mode == SLASH);
     let n = count(it.run, c);
     if lacks(room(store.len()), it.stored, n) {
-        return Progress::Refused(NO_STORE, it.taken);
+        return Err(Refusal {
+            no: NO_STORE,
+            place: it.taken,
+        });
     }
     let end = put(store, it.stored, it.run, 0, c);
-    Progress::Closed(end)
+    Ok(end)
 }
 
 // ---- the calls
@@ -359,13 +353,13 @@ fn close_open(it: Intake, store: &mut [u8]) -> Progress
 pub fn begin() -> Progress
     ensures { result ≡ begun }
 {
-    Progress::Open(Intake {
+    Ok(Stage::Open(Intake {
         taken: 0,
         stored: 0,
         run: 0,
         mode: PLAIN,
         opening: 0,
-    })
+    }))
 }
 
 // The next chunk of the raw text.
@@ -373,21 +367,21 @@ pub fn take(p: Progress, chunk: &[u8], store: &mut [u8]) -> Progress
     ensures value { result ≡ (chunked p chunk.now store.old).0 }
     ensures store_after { store.new ≡ (chunked p chunk.now store.old).1 }
 {
-    match p {
-        Progress::Open(it) => take_open(it, chunk, store),
-        Progress::Refused(n, q) => Progress::Refused(n, q),
-        Progress::Closed(n) => Progress::Closed(n),
-    }
+    let Stage::Open(it) = p? else {
+        return p;
+    };
+    let behind = look(room(store.len()), it, chunk)?;
+    fill(it, chunk, store);
+    Ok(Stage::Open(behind))
 }
 
 // The end of the raw text.
-pub fn close(p: Progress, store: &mut [u8]) -> Progress
-    ensures value { result ≡ (closed_of p store.old).0 }
+pub fn close(p: Progress, store: &mut [u8]) -> Result<usize, Refusal>
+    ensures value { ended result ≡ (closed_of p store.old).0 }
     ensures store_after { store.new ≡ (closed_of p store.old).1 }
 {
-    match p {
-        Progress::Open(it) => close_open(it, store),
-        Progress::Refused(n, q) => Progress::Refused(n, q),
-        Progress::Closed(n) => Progress::Closed(n),
+    match p? {
+        Stage::Open(it) => close_open(it, store),
+        Stage::Closed(n) => Ok(n),
     }
 }

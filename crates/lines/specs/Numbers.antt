@@ -1,8 +1,7 @@
 -- A word of a command line as a number (docs/COMMANDS.md): decimal digits, 0 to the largest of 64 bits, leading zeros allowed.
-use Rattle.std.specs.Prelude.{ℕ, true, false, List, [], ◌∷◌, leb}
+use Rattle.std.specs.Prelude.{ℕ, true, false, List, [], ◌∷◌, leb, Option as Maybe, Some, None}
 use Rattle.std.proofs.Math.Option.{Option, none, some}
 use Rattle.pages.specs.Pages.{value}
-use Rattle.lines.specs.declared.Value.{Value}
 
 abbrev pub number_most : ℕ
 number_most = 18_446_744_073_709_551_615
@@ -18,6 +17,6 @@ number_of [] = none
 number_of (b ∷ s) = at_most (value 0 (b ∷ s))
 
 -- as the code tells it
-abbrev pub told : Option ℕ → Value
-told none = record { right = false; value = 0 }
-told (some n) = record { right = true; value = n }
+abbrev pub told : Option ℕ → Maybe ℕ
+told none = None
+told (some n) = Some n

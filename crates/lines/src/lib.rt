@@ -1,12 +1,11 @@
 // The lines of docs/COMMANDS.md, put into a page, and words as numbers.
 #![tactic(auto)]
 
-ghost use Rattle.std.specs.Prelude.{◌≡◌, ◌&&◌, ◌+◌, ◌*◌, ◌≤◌, leb, ltb, length};
-ghost use Rattle.std.proofs.Math.Option.{none};
+ghost use Rattle.std.specs.Prelude.{◌≡◌, ◌+◌, ◌≤◌, length};
 ghost use Rattle.tokens.specs.Written.{bytes};
 ghost use Rattle.lines.specs.Lines.{counted as counted_of, no_pattern, name_line, signed_of, signed_decimal, event_line, token_line, span_line, fail_line, stated_line, good_line, hurt_line, unread_line, sum_line, progress as progress_of, help_lines, fault_line, count_most, signed_most, line_most, help_most};
 ghost use Rattle.sections.specs.Listing.{Adds};
-ghost use Rattle.lines.specs.Numbers.{number_most, number_of, told};
+ghost use Rattle.lines.specs.Numbers.{number_of, told};
 
 use sections::with_number;
 
@@ -251,59 +250,9 @@ pub fn fault(page: &mut [u8], at: usize, what: &[u8], word: &[u8]) -> usize
 
 // ---- numbers
 
-// A word as a number. Where it is none (not `right`) the value is 0.
-#[derive(Clone, Copy)]
-pub struct Value {
-    pub right: bool,
-    pub value: u64,
-}
-
-fn no_number() -> Value
-    ensures { result ≡ told none }
-{
-    Value {
-        right: false,
-        value: 0,
-    }
-}
-
-fn is_digit(b: u8) -> bool
-    ensures { result ≡ leb 48 b && leb b 57 }
-{
-    (48 <= b) & (b <= 57)
-}
-
-// Is there no room for one more digit behind n?
-fn is_full(n: u64, digit: u64) -> bool
-    requires { digit ≤ 9 }
-    ensures { result ≡ ltb number_most (n * 10 + digit) }
-{
-    (u64::MAX - digit) / 10 < n
-}
-
-// Digits alone, at least one, and no number above the largest.
-pub fn number(word: &[u8]) -> Value
+// Digits alone, at least one, and no number above the largest of 64 bits.
+pub fn number(word: &[u8]) -> Option<u64>
     ensures { result ≡ told (number_of word.now) }
 {
-    if word.len() == 0 {
-        return no_number();
-    }
-    let mut n: u64 = 0;
-    let mut i = 0;
-    while i < word.len() {
-        let b = word[i];
-        if !is_digit(b) {
-            return no_number();
-        }
-        let digit = (b - 48) as u64;
-        if is_full(n, digit) {
-            return no_number();
-        }
-        n = n * 10 + digit;
-        i += 1;
-    }
-    Value {
-        right: true,
-        value: n,
-    }
+    words::number_up_to(word, u64::MAX)
 }

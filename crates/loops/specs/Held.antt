@@ -11,6 +11,7 @@ use Rattle.signals.specs.Names.{AllTidy}
 use Rattle.heads.specs.declared.Known.{Known}
 use Rattle.heads.specs.Known.{Describes}
 use Rattle.measures.specs.Measures.{Measures, joined}
+use Rattle.plays.specs.declared.Ground.{Ground}
 use Rattle.loops.specs.declared.Measured.{Measured}
 
 -- a text and the tables that the code has of it, as far as statements need them
@@ -35,6 +36,10 @@ tables text places lists tplaces book rows known signals = record {
   known = known;
   signals = signals;
 }
+
+-- as the code has them
+abbrev pub tables_of : Ground → Tables
+tables_of g = tables g.declared.text.now g.declared.places.now g.declared.lists.now g.declared.tplaces.now g.declared.book.now g.declared.rows.now g.declared.known g.signals
 
 -- from ts the tokens hold the body b, behind which us stand: in it bodies stand `more` deep at most, and no `#` or Shift is its own
 pub record Standing (g : Tables) (ts : Toks) (more : ℕ) (E : Env) (b : Body) (us : Toks) : Type 0 where

@@ -4,10 +4,10 @@
 ghost use Rattle.std.specs.Prelude.{◌≡◌, true, false, ◌*◌, length};
 ghost use Rattle.words.specs.Cursor.{alive, stream};
 ghost use Rattle.meaning.specs.Bounds.{signals_most};
-ghost use Rattle.loops.specs.Held.{tables, Stood, Promised, Stepped};
+ghost use Rattle.loops.specs.Held.{tables_of, Stood, Promised, Stepped};
 
-use heads::Known;
 use measures::{DEPTH, Measure};
+use plays::Ground;
 use words::Cursor;
 
 // The measure of what was read, and the cursor behind it; was it the `}`?
@@ -31,26 +31,12 @@ fn counted(cursor: Cursor, measure: Measure) -> Measured
 
 // The statement at the cursor, or the `}` there.
 #[cycle(measure_statement)]
-fn statement<'a>(
-    text: &'a [u8],
-    c: Cursor,
-    places: &'a [usize],
-    lists: &'a [u16],
-    tplaces: &'a [usize],
-    book: &'a [usize],
-    rows: &'a [u16],
-    known: Known,
-    signals: usize,
-    depth: usize,
-    args: &mut [usize],
-) -> Measured
-    requires { (alive c ≡ true) × (length args.old ≡ signals_most * 2) × Stood (tables text.now places.now lists.now tplaces.now book.now rows.now known signals) (stream text.now c) depth }
-    ensures { (length args.new ≡ signals_most * 2) × Stepped (tables text.now places.now lists.now tplaces.now book.now rows.now known signals) (stream text.now c) depth result }
+fn statement<'a>(ground: &'a Ground<'a>, c: Cursor, depth: usize, args: &mut [usize]) -> Measured
+    requires { (alive c ≡ true) × (length args.old ≡ signals_most * 2) × Stood (tables_of ground.now) (stream ground.now.declared.text.now c) depth }
+    ensures { (length args.new ≡ signals_most * 2) × Stepped (tables_of ground.now) (stream ground.now.declared.text.now c) depth result }
 {
     let mut given = [0; sets::MOST];
-    let h = heads::head(
-        text, c, places, lists, tplaces, book, rows, known, true, DEPTH, false, &mut given, args,
-    );
+    let h = heads::head(&ground.declared, c, true, DEPTH, false, &mut given, args);
     let cursor = h.cursor;
     let what = h.what;
     match what {
@@ -63,19 +49,7 @@ fn statement<'a>(
         heads::What::Assigns => counted(cursor, measures::setting()),
         heads::What::Chooses(k) => counted(cursor, measures::setting()),
         heads::What::Loops(n) => {
-            let r = measure(
-                text,
-                cursor,
-                places,
-                lists,
-                tplaces,
-                book,
-                rows,
-                known,
-                signals,
-                depth - 1,
-                args,
-            );
+            let r = measure(ground, cursor, depth - 1, args);
             let behind = r.cursor;
             Measured {
                 cursor: behind,
@@ -86,35 +60,21 @@ fn statement<'a>(
         heads::What::Shifts => counted(cursor, measures::shift()),
         heads::What::Uses(i, t) => counted(
             cursor,
-            measures::used(t, measures::measure_at(book, i)),
+            measures::used(t, measures::measure_at(ground.declared.book, i)),
         ),
     }
 }
 
 // Statements from the cursor on, up to their `}`.
 #[cycle(measure_statement)]
-pub fn measure<'a>(
-    text: &'a [u8],
-    c: Cursor,
-    places: &'a [usize],
-    lists: &'a [u16],
-    tplaces: &'a [usize],
-    book: &'a [usize],
-    rows: &'a [u16],
-    known: Known,
-    signals: usize,
-    depth: usize,
-    args: &mut [usize],
-) -> Measured
-    requires { (alive c ≡ true) × (length args.old ≡ signals_most * 2) × Stood (tables text.now places.now lists.now tplaces.now book.now rows.now known signals) (stream text.now c) depth }
-    ensures { (length args.new ≡ signals_most * 2) × Promised (tables text.now places.now lists.now tplaces.now book.now rows.now known signals) (stream text.now c) depth result }
+pub fn measure<'a>(ground: &'a Ground<'a>, c: Cursor, depth: usize, args: &mut [usize]) -> Measured
+    requires { (alive c ≡ true) × (length args.old ≡ signals_most * 2) × Stood (tables_of ground.now) (stream ground.now.declared.text.now c) depth }
+    ensures { (length args.new ≡ signals_most * 2) × Promised (tables_of ground.now) (stream ground.now.declared.text.now c) depth result }
 {
     let mut cursor = c;
     let mut sum = measures::nothing();
     loop {
-        let r = statement(
-            text, cursor, places, lists, tplaces, book, rows, known, signals, depth, args,
-        );
+        let r = statement(ground, cursor, depth, args);
         if r.ends {
             let behind = r.cursor;
             return Measured {

@@ -3,7 +3,6 @@ use Prim.Native.Nat.{ℕ, zero, suc, ◌+◌, ◌*◌, ◌≤◌, ◌<◌}
 use native.Mathlib.Omega.{arith}
 use native.Mathlib.Nat.{add-zero, add-suc, suc-add}
 use mathlib.Core.Path.{◌≡◌, refl, sym, ap, ◌∙◌, subst}
-use mathlib.Core.Bool.{true}
 use mathlib.Core.List.{List, [], ◌∷◌, ◌++◌}
 use lib.ListN.{length, get_or, drop}
 use lib.Seq.{get_or-drop}
@@ -13,10 +12,9 @@ use Rattle.meaning.specs.Names.{new_name, old_name}
 use Rattle.meaning.specs.Body.{done}
 use Rattle.meaning.specs.Statements.{Decl, Decls}
 use Rattle.words.specs.declared.Cursor.{Cursor}
-use Rattle.words.specs.Cursor.{ahead, alive, Goes}
+use Rattle.words.specs.Cursor.{ahead, Goes}
 use Rattle.words.specs.Table.{names_from, names, seconds}
 use Rattle.words.proofs.Names.{old_by_number, new_by_number}
-use Rattle.signals.proofs.Tables.{old_below}
 use Rattle.measures.specs.Measures.{Measures}
 use Rattle.measures.specs.Uses.{Uses}
 use Rattle.measures.specs.Book.{entries, Entry, Listed, Used, Kept, KeptRow}
@@ -35,10 +33,6 @@ seconds_at (d ∷ ds) zero z = refl
 seconds_at (d ∷ ds) (suc k) z = seconds_at ds k z
 
 module _ (P : Of) where
-  pub listed_none : (i : ℕ) → Listed P i []
-  unfolding Listed
-  listed_none i = tt
-
   pub listed_append : (i : ℕ) (ds : Decls) {x : Tok × Decl} → Listed P i ds → P (i + length ds) x → Listed P i (ds ++ x ∷ [])
   unfolding Listed
   listed_append i [] {x} l p = (subst (λ (k : ℕ). P k x) (add-zero i) p, tt)
@@ -113,17 +107,6 @@ module _ {before behind : List ℕ} {i : ℕ} {c : Cursor} {start : ℕ} {x : Me
     used_stays {j} {y} l o u =
         record { entry = entry_stays l o u.entry; uses = subst (Uses y.1.body) (sym (kr.others j o)) u.uses }
 
-    pub useds_stay : (a : ℕ) (ds : Decls) → a + length ds ≤ entries → ((j : ℕ) → a ≤ j → j < a + length ds → j ≡ i → ⊥)
-        → Listed (Used text before rows) a ds → Listed (Used text behind rows') a ds
-    useds_stay a ds h o l =
-        listed_map (Used text before rows) (Used text behind rows') a ds (λ j y p q e. used_stays (omega arith) (o j p q) e) l
-
-    pub useds_more : (a : ℕ) (ds : Decls) → i ≡ a + length ds → i < entries → (d : Decl) → d.from ≡ toks text start → Measures d.body x
-        → Uses d.body row → Listed (Used text before rows) a ds → Listed (Used text behind rows') a (ds ++ (ahead text c, d) ∷ [])
-    useds_more a ds e b d f m u l =
-        listed_append (Used text behind rows') a ds (useds_stay a ds (omega arith) (λ j p q z. omega arith) l)
-        (subst (λ (n : ℕ). Used text behind rows' n (ahead text c, d)) e (used_new d f m u))
-
 -- ---- their names
 
 cons_same : {t u : Tok} {xs ys : List Tok} → t ≡ u → xs ≡ ys → t ∷ xs ≡ u ∷ ys
@@ -163,6 +146,3 @@ module _ (text book : List ℕ) where
 
       pub new_listed : Goes text c (new_name (names text (drop (i * 2) book) (length ds))) r t → Goes text c (new_name ds) r t
       new_listed g = new_by_number text (drop (i * 2) book) (record { body = done; from = stop 0 0 }) (length ds) ds part_listed g
-
-      pub listed_below : {k : ℕ} → Goes text c (old_name (names text (drop (i * 2) book) (length ds))) r (t, k) → alive r ≡ true → k < length ds
-      listed_below g live = old_below (drop (i * 2) book) (length ds) g live

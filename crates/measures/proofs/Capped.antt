@@ -1,7 +1,7 @@
 -- Numbers up to a cap: a sum or a product is known up to the cap from its parts up to the cap.
-use Prim.Native.Nat.{ℕ, zero, suc, ◌+◌, ◌*◌, ◌/◌, ◌≤◌, ◌<◌, min}
+use Prim.Native.Nat.{ℕ, zero, suc, ◌+◌, ◌*◌, min}
 use native.Mathlib.Omega.{arith}
-use native.Mathlib.Nat.{zero-mul, suc-mul, le-div_iff_mul-le, div-lt_iff_lt-mul}
+use native.Mathlib.Nat.{zero-mul, suc-mul}
 use mathlib.Core.Path.{◌≡◌}
 
 module _ (cap : ℕ) where
@@ -19,11 +19,3 @@ module _ (cap : ℕ) where
   -- nor does capping c and s in c and t times s
   pub capped_turns : (t c s : ℕ) → min cap (min cap c + t * min cap s) ≡ min cap (c + t * s)
   capped_turns t c s = omega (arith, capped_product t s)
-
--- the quotient says which product is too large
-module _ (a b cap : ℕ) (some : 0 < b) where
-  pub above : cap / b < a → cap < a * b
-  above h = (div-lt_iff_lt-mul some).0 h
-
-  pub within : a ≤ cap / b → a * b ≤ cap
-  within h = (le-div_iff_mul-le some).0 h

@@ -1,16 +1,21 @@
 -- What is written into the book and the rows: the places of one number, and no others.
-use Prim.Native.Nat.{ℕ, ◌+◌, ◌-◌, ◌*◌, ◌<◌, min}
+use Prim.Native.Nat.{ℕ, ◌+◌, ◌*◌, ◌<◌}
 use native.Mathlib.Omega.{arith}
 use mathlib.Core.Path.{◌≡◌, refl, sym, ap, ◌∙◌}
-use mathlib.Core.List.{List, [], ◌∷◌}
-use lib.ListN.{length, get_or, set}
-use lib.Seq.{ext_get_or}
+use mathlib.Core.Bool.{Bool, true, false}
+use mathlib.Core.List.{List, [], ◌∷◌, ◌++◌}
+use lib.Dec.{ltb}
+use lib.ListN.{length, get_or, set, take, drop, length-take, length-drop}
+use lib.Seq.{drop_at, take_at, length-take-le}
+use borrow.Author.Tests.{ltb-true, ltb-false}
+use borrow.Rule.Slice.PartMut.{put_mid, post_of, same_len_mid}
+use Rattle.std.proofs.lemmas.List.{drop-take}
+use Rattle.std.proofs.lemmas.Slice.{take-put_mid_below, drop-put_mid}
 use Rattle.words.specs.declared.Cursor.{Cursor}
 use Rattle.measures.specs.Uses.{row_length, row_at}
 use Rattle.measures.specs.Book.{entries, numbers, numbers_at, book_length, bodies, rows_length, measure_at, Kept, KeptRow}
 use Rattle.measures.specs.declared.Measure.{Measure}
 use Rattle.measures.proofs.Changed.{Changed, changed_none, changed_next, not_changed}
-use Rattle.measures.proofs.Uses.{row_length_lem, row_place}
 
 -- the places of a name, and those of its numbers
 abbrev pub name_list : Cursor → List ℕ
@@ -93,21 +98,30 @@ module _ (book : List ℕ) (i : ℕ) (c : Cursor) (start : ℕ) (x : Measure) (b
 
 -- ---- a row
 
-module _ (rows rows' row : List ℕ) (i : ℕ) {end : ℕ} (last : end ≡ row_length) (sized : length rows ≡ rows_length)
-    (long : length row ≡ row_length) (below : i < bodies) (x : Changed (λ k n. get_or row k 0) (i * row_length) end rows rows') where
-  pub row_kept : KeptRow rows i row rows'
+module _ (rows row ys : List ℕ) (i k : ℕ) (wide : k ≡ row_length) (is : ys ≡ row) (sized : length rows ≡ rows_length) (long : length row ≡ row_length)
+    (below : i < bodies) where
+  abbrev written : List ℕ
+  written = put_mid (i * row_length) k rows ys
+
+  filled : length ys ≡ k
+  filled = omega (arith, ap length is)
+
+  -- a row before it, and one behind it
+  other_row : (j : ℕ) → (b : Bool) → ltb j i ≡ b → (j ≡ i → ⊥) → row_at written j ≡ row_at rows j
+  other_row j true e o =
+      sym (drop-take (j * row_length) row_length written)
+      ∙ ap (drop (j * row_length)) (take-put_mid_below (i * row_length) k rows ys (j * row_length + row_length) (omega (arith, ltb-true j i e)) (omega arith))
+      ∙ drop-take (j * row_length) row_length rows
+  other_row j false e o =
+      ap (take row_length) (drop-put_mid (i * row_length) k rows ys (j * row_length) (omega (arith, ltb-false j i e)) (omega arith) filled)
+
+  pub row_kept : KeptRow rows i row written
   row_kept =
       record {
-        long = x.long;
+        long = same_len_mid (i * row_length) k rows ys (omega (arith, filled, length-take k (drop (i * row_length) rows), length-drop (i * row_length) rows));
         here =
-            ext_get_or 0 (row_at rows' i) row (omega (arith, row_length_lem rows' i, x.long))
-            (λ k h. let l = row_length_lem rows' i in
-            let inside : k < row_length = omega arith in
-            row_place rows' i k inside ∙ x.changed k (i * row_length + k) refl (omega arith));
-        others = λ j o.
-            ext_get_or 0 (row_at rows' j) (row_at rows j)
-            (row_length_lem rows' j ∙ ap (λ (n : ℕ). min row_length (n - j * row_length)) x.long ∙ sym (row_length_lem rows j))
-            (λ k h. let l = row_length_lem rows' j in
-            let inside : k < row_length = omega arith in
-            row_place rows' j k inside ∙ not_changed x (j * row_length + k) (λ m q z. o (omega arith)) ∙ sym (row_place rows j k inside));
+            ap (take row_length)
+            (drop_at (take (i * row_length) rows) (ys ++ post_of (i * row_length) k rows) (i * row_length) (length-take-le (i * row_length) rows (omega arith)))
+            ∙ take_at ys (post_of (i * row_length) k rows) row_length (omega (arith, filled)) ∙ is;
+        others = λ j o. other_row j (ltb j i) refl o;
       }

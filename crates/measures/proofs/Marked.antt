@@ -65,12 +65,3 @@ module _ {a : Assigns} {given : List ℕ} (g : Given a given) where
 
   pub mark_given : has mark given ≡ not (empty (marked a))
   mark_given = marked_some (marked a) refl
-
-  -- where `#` is given to no signal, none is marked
-  pub none_marked : ((s : ℕ) → s < signals_most → eqb (get_or given s 0) mark ≡ false) → marked a ≡ []
-  unfolding empty
-  none_marked h = by (marked a) (sym (has_nowhere mark given (λ k i. h k (omega (arith, g.gave.long)))) ∙ mark_given)
-    where
-      by : (l : List ℕ) → false ≡ not (empty l) → l ≡ []
-      by [] e = refl
-      by (x ∷ l) e = absurd (true≢false (sym e))

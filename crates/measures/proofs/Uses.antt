@@ -1,16 +1,14 @@
 -- A body's uses of `#`, one statement more at a time.
-use Prim.Native.Nat.{ℕ, ◌+◌, ◌-◌, ◌*◌, ◌<◌, min}
+use Prim.Native.Nat.{ℕ, ◌+◌, min}
 use native.Mathlib.Omega.{arith}
 use mathlib.Core.Path.{◌≡◌, refl, sym, ap, ◌∙◌}
-use mathlib.Core.Bool.{Bool, true, false, true≢false}
+use mathlib.Core.Bool.{Bool, true, true≢false}
 use mathlib.Core.List.{List, [], ◌++◌, append-nil, append_assoc}
-use lib.Dec.{eqb}
-use lib.ListN.{length, get_or, drop, replicate, length-take, length-drop, length-replicate, get_or-replicate}
-use lib.Seq.{get_or-take, get_or-drop}
+use lib.ListN.{replicate, length-replicate, get_or-replicate}
 use Rattle.meaning.specs.Bounds.{signals_most}
 use Rattle.meaning.specs.Lists.{has, count}
 use Rattle.meaning.specs.Signals.{Names}
-use Rattle.meaning.specs.Body.{Assigns, Args, Kind, Setting, looped, entered, Body, done, vec, set', inner, mark, marked, outside, in_shift, shifting}
+use Rattle.meaning.specs.Body.{Args, Kind, Setting, looped, entered, Body, done, vec, set', inner, marked, outside, in_shift, shifting}
 use Rattle.meaning.specs.Data.{assigns}
 use Rattle.words.specs.declared.Cursor.{Cursor}
 use Rattle.words.specs.Cursor.{alive}
@@ -19,8 +17,7 @@ use Rattle.signals.specs.Names.{AllTidy}
 use Rattle.assigns.specs.Given.{Gives}
 use Rattle.assigns.proofs.Callers.{assigned_once, all_written}
 use Rattle.measures.specs.Measures.{joined}
-use Rattle.measures.specs.Uses.{uses_cap, row_length, flag, row_at, Uses, Given}
-use Rattle.measures.proofs.Marked.{none_marked}
+use Rattle.measures.specs.Uses.{uses_cap, row_length, flag, Uses, Given}
 
 -- ---- `#` in statements behind statements
 
@@ -40,14 +37,6 @@ shifting_joined (inner w c r) b =
     ap (λ (l : List ℕ). in_shift w (outside c) ++ l) (shifting_joined r b) ∙ sym (append_assoc (in_shift w (outside c)) (shifting r) (shifting b))
 
 -- ---- a row
-
--- where it lies among the rows
-module _ (rows : List ℕ) (i : ℕ) where
-  pub row_length_lem : length (row_at rows i) ≡ min row_length (length rows - i * row_length)
-  row_length_lem = length-take row_length (drop (i * row_length) rows) ∙ ap (min row_length) (length-drop (i * row_length) rows)
-
-  pub row_place : (k : ℕ) → k < row_length → get_or (row_at rows i) k 0 ≡ get_or rows (i * row_length + k) 0
-  row_place k h = get_or-take row_length (drop (i * row_length) rows) k 0 h ∙ get_or-drop (i * row_length) rows k 0
 
 -- only these two count
 uses_alike : {b c : Body} {row : List ℕ} → outside c ≡ outside b → shifting c ≡ shifting b → Uses b row → Uses c row
@@ -77,12 +66,6 @@ module _ {b : Body} {row : List ℕ} (u : Uses b row) where
   uses_plain x e f =
       uses_alike (outside_joined b x ∙ ap (λ (l : List ℕ). outside b ++ l) e ∙ append-nil (outside b))
       (shifting_joined b x ∙ ap (λ (l : List ℕ). shifting b ++ l) f ∙ append-nil (shifting b)) u
-
-  -- V where `#` may not stand
-  pub uses_unmarked : {a : Assigns} {given : List ℕ} (p : ℕ) → Given a given → ((s : ℕ) → s < signals_most → eqb (get_or given s 0) mark ≡ false)
-      → Uses (joined b (vec p a done)) row
-  unfolding outside shifting
-  uses_unmarked {a} p g h = uses_plain (vec p a done) (ap (λ (l : List ℕ). l ++ []) (none_marked g h)) refl
 
   pub uses_setting : (x : Setting) → Uses (joined b (set' x done)) row
   unfolding outside shifting

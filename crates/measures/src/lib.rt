@@ -1,7 +1,7 @@
 // What is kept of a body: its depth, its size, its cycles, and its uses of `#`. Each number is held up to one above its bound, so that nothing wraps.
 #![tactic(auto)]
 
-ghost use Rattle.std.specs.Prelude.{◌≡◌, not, ℕ, ◌+◌, ◌*◌, ◌<◌, min, max, length};
+ghost use Rattle.std.specs.Prelude.{◌≡◌, not, ℕ, ◌+◌, ◌*◌, ◌<◌, min, length};
 ghost use Rattle.meaning.specs.Bounds.{signals_most};
 ghost use Rattle.meaning.specs.Lists.{empty};
 ghost use Rattle.meaning.specs.Body.{Assigns, Args, Kind, Setting, looped as looped_way, shifted, entered, Body, done, vec, set', inner, marked};
@@ -61,31 +61,13 @@ pub struct Measure {
 fn sum(a: usize, b: usize, cap: usize) -> usize
     ensures { result ≡ min cap (a + b) }
 {
-    if cap <= a {
-        return cap;
-    }
-    if cap - a <= b {
-        return cap;
-    }
-    a + b
+    a.saturating_add(b).min(cap)
 }
 
 fn product(a: usize, b: usize, cap: usize) -> usize
     ensures { result ≡ min cap (a * b) }
 {
-    if b == 0 {
-        return 0;
-    }
-    if cap / b < a {
-        return cap;
-    }
-    a * b
-}
-
-fn larger(a: usize, b: usize) -> usize
-    ensures { result ≡ max a b }
-{
-    if a < b { b } else { a }
+    a.saturating_mul(b).min(cap)
 }
 
 // ---- the measure of statements
@@ -145,8 +127,8 @@ fn around(x: Measure, cycles: usize, shifts: usize) -> Measure
     Measure {
         depth: sum(x.depth, 1, DEPTH_CAP),
         size: sum(x.size, 1, SIZE_CAP),
-        cycles: cycles,
-        shifts: shifts,
+        cycles,
+        shifts,
     }
 }
 
@@ -172,7 +154,7 @@ pub fn plus(x: Measure, y: Measure) -> Measure
     ensures { (a b : Body) → Measures a x → Measures b y → Measures (joined a b) result }
 {
     Measure {
-        depth: larger(x.depth, y.depth),
+        depth: x.depth.max(y.depth),
         size: sum(x.size, y.size, SIZE_CAP),
         cycles: sum(x.cycles, y.cycles, CYCLES_CAP),
         shifts: sum(x.shifts, y.shifts, CYCLES_CAP),
@@ -194,14 +176,10 @@ pub fn count_uses(given: &[u8], row: &mut [u16])
     ensures { (p : ℕ) (a : Assigns) (b : Body) → Given a given.now → Uses b row.old → Uses (joined b (vec p a done)) row.new }
 {
     let n = words::zeros_from(given);
-    let mut s = 0;
-    while s < n {
-        if given[s] == MARK {
-            if row[s] < USES_CAP {
-                row[s] += 1;
-            }
+    for s in 0..n {
+        if given[s] == MARK && row[s] < USES_CAP {
+            row[s] += 1;
         }
-        s += 1;
     }
 }
 
@@ -211,12 +189,10 @@ pub fn mark_uses(given: &[u8], row: &mut [u16])
     ensures { (p : ℕ) (a : Assigns) (b : Body) → Given a given.now → Uses b row.old → Uses (joined b (inner shifted (vec p a done) done)) row.new }
 {
     let n = words::zeros_from(given);
-    let mut s = 0;
-    while s < n {
+    for s in 0..n {
         if given[s] == MARK {
             row[sets::MOST + s] = 1;
         }
-        s += 1;
     }
 }
 
@@ -267,9 +243,5 @@ pub fn keep_row(rows: &mut [u16], i: usize, row: &[u16])
     ensures { KeptRow rows.old i row.now rows.new }
 {
     let at = i * ROW;
-    let mut j = 0;
-    while j < ROW {
-        rows[at + j] = row[j];
-        j += 1;
-    }
+    rows[at..at + ROW].copy_from_slice(row);
 }

@@ -9,14 +9,16 @@ use mathlib.Core.List.{List}
 use lib.Dec.{eqb, ltb, leb, lit<}
 use lib.Bits.{bit_or, or_shr, or_mod, or_lt}
 use lib.Pow.{shl_exact}
-use lib.ListN.{length, get_or, set}
+use lib.ListN.{length, get_or, set, replicate}
 use lib.Seq.{get_or-set_same, get_or-set_other}
+use borrow.Rule.Slice.PartMut.{put_mid}
+use Rattle.std.proofs.lemmas.List.{places}
 use borrow.Author.Tests.{eq-eqb, eqb-true, eqb-false, ltb-true, ltb-false, le-leb, leb-true, ne_eqb, not-true, lt-ltb}
 use Rattle.tokens.proofs.Bools.{both, neither, or_right, true_false}
 use Rattle.meaning.specs.Bounds.{signals_most, tables_most}
 use Rattle.memos.specs.Tracks.{bit_of, is_marked, assigned_mark, marks_most, Marks, Joins, shown_marks, tracks_length, marks_from}
 use Rattle.memos.specs.Memo.{Writes}
-use Rattle.memos.proofs.Rows.{writes_next}
+use Rattle.memos.proofs.Rows.{writes_next, outside}
 
 -- ---- all of them
 
@@ -173,9 +175,6 @@ pub record Joined (o n : ℕ) (b : ℕ → ℕ) (memo memo' : List ℕ) : Type 0
   pub each : (s : ℕ) → s < n → Joins (marks_from memo o s) (b s) (marks_from memo' o s)
   pub rest : (i : ℕ) → o + n ≤ i → get_or memo' i 0 ≡ get_or memo i 0
 
-pub joined_none : {o : ℕ} {b : ℕ → ℕ} {memo : List ℕ} → Joined o 0 b memo memo
-joined_none = record { writes = record { long = refl; others = λ i h. refl }; each = λ s h. absurd (omega arith); rest = λ i h. refl }
-
 small : (r : ℕ) → r < marks_most → r % marks_most ≡ r
 small r h = omega arith
 
@@ -200,19 +199,20 @@ joined_next {o} {n} {b} {memo} {memo'} r x few room l j = record {
 
 -- ---- nothing is marked yet
 
-pub record Freshened (o n : ℕ) (memo memo' : List ℕ) : Type 0 where
-  pub writes : Writes memo memo' o (o + signals_most)
-  pub zero : (s : ℕ) → s < n → marks_from memo' o s ≡ 0
-
-pub freshened_none : {o : ℕ} {memo : List ℕ} → Freshened o 0 memo memo
-freshened_none = record { writes = record { long = refl; others = λ i h. refl }; zero = λ s h. absurd (omega arith) }
-
-pub freshened_next : {o n : ℕ} {memo memo' : List ℕ} → Freshened o n memo memo' → n < signals_most → o + n < length memo' → Freshened o (n + 1) memo (set memo' (o + n) 0)
-freshened_next {o} {n} {memo} {memo'} x few room = record { writes = writes_next x.writes (o + n) 0 (omega arith) (omega arith); zero = λ s h. by s h (eqb s n) refl }
+-- zeros are written over the first n signals from a place o on
+pub freshened : {m ys : List ℕ} {o k w : ℕ} (n : ℕ) → k ≡ n → w ≡ n → o + n ≤ length m → n ≤ signals_most → ys ≡ replicate w 0
+    → Writes m (put_mid o k m ys) o (o + signals_most) × ((s : ℕ) → s < n → marks_from (put_mid o k m ys) o s ≡ 0)
+freshened {m} {ys} {o} {k} n e l room few z = rw (e, z, l) (
+  record { long = grind (arith, places); others = λ i h. others i (outside h) },
+  λ s h. ap (λ (v : ℕ). v % marks_most) (here s h),
+)
   where
-    by : (s : ℕ) → s < n + 1 → (w : Bool) → eqb s n ≡ w → get_or (set memo' (o + n) 0) (o + s) 0 % marks_most ≡ 0
-    by s h true e = let q = eqb-true s n e in ap (λ (k : ℕ). k % marks_most) (ap (λ (k : ℕ). get_or (set memo' (o + n) 0) (o + k) 0) q ∙ get_or-set_same memo' (o + n) 0 0 room)
-    by s h false e = let d = eqb-false s n e in ap (λ (k : ℕ). k % marks_most) (get_or-set_other memo' (o + n) (o + s) 0 0 λ z. omega arith) ∙ x.zero s (omega arith)
+    here : (s : ℕ) → s < n → get_or (put_mid o n m (replicate n 0)) (o + s) 0 ≡ 0
+    here s h = grind (arith, places)
+
+    others : (i : ℕ) → (i < o) ⊎ (o + signals_most ≤ i) → get_or (put_mid o n m (replicate n 0)) i 0 ≡ get_or m i 0
+    others i (inl h) = grind (arith, places)
+    others i (inr h) = grind (arith, places)
 
 -- ---- where something is tracked at all
 

@@ -1,22 +1,21 @@
 -- Rows that tell of uses: what is written in one row, no other row has.
-use Prim.Native.Nat.{ℕ, ◌+◌, ◌*◌, ◌/◌, ◌%◌, ◌<◌, ◌≤◌}
+use Prim.Native.Nat.{ℕ, ◌+◌, ◌-◌, ◌*◌, ◌/◌, ◌%◌, ◌<◌, ◌≤◌}
 use native.Mathlib.Omega.{arith}
 use native.Mathlib.Nat.{mod-lt, div-mul-le_self}
 use mathlib.Core.Path.{◌≡◌, refl, sym, ap, ◌∙◌, subst}
-use mathlib.Core.Bool.{Bool, true, false, ◌&&◌, ◌||◌}
+use mathlib.Core.Bool.{Bool, true, false, ◌&&◌}
 use mathlib.Core.Logic.{◌⊎◌, inl, inr}
 use mathlib.Core.List.{List}
 use lib.Dec.{eqb, ltb, leb}
 use lib.ListN.{length, get_or, set, length-set}
 use lib.Seq.{get_or-set_same, get_or-set_other}
-use borrow.Author.Tests.{eqb-true, eqb-false, ltb-true, ltb-false, leb-true, leb-false}
-use Rattle.tokens.proofs.Bools.{both, neither}
+use borrow.Author.Tests.{eqb-true, eqb-false, ltb-true, ltb-false, leb-true}
+use Rattle.tokens.proofs.Bools.{both}
 use Rattle.meaning.specs.Bounds.{signals_most, depth_most}
 use Rattle.words.specs.declared.Cursor.{Cursor}
 use Rattle.memos.specs.declared.Use.{Use}
-use Rattle.memos.specs.declared.Found.{Found}
 use Rattle.memos.specs.declared.Recalled.{Recalled}
-use Rattle.memos.specs.Tracks.{is_marked, assigned_mark, marks_most, tracks_length, marks_from}
+use Rattle.memos.specs.Tracks.{is_marked, assigned_mark, marks_most, marks_from}
 use Rattle.memos.specs.Memo.{Short, Near, memo_row, row_at, points_at, before_at, behind_at, picture_size, Notes, Points, Traces, Pictures, Told, telling, Row, Writes, AtLevel, SameUse, Remembered, Finds, Restores, Brings}
 
 -- a place has a row
@@ -36,6 +35,14 @@ writes_next {m} {m'} {o} {e} w i v l h = record {
 
 pub writes_then : {a b c : List ℕ} {o e : ℕ} → Writes a b o e → Writes b c o e → Writes a c o e
 writes_then x y = record { long = y.long ∙ x.long; others = λ i h. y.others i h ∙ x.others i h }
+
+-- a place that is not among them
+pub outside : {i o e : ℕ} → (o ≤ i → i < e → ⊥) → (i < o) ⊎ (e ≤ i)
+outside {i} {o} {e} h = by (ltb i o) refl
+  where
+    by : (z : Bool) → ltb i o ≡ z → (i < o) ⊎ (e ≤ i)
+    by true q = inl (ltb-true i o q)
+    by false q = let l = ltb-false i o q in inr (omega (arith, h l))
 
 -- ---- what a row is found by
 
@@ -60,13 +67,6 @@ short_all u h =
     let q = both _ _ p.0 in
     let r = both _ _ q.0 in
     record { seconds = ltb-true _ _ r.0; fault = ltb-true _ _ r.1; at = ltb-true _ _ q.1; end = ltb-true _ _ p.1 }
-
--- there is room for what is tracked, and a row can hold these numbers
-pub room_short : (m : List ℕ) (t t' : ℕ) → ((ltb (length m) tracks_length || leb 65_536 t) || leb 65_536 t') ≡ false → (tracks_length ≤ length m) × (t < 65_536) × (t' < 65_536)
-room_short m t t' h =
-    let a = neither (ltb (length m) tracks_length || leb 65_536 t) (leb 65_536 t') h in
-    let b = neither (ltb (length m) tracks_length) (leb 65_536 t) a.0 in
-    (ltb-false _ _ b.0, leb-false 65_536 t b.1, leb-false 65_536 t' a.1)
 
 module _ (m : List ℕ) (o : ℕ) (u : Use) (a b c d : ℕ) (room : o + memo_row ≤ length m) (is-a : a ≡ u.seconds) (is_b : b ≡ u.fault) (is_c : c ≡ u.at) (is-d : d ≡ u.end) where
   abbrev m1 : List ℕ
@@ -140,9 +140,6 @@ point_written m o b x y z room on f a e =
       },
     )
 
-pub pointing : (m : List ℕ) (o : ℕ) {f a e : ℕ} → f ≡ get_or m o 0 % 256 → a ≡ get_or m (o + 1) 0 → e ≡ get_or m (o + 2) 0 → Points m o (record { no = 0; fault = f; at = a; end = e })
-pointing m o f a e = record { on = refl; fault_is = sym f; at_is = sym a; end_is = sym e }
-
 -- a place points at one cursor
 one_cursor : {m m' : List ℕ} {o : ℕ} {b c : Cursor} → Points m o b → Points m' o c → get_or m' o 0 ≡ get_or m o 0 → get_or m' (o + 1) 0 ≡ get_or m (o + 1) 0
     → get_or m' (o + 2) 0 ≡ get_or m (o + 2) 0 → c ≡ b
@@ -155,17 +152,8 @@ one_cursor {b = b} {c = c} x y f a e =
 
 -- ---- pictures, one signal at a time
 
-pub pictures_none : {m : List ℕ} {o t : ℕ} {v : ℕ → ℕ} → get_or m o 0 ≡ t → Pictures m o 0 t v
-pictures_none e = record { table_is = e; pins_are = λ s h. absurd (omega arith) }
-
 pub pictures_all : {m : List ℕ} {o s n t : ℕ} {v : ℕ → ℕ} → s ≡ n → Pictures m o s t v → Pictures m o n t v
 pictures_all e x = record { table_is = x.table_is; pins_are = λ i h. x.pins_are i (omega arith) }
-
-pub traces_none : {m : List ℕ} {o t : ℕ} {v : ℕ → ℕ} → get_or m o 0 ≡ t → Traces m o 0 t v
-traces_none e = record { table_is = e; marks_are = λ s h. absurd (omega arith) }
-
-pub traces_all : {m : List ℕ} {o s n t : ℕ} {v : ℕ → ℕ} → s ≡ n → Traces m o s t v → Traces m o n t v
-traces_all e x = record { table_is = x.table_is; marks_are = λ i h. x.marks_are i (omega arith) }
 
 -- a place that is written behind those of the first s signals: they are as before, and it has this number
 module _ (m : List ℕ) (o s x : ℕ) (room : o + picture_size ≤ length m) (few : s + 1 < picture_size) where
@@ -188,17 +176,26 @@ module _ (m : List ℕ) (o s x : ℕ) (room : o + picture_size ≤ length m) (fe
       by i h true q = ap (λ (k : ℕ). k % 256) (drawn i h true q) ∙ rw (eqb-true i s q) e
       by i h false q = let d = eqb-false i s q in ap (λ (k : ℕ). k % 256) (drawn i h false q) ∙ p.pins_are i (omega arith)
 
-  -- the next signal's marks
-  pub traced_next : {m₀ : List ℕ} {t : ℕ} {v : ℕ → ℕ} → Writes m₀ m o (o + picture_size) → Traces m o s t v → x % marks_most ≡ v s
-      → Writes m₀ (set m (o + 1 + s) x) o (o + picture_size) × Traces (set m (o + 1 + s) x) o (s + 1) t v
-  traced_next {v = v} w p e = (
-    writes_next w (o + 1 + s) x (omega arith) (omega arith),
-    record { table_is = drawn_table ∙ p.table_is; marks_are = λ i h. by i h (eqb i s) refl },
-  )
-    where
-      by : (i : ℕ) → i < s + 1 → (z : Bool) → eqb i s ≡ z → get_or (set m (o + 1 + s) x) (o + 1 + i) 0 % marks_most ≡ v i
-      by i h true q = ap (λ (k : ℕ). k % marks_most) (drawn i h true q) ∙ rw (eqb-true i s q) e
-      by i h false q = let d = eqb-false i s q in ap (λ (k : ℕ). k % marks_most) (drawn i h false q) ∙ p.marks_are i (omega arith)
+-- marks are copied behind a table; those that are read stand before both
+pub traced : {m ys : List ℕ} {o t x : ℕ} (from n k : ℕ) → k ≡ n → x ≡ t → o + picture_size ≤ length m → n < picture_size → from + n ≤ o → length ys ≡ length (set m o x)
+    → ((i d : ℕ) → o + 1 ≤ i → i < o + 1 + k → get_or ys i d ≡ get_or (set m o x) (from + (i - (o + 1))) d) → ((i d : ℕ) → i < o + 1 → get_or ys i d ≡ get_or (set m o x) i d)
+    → ((i d : ℕ) → o + 1 + k ≤ i → get_or ys i d ≡ get_or (set m o x) i d) → Writes m ys o (o + picture_size) × Traces ys o n t (marks_from m from)
+traced {m} {ys} {o} {t} {x} from n k e put room few before long copied below above = (
+  record { long = long ∙ length-set m o x; others = λ i h. by i (outside h) },
+  record {
+    table_is = below o 0 (omega arith) ∙ get_or-set_same m o x 0 (omega arith) ∙ put;
+    marks_are = λ s h. ap (λ (v : ℕ). v % marks_most) (here s h);
+  },
+)
+  where
+    by : (i : ℕ) → (i < o) ⊎ (o + picture_size ≤ i) → get_or ys i 0 ≡ get_or m i 0
+    by i (inl q) = below i 0 (omega arith) ∙ get_or-set_other m o i x 0 λ z. omega arith
+    by i (inr q) = above i 0 (omega arith) ∙ get_or-set_other m o i x 0 λ z. omega arith
+
+    here : (s : ℕ) → s < n → get_or ys (o + 1 + s) 0 ≡ get_or m (from + s) 0
+    here s h =
+        let w : o + 1 + s - (o + 1) ≡ s = omega arith in
+        copied (o + 1 + s) 0 (omega arith) (omega arith) ∙ ap (λ (j : ℕ). get_or (set m o x) (from + j) 0) w ∙ get_or-set_other m o (from + s) x 0 λ z. omega arith
 
 -- the marks that are drawn are those that stood there before the row was begun
 pub traces_from : {m m1 m2 m3 : List ℕ} {o n t o1 e1 o2 e2 : ℕ} (from : ℕ) → n ≤ signals_most → Writes m m1 o1 e1 → from + signals_most ≤ o1 → Writes m1 m2 o2 e2 → from + signals_most ≤ o2
@@ -209,9 +206,6 @@ traces_from from few a p b q x = record {
 }
 
 -- ---- pins that a use assigned
-
-pub restores_none : {m : List ℕ} {o : ℕ} {v : List ℕ} → Restores m o 0 v v
-restores_none = record { long = refl; rows = λ i h. refl; put = λ i h. absurd (omega arith); kept = λ i h. absurd (omega arith) }
 
 module _ {m : List ℕ} {o s : ℕ} {v₀ v : List ℕ} (r : Restores m o s v₀ v) where
   -- the next signal: what was assigned, or what stood there before
@@ -242,25 +236,19 @@ module _ {m : List ℕ} {o s : ℕ} {v₀ v : List ℕ} (r : Restores m o s v₀
 
 -- ---- a row that is found
 
-pub finds_none : {m : List ℕ} {u : Use} {t o : ℕ} → Finds m u t (record { is = false; at = o })
-finds_none = record { row = λ e. absurd (never e); room = λ e. absurd (never e); noted = λ e. absurd (never e); before = λ e. absurd (never e) }
-  where
-    never : false ≡ true → ⊥
-    never e = let z : ◌≡◌ {A = ℕ} 0 1 = cc in omega arith
-
 -- what it tells
-pub recalled_row : {m : List ℕ} {n : ℕ} {u : Use} {t : ℕ} {v v' : List ℕ} {f : Found} {r : Recalled} → Finds m u t f → f.is ≡ true → Brings m n f.at v v' r
-    → (j : ℕ) × Row m n j (telling u r.cursor t (marks_from m (f.at + before_at + 1)) r.table (λ s. get_or m (f.at + behind_at + 1 + s) 0 % 256))
-recalled_row {m} {n} {u} {t} {f = f} {r = r} x e y =
-    let j = x.row e in
-    let before : Traces m (f.at + before_at) n t (marks_from m (f.at + before_at + 1)) = record { table_is = x.before e; marks_are = λ s h. refl } in
-    let behind : Pictures m (f.at + behind_at) n r.table (λ s. get_or m (f.at + behind_at + 1 + s) 0 % 256) = record { table_is = y.table_is; pins_are = λ s h. refl } in (
+pub recalled_row : {m : List ℕ} {n : ℕ} {u : Use} {t : ℕ} {v v' : List ℕ} {at : ℕ} {r : Recalled} → Finds m u t at → Brings m n at v v' r
+    → (j : ℕ) × Row m n j (telling u r.cursor t (marks_from m (at + before_at + 1)) r.table (λ s. get_or m (at + behind_at + 1 + s) 0 % 256))
+recalled_row {m} {n} {u} {t} {at = at} {r = r} x y =
+    let j = x.row in
+    let before : Traces m (at + before_at) n t (marks_from m (at + before_at + 1)) = record { table_is = x.before; marks_are = λ s h. refl } in
+    let behind : Pictures m (at + behind_at) n r.table (λ s. get_or m (at + behind_at + 1 + s) 0 % 256) = record { table_is = y.table_is; pins_are = λ s h. refl } in (
       j.0,
       record {
-        noted = rw j.1 at (x.noted e);
+        noted = rw j.1 at x.noted;
         pointed = rw j.1 at y.pointed;
-        before = subst (λ (o : ℕ). Traces m (o + before_at) n t (marks_from m (f.at + before_at + 1))) j.1 before;
-        behind = subst (λ (o : ℕ). Pictures m (o + behind_at) n r.table (λ s. get_or m (f.at + behind_at + 1 + s) 0 % 256)) j.1 behind;
+        before = subst (λ (o : ℕ). Traces m (o + before_at) n t (marks_from m (at + before_at + 1))) j.1 before;
+        behind = subst (λ (o : ℕ). Pictures m (o + behind_at) n r.table (λ s. get_or m (at + behind_at + 1 + s) 0 % 256)) j.1 behind;
       },
     )
 

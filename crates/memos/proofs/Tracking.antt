@@ -34,9 +34,6 @@ module _ {tabs : Tables} {n : ℕ} where
     pub tracked_wide : length (h s).0.pins ≡ n
     tracked_wide = (x.each s (like_same wide)).1.wide
 
-    pub tracked_sound : first_failing tabs (h s).1 ≡ none
-    tracked_sound = (x.each s (like_same wide)).0
-
     module _ {m₂ m' : ℕ → ℕ} {f : State → Played} (y : Tracked tabs n m₂ (h s).0 f) (j : (i : ℕ) → i < n → Joins (m i) (m₂ i) (m' i)) where
       first_like : {z : State} → Like tabs n m' s z → Like tabs n m s z
       first_like {z} q = record { wide = q.wide; table_same = q.table_same; args_same = q.args_same; pins_are = λ i l. by i l (q.pins_are i l) }

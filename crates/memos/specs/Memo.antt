@@ -3,7 +3,6 @@ use Rattle.std.specs.Prelude.{ℕ, ◌+◌, ◌*◌, ◌%◌, ◌<◌, ◌≤◌
 use Rattle.meaning.specs.Bounds.{signals_most}
 use Rattle.words.specs.declared.Cursor.{Cursor}
 use Rattle.memos.specs.declared.Use.{Use}
-use Rattle.memos.specs.declared.Found.{Found}
 use Rattle.memos.specs.declared.Recalled.{Recalled}
 use Rattle.memos.specs.Tracks.{is_marked, assigned_mark, tracks_length, marks_from}
 
@@ -124,12 +123,12 @@ abbrev pub telling : Use → Cursor → ℕ → (ℕ → ℕ) → ℕ → (ℕ �
 telling u b table marks table' pins =
     record { of_use = u; cursor = b; table = table; marks = marks; table_behind = table'; pins_behind = pins }
 
--- the row there tells of the use u from this table
-pub record Finds (memo : List ℕ) (u : Use) (table : ℕ) (r : Found) : Type 0 where
-  pub row : r.is ≡ true → (j : ℕ) × (r.at ≡ row_at j)
-  pub room : r.is ≡ true → r.at + memo_row ≤ length memo
-  pub noted : r.is ≡ true → Notes memo r.at u
-  pub before : r.is ≡ true → get_or memo (r.at + before_at) 0 ≡ table
+-- the row at this place tells of the use u from this table
+pub record Finds (memo : List ℕ) (u : Use) (table at : ℕ) : Type 0 where
+  pub row : (j : ℕ) × (at ≡ row_at j)
+  pub room : at + memo_row ≤ length memo
+  pub noted : Notes memo at u
+  pub before : get_or memo (at + before_at) 0 ≡ table
 
 -- what the use of the row at o assigned is on the first n pins
 pub record Restores (memo : List ℕ) (o n : ℕ) (values values' : List ℕ) : Type 0 where

@@ -3,7 +3,7 @@
 // tracked, for each signal, under which tables what stood there before is shown, and whether it is assigned: so a row holds for all pins that could be shown so.
 #![tactic(auto)]
 
-ghost use Rattle.std.specs.Prelude.{◌≡◌, true, false, ℕ, ◌+◌, ◌*◌, ◌%◌, ◌<◌, ◌≤◌, length, get_or, set};
+ghost use Rattle.std.specs.Prelude.{◌≡◌, true, false, ℕ, ◌+◌, ◌*◌, ◌%◌, ◌<◌, ◌≤◌, length, get_or, set, IfSome};
 ghost use Rattle.meaning.specs.Bounds.{signals_most, depth_most};
 ghost use Rattle.memos.specs.Tracks.{bit_of, is_marked, assigned_mark, marks_most, Marks, Joins, shown_marks, tracks_length, marks_from, marks_at};
 ghost use Rattle.memos.specs.Memo.{row_at, memo_row, before_at, picture_size, Short, Near, Notes, Points, Traces, Pictures, pins_of, Restores, Writes, AtLevel, telling, Remembered, Finds, Brings};
@@ -17,13 +17,6 @@ pub struct Use {
     pub fault: usize,
     pub at: usize,
     pub end: usize,
-}
-
-// Is a use remembered, and where does its row begin?
-#[derive(Clone, Copy)]
-pub struct Found {
-    pub is: bool,
-    pub at: usize,
 }
 
 // The table and the cursor behind a use.
@@ -81,25 +74,11 @@ fn memo_row(long: usize, at: usize, table: usize) -> usize
     TRACKS + (n % rows) * MEMO_ROW
 }
 
-// What the memo keeps, as a number.
-fn number(n: u16) -> usize
-    ensures { result ≡ n }
-{
-    n as usize
-}
-
 // A number, as the memo keeps it.
 fn short(n: usize) -> u16
     ensures { n < 65_536 → result ≡ n }
 {
     (n % KEPT) as u16
-}
-
-// A byte, as the memo keeps it.
-fn wide(b: u8) -> u16
-    ensures { (result ≡ b) × (result % 256 ≡ b) }
-{
-    b as u16
 }
 
 // The byte that was kept.
@@ -210,11 +189,8 @@ pub fn fresh(memo: &mut [u16], level: usize, signals: usize)
     if memo.len() < TRACKS {
         return;
     }
-    let mut s = 0;
-    while s < signals {
-        memo[level * sets::MOST + s] = 0;
-        s += 1;
-    }
+    let first = level * sets::MOST;
+    memo[first..first + signals].fill(0);
 }
 
 // Assignments, and a cycle under a table: what is given no character is shown, unless it was assigned before. Assignments alone stand under no table.
@@ -226,11 +202,9 @@ pub fn mark(memo: &mut [u16], level: usize, given: &[u8], table: usize, signals:
         return;
     }
     let shown = table_mark(table);
-    let mut s = 0;
-    while s < signals {
+    for s in 0..signals {
         let i = level * sets::MOST + s;
         memo[i] = join(marks(memo, i), shown_marks(given[s], shown));
-        s += 1;
     }
 }
 
@@ -239,11 +213,9 @@ fn merge(memo: &mut [u16], level: usize, from: usize, signals: usize)
     requires { (0 < level) × (level ≤ depth_most) × (signals ≤ signals_most) × (level * signals_most + signals_most ≤ from) × (from + signals ≤ length memo.old) }
     ensures { AtLevel memo.old memo.new level × ((s : ℕ) → s < signals → Joins (marks_at memo.old level s) (marks_from memo.old from s) (marks_at memo.new level s)) }
 {
-    let mut s = 0;
-    while s < signals {
+    for s in 0..signals {
         let i = level * sets::MOST + s;
         memo[i] = join(marks(memo, i), marks(memo, from + s));
-        s += 1;
     }
 }
 
@@ -277,10 +249,10 @@ fn is_noted(memo: &[u16], o: usize, u: Use) -> bool
     ensures { result ≡ true → Notes memo.now o u }
 {
     (memo[o] == 1)
-        & (u.seconds <= number(memo[o + 1]))
-        & (number(memo[o + 2]) == u.fault)
-        & (number(memo[o + 3]) == u.at)
-        & (number(memo[o + 4]) == u.end)
+        & (u.seconds <= usize::from(memo[o + 1]))
+        & (usize::from(memo[o + 2]) == u.fault)
+        & (usize::from(memo[o + 3]) == u.at)
+        & (usize::from(memo[o + 4]) == u.end)
 }
 
 // Can it be?
@@ -314,7 +286,7 @@ fn point(memo: &mut [u16], o: usize, b: Cursor)
     requires { (o + 3 ≤ length memo.old) × Near b }
     ensures { Writes memo.old memo.new o (o + 3) × Points memo.new o b }
 {
-    memo[o] = wide(b.fault);
+    memo[o] = u16::from(b.fault);
     memo[o + 1] = short(b.at);
     memo[o + 2] = short(b.end);
 }
@@ -326,8 +298,8 @@ fn pointed(memo: &[u16], o: usize) -> Cursor
     Cursor {
         no: 0,
         fault: byte_of(memo[o]),
-        at: number(memo[o + 1]),
-        end: number(memo[o + 2]),
+        at: usize::from(memo[o + 1]),
+        end: usize::from(memo[o + 2]),
     }
 }
 
@@ -339,11 +311,7 @@ fn trace(memo: &mut [u16], o: usize, table: usize, from: usize, signals: usize)
     ensures { Writes memo.old memo.new o (o + picture_size) × Traces memo.new o signals table (marks_from memo.old from) }
 {
     memo[o] = short(table);
-    let mut s = 0;
-    while s < signals {
-        memo[o + 1 + s] = memo[from + s];
-        s += 1;
-    }
+    memo.copy_within(from..from + signals, o + 1);
 }
 
 // The table and the pins.
@@ -352,10 +320,8 @@ fn picture(memo: &mut [u16], o: usize, table: usize, values: &[u8], signals: usi
     ensures { Writes memo.old memo.new o (o + picture_size) × Pictures memo.new o signals table (pins_of values.now) }
 {
     memo[o] = short(table);
-    let mut s = 0;
-    while s < signals {
-        memo[o + 1 + s] = wide(values[s]);
-        s += 1;
+    for s in 0..signals {
+        memo[o + 1 + s] = u16::from(values[s]);
     }
 }
 
@@ -382,38 +348,35 @@ fn restore(memo: &[u16], o: usize, values: &mut [u8], signals: usize)
     requires { (o + memo_row ≤ length memo.now) × (signals < picture_size) × (signals ≤ length values.old) }
     ensures { Restores memo.now o signals values.old values.new }
 {
-    let mut s = 0;
-    while s < signals {
+    for s in 0..signals {
         let m = marks_of(memo, o, s);
         values[s] = left_on(m, values[s], byte_of(memo[o + BEHIND + 1 + s]));
-        s += 1;
     }
 }
 
 // ---- a row
 
 // Where the row of a use from this table begins, if it is remembered.
-pub fn find(memo: &[u16], u: Use, table: usize) -> Found
-    ensures { Finds memo.now u table result }
+pub fn find(memo: &[u16], u: Use, table: usize) -> Option<usize>
+    ensures { IfSome result (λ at. Finds memo.now u table at) }
 {
-    let nowhere = Found { is: false, at: 0 };
     if (u.end <= u.at) | (memo.len() < TRACKS) {
-        return nowhere;
+        return None;
     }
     if u.end - u.at < SHORTEST {
-        return nowhere;
+        return None;
     }
     let o = memo_row(memo.len(), u.at, table);
     if memo.len() < o + MEMO_ROW {
-        return nowhere;
+        return None;
     }
     if !is_noted(memo, o, u) {
-        return nowhere;
+        return None;
     }
-    Found {
-        is: number(memo[o + BEFORE]) == table,
-        at: o,
+    if usize::from(memo[o + BEFORE]) != table {
+        return None;
     }
+    Some(o)
 }
 
 // What the use of a row left is left.
@@ -424,7 +387,7 @@ pub fn bring(memo: &[u16], o: usize, values: &mut [u8], signals: usize) -> Recal
     restore(memo, o, values, signals);
     let cursor = pointed(memo, o + POINTS);
     Recalled {
-        table: number(memo[o + BEHIND]),
+        table: usize::from(memo[o + BEHIND]),
         cursor,
     }
 }

@@ -32,10 +32,8 @@ fn note_word(word: &[u8], used: &mut [u8], s: usize)
     requires { (length used.old ≡ table_size) × (s < signals_most) }
     ensures { Grows used.old used.new × CharsNoted used.new s word.now }
 {
-    let mut i = 0;
-    while i < word.len() {
-        note_char(used, s, word[i]);
-        i += 1;
+    for c in word {
+        note_char(used, s, *c);
     }
 }
 
@@ -47,13 +45,10 @@ pub fn note(given: &[u8], used: &mut [u8])
     ensures { Grows used.old used.new × ((a : Assigns) → Given a given.now → Gives used.new a) }
 {
     let n = words::zeros_from(given);
-    let mut s = 0;
-    while s < n {
-        let c = given[s];
-        if (c != 0) & (c != MARK) {
-            note_char(used, s, c);
+    for (s, c) in given[..n].iter().enumerate() {
+        if (*c != 0) & (*c != MARK) {
+            note_char(used, s, *c);
         }
-        s += 1;
     }
 }
 
@@ -81,12 +76,10 @@ pub fn note_args(text: &[u8], given: &[u8], args: &[usize], used: &mut [u8])
     ensures { Grows used.old used.new × ((xs : Args) → Supplied text.now xs given.now args.now → Supplies used.new xs) }
 {
     let n = words::zeros_from(given);
-    let mut s = 0;
-    while s < n {
+    for s in 0..n {
         if given[s] != 0 {
             note_data(text, args[sets::MOST + s], used, s);
         }
-        s += 1;
     }
 }
 
@@ -99,10 +92,8 @@ fn covered(used: &[u8], waves: &[u8], k: usize) -> bool
 {
     let at = k * USED;
     let mut missing = false;
-    let mut i = 0;
-    while i < USED {
-        missing = missing | ((used[i] != 0) & (waves[at + i] != 1));
-        i += 1;
+    for i in 0..USED {
+        missing |= (used[i] != 0) & (waves[at + i] != 1);
     }
     !missing
 }
@@ -112,12 +103,10 @@ pub fn fine(used: &[u8], waves: &[u8], tables: usize) -> bool
     requires { (length used.now ≡ table_size) × (length waves.now ≡ tables_most * table_size) × (tables ≤ tables_most) }
     ensures { result ≡ true → (text tplaces : List ℕ) (count : ℕ) (tabs : Tables) → Held text tplaces waves.now count tabs → Fine tables used.now tabs }
 {
-    let mut k = 0;
-    while k < tables {
+    for k in 0..tables {
         if !covered(used, waves, k) {
             return false;
         }
-        k += 1;
     }
     true
 }

@@ -12,12 +12,9 @@ pub fn put(page: &mut [u8], at: usize, bytes: &[u8]) -> usize
     requires { at + length bytes.now ≤ length page.old }
     ensures { Puts page.old at bytes.now result page.new }
 {
-    let mut i = 0;
-    while i < bytes.len() {
-        page[at + i] = bytes[i];
-        i += 1;
-    }
-    at + i
+    let end = at + bytes.len();
+    page[at..end].copy_from_slice(bytes);
+    end
 }
 
 // A number's digits, without leading zeros.

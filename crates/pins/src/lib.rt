@@ -61,12 +61,10 @@ pub fn supply(given: &[u8], args: &[usize], feeds: &mut [usize], level: usize)
     ensures { (length feeds.new ≡ feeds_length) × ((l s : ℕ) → s < signals_most → (l ≡ level → ⊥) → feed_at feeds.new l s ≡ feed_at feeds.old l s) × ((text : List ℕ) (xs : Args) → Supplied text xs given.now args.now → Feeding text feeds.new level xs) }
 {
     let n = words::zeros_from(given);
-    let mut s = 0;
-    while s < n {
+    for s in 0..n {
         if given[s] != 0 {
             put_feed(feeds, level, s, feeds::start(args[sets::MOST + s]));
         }
-        s += 1;
     }
 }
 
@@ -97,9 +95,10 @@ pub fn put(
     ensures { Others level values.old values.new feeds.old feeds.new × ((a : Assigns) (s : State) (table : ℕ) → Given a given.now → Playable signals a s.args → Shows text.now signals values.old table feeds.old level s → Shows text.now signals values.new table feeds.new level (puts a s)) }
 {
     let mut s = 0;
+    // No range: eight signals are passed at once where they are given nothing.
     while s < signals {
         if idle(given, s) {
-            s = sets::least(s + EIGHT, signals);
+            s = (s + EIGHT).min(signals);
         } else {
             let b = given[s];
             if b == MARK {
@@ -127,13 +126,11 @@ pub fn skip(
     requires { Roomy signals values.now feeds.old level × (length given.now ≡ signals_most) }
     ensures { Others level values.now values.now feeds.old feeds.new × Skips text.now given.now signals level n values.now feeds.old feeds.new }
 {
-    let mut s = 0;
-    while s < signals {
+    for s in 0..signals {
         if given[s] == MARK {
             let f = feeds::skip(text, feed_at(feeds, level, s), n);
             put_feed(feeds, level, s, f);
         }
-        s += 1;
     }
 }
 
@@ -211,13 +208,11 @@ fn ahead(
     ensures { Ahead text.now given.now feeds.now waves.now level signals table most result }
 {
     let mut k = most;
-    let mut s = signals;
-    while 0 < s {
+    for s in (0..signals).rev() {
         // At once for a V that is played once.
         if k == 0 {
             return 0;
         }
-        s -= 1;
         if given[s] == MARK {
             k = having(text, feed_at(feeds, level, s), waves, table, s, k);
         }
@@ -264,21 +259,17 @@ pub fn vectors(
     requires { Roomy signals values.old feeds.old level × (length given.now ≡ signals_most) × (length waves.now ≡ tables_most * table_size) }
     ensures { Others level values.old values.new feeds.old feeds.new × ((a : Assigns) (s : State) (tplaces : List ℕ) (tables p : ℕ) (tabs : Tables) → Held text.now tplaces waves.now tables tabs → Given a given.now → Playable signals a s.args → Shows text.now signals values.old table feeds.old level s → Told tabs text.now signals values.new table feeds.new level result p (again t (vector p a) s)) }
 {
-    let mut failed = false;
     let mut i = 0;
-    'search: while i < t {
+    // No range: a turn, and those that are gone on at once behind it.
+    while i < t {
         put(text, given, values, feeds, level, signals);
         if TABLES <= table {
-            failed = true;
-            break 'search;
+            return true;
         }
-        let mut s = 0;
-        while s < signals {
+        for s in 0..signals {
             if lacks(values, waves, table, s) {
-                failed = true;
-                break 'search;
+                return true;
             }
-            s += 1;
         }
         let k = advance(
             text,
@@ -293,7 +284,7 @@ pub fn vectors(
         );
         i += 1 + k;
     }
-    failed
+    false
 }
 
 // ---- procedures
@@ -304,12 +295,9 @@ pub fn leave(values: &mut [u8], level: usize)
     ensures { Leaves level values.old values.new }
 {
     let at = (level + 1) * sets::MOST;
-    let mut s = 0;
-    while s < sets::MOST {
-        values[at + s] = values[s];
-        values[s] = 0;
-        s += 1;
-    }
+    let (pins, rows) = values.split_at_mut(at);
+    rows[..sets::MOST].copy_from_slice(&pins[..sets::MOST]);
+    pins[..sets::MOST].fill(0);
 }
 
 // They come back.
@@ -318,9 +306,6 @@ pub fn come_back(values: &mut [u8], level: usize)
     ensures { Returns level values.old values.new }
 {
     let at = (level + 1) * sets::MOST;
-    let mut s = 0;
-    while s < sets::MOST {
-        values[s] = values[at + s];
-        s += 1;
-    }
+    let (pins, rows) = values.split_at_mut(at);
+    pins[..sets::MOST].copy_from_slice(&rows[..sets::MOST]);
 }

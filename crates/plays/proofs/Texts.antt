@@ -26,7 +26,7 @@ use Rattle.heads.specs.declared.Known.{Known}
 use Rattle.texts.specs.declared.Parts.{Parts}
 use Rattle.texts.proofs.Runs.{list_from, list_cut, list_end}
 use Rattle.plays.specs.declared.Played.{Played}
-use Rattle.plays.specs.Plays.{Ground, ground_of, Holding, Summed, Heads, Knows, Arrays, arrays, Sized}
+use Rattle.plays.specs.Plays.{Ground, grounded, Holding, Summed, Heads, Knows, Arrays, arrays, Sized}
 use Rattle.plays.specs.Run.{ListedAt, PlaysListed, Runs, SomeRun, Decides}
 use Rattle.plays.proofs.Patterns.{Playing, patterns_fit}
 use Rattle.plays.proofs.Recalling.{heads_none, knows_sums}
@@ -45,7 +45,7 @@ module _ {d : Read} {run : Body} where
 
 module _ (text places lists tplaces waves book rows list : List ℕ) (known : Known) (signals listed patterns : ℕ) where
   abbrev all : Ground
-  all = ground_of text places lists tplaces book rows waves known signals
+  all = grounded text places lists tplaces book rows waves known signals
 
   module _ {p : Parts} {d : Read} {run : Body} (h : Runs text places lists tplaces waves book rows list known signals listed patterns p d run) where
     abbrev env : Env

@@ -26,10 +26,10 @@ use Rattle.heads.specs.declared.Known.{Known}
 use Rattle.heads.specs.Known.{Describes}
 use Rattle.heads.specs.Heads.{kind_of}
 use Rattle.pins.specs.Shown.{table_of, Shows, Told, Roomy, Feeding, feed_at}
+use Rattle.plays.specs.declared.Ground.{Ground as Ours}
 use Rattle.plays.specs.declared.Played.{Played}
 use Rattle.plays.specs.declared.Passed.{Passed}
 use Rattle.memos.specs.declared.Use.{Use}
-use Rattle.memos.specs.declared.Found.{Found}
 use Rattle.memos.specs.Tracks.{is_marked, assigned_mark, tracks_length, marks_from, marks_at, Granted, Tracked, Tracking}
 use Rattle.memos.specs.Memo.{before_at, AtLevel, telling, Row, Finds}
 
@@ -47,8 +47,8 @@ pub record Ground : Type 0 where
   pub known : Known
   pub signals : ℕ
 
-abbrev pub ground_of : (text places lists tplaces book rows waves : List ℕ) → Known → ℕ → Ground
-ground_of text places lists tplaces book rows waves known signals = record {
+abbrev pub grounded : (text places lists tplaces book rows waves : List ℕ) → Known → ℕ → Ground
+grounded text places lists tplaces book rows waves known signals = record {
   text = text;
   places = places;
   lists = lists;
@@ -59,6 +59,10 @@ ground_of text places lists tplaces book rows waves known signals = record {
   known = known;
   signals = signals;
 }
+
+-- as the code has it
+abbrev pub ground_of : Ours → Ground
+ground_of g = grounded g.declared.text.now g.declared.places.now g.declared.lists.now g.declared.tplaces.now g.declared.book.now g.declared.rows.now g.waves.now g.declared.known g.signals
 
 -- they hold what is declared in it
 pub record Holding (g : Ground) (E : Env) : Type 0 where
@@ -135,10 +139,10 @@ pub record Heads (g : Ground) (memo : List ℕ) (E : Env) : Type 0 where
   pub each : (j k : ℕ) (c b : Cursor) (table : ℕ) (m : ℕ → ℕ) (table' : ℕ) (pins : ℕ → ℕ)
       → Row memo g.signals j (telling (use_at k c) b table m table' pins) → Passes g E c b
 
--- the row that is found is for the use u, and holds for these pins
-pub record Recalls (waves memo : List ℕ) (n : ℕ) (u : Use) (table : ℕ) (values : List ℕ) (r : Found) : Type 0 where
-  pub finds : Finds memo u table r
-  pub granted : r.is ≡ true → (tabs : Tables) → Marked waves tabs → (i : ℕ) → i < n → Granted tabs (marks_from memo (r.at + before_at + 1) i) i (get_or values i 0)
+-- the row at this place is for the use u, and holds for these pins
+pub record Recalls (waves memo : List ℕ) (n : ℕ) (u : Use) (table : ℕ) (values : List ℕ) (at : ℕ) : Type 0 where
+  pub finds : Finds memo u table at
+  pub granted : (tabs : Tables) → Marked waves tabs → (i : ℕ) → i < n → Granted tabs (marks_from memo (at + before_at + 1) i) i (get_or values i 0)
 
 -- how deep a body stands in the nest of Loops and uses, in which bodies may stand `more` deep: so deep is tracked what it shows and assigns
 abbrev pub nest_of : ℕ → ℕ

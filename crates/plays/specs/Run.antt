@@ -70,3 +70,10 @@ pub record SomeRun (text places lists tplaces waves book rows list : List ℕ) (
 pub record Decides (d : Read) (run : Body) (r : Failing) : Type 0 where
   pub fails : r.failed ≡ true → first_failing d.tables (cycles_of (length d.signals) run) ≡ some r.place
   pub sound : r.failed ≡ false → first_failing d.tables (cycles_of (length d.signals) run) ≡ none
+
+-- the same of a text and its tables as one
+abbrev pub RunsOn : Ground → List ℕ → (listed patterns : ℕ) → Parts → Read → Body → Type 0
+RunsOn g list = Runs g.text g.places g.lists g.tplaces g.waves g.book g.rows list g.known g.signals
+
+abbrev pub SomeRunOn : Ground → List ℕ → (listed patterns : ℕ) → Type 0
+SomeRunOn g list = SomeRun g.text g.places g.lists g.tplaces g.waves g.book g.rows list g.known g.signals

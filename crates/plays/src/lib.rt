@@ -4,7 +4,7 @@
 // is; it plays its first turn, which is tracked so too, and its second where fewer than two second turns are open and the first would not play as well from what it left.
 #![tactic(auto)]
 
-ghost use Rattle.std.specs.Prelude.{◌≡◌, true, false, List, ℕ, ◌+◌, ◌-◌, ◌*◌, ◌%◌, ◌<◌, ◌≤◌, length, get_or};
+ghost use Rattle.std.specs.Prelude.{◌≡◌, true, false, List, ℕ, ◌+◌, ◌-◌, ◌*◌, ◌%◌, ◌<◌, ◌≤◌, length, get_or, IfSome};
 ghost use Rattle.pins.specs.Shown.{table_of};
 ghost use Rattle.sums.specs.Sums.{ok_at};
 ghost use Rattle.tokens.specs.Tokens.{toks};
@@ -17,9 +17,8 @@ ghost use Rattle.meaning.proofs.Turns.{Plain};
 ghost use Rattle.timing.specs.Marks.{table_size};
 ghost use Rattle.measures.specs.Book.{bodies};
 ghost use Rattle.pins.specs.Shown.{values_length};
-ghost use Rattle.heads.specs.declared.Known.{Known};
 ghost use Rattle.texts.specs.declared.Parts.{Parts};
-ghost use Rattle.plays.specs.Run.{SomeListed, PlaysListed, SomeRun, Runs, Decides};
+ghost use Rattle.plays.specs.Run.{SomeListed, PlaysListed, SomeRunOn, RunsOn, Decides};
 ghost use Rattle.plays.specs.Plays.{ground_of, arrays, Heads, Behind, LoopAt, Stood, Used, Promised, nest_of, Looping, PromisedWhere, Begins, Stepped, Shifted, ShiftedOn, Entered, Performed, SomeInvoked, Served, Summed, use_at, Settles, Passing, Recalls, SumMarks, PassedMarks};
 ghost use Rattle.tallies.specs.Rows.{row_size, sum_at, Marked};
 ghost use Rattle.timing.specs.Held.{Held};
@@ -28,13 +27,21 @@ ghost use Rattle.meaning.specs.Bounds.{depth_most};
 ghost use Rattle.memos.specs.Tracks.{is_marked, assigned_mark, marks_most, Joins, shown_marks, tracks_length, marks_from, marks_at, Granted};
 ghost use Rattle.memos.specs.Memo.{memo_row, before_at, AtLevel, Brings};
 
-use heads::Known;
+use heads::Declared;
 use measures::DEPTH;
-use memos::{Found, Use};
+use memos::Use;
 use words::Cursor;
 
 // Second turns that may be open at once: a failing cycle is decided by one pin and the table.
 const SECONDS: usize = 2;
+
+// A text, and what the code has of it: what is declared, which characters have waveforms in the tables, and how many signals there are.
+#[derive(Clone, Copy)]
+pub struct Ground<'a> {
+    pub declared: Declared<'a>,
+    pub waves: &'a [u8],
+    pub signals: usize,
+}
 
 // How a body is played: with so many second turns open in it at most, its Shift so often, in so many levels of bodies at most, at a level of its own.
 // What is tracked of it stands DEPTH - depth deep, in the nest of Loops and uses around it.
@@ -110,16 +117,8 @@ fn mark_turns(memo: &mut [u16], level: usize, given: &[u8], table: usize, t: usi
 
 // Shift { V { .. } }: the V as often as the frame says, and the `}` behind it; what it shows and assigns is tracked.
 fn shift_on<'a>(
-    text: &'a [u8],
+    ground: &'a Ground<'a>,
     c: Cursor,
-    places: &'a [usize],
-    lists: &'a [u16],
-    tplaces: &'a [usize],
-    book: &'a [usize],
-    rows: &'a [u16],
-    waves: &'a [u8],
-    known: Known,
-    signals: usize,
     frame: Frame,
     table: usize,
     values: &mut [u8],
@@ -127,28 +126,26 @@ fn shift_on<'a>(
     args: &mut [usize],
     memo: &mut [u16],
 ) -> Played
-    requires { (alive c ≡ true) × Stood (ground_of text.now places.now lists.now tplaces.now book.now rows.now waves.now known signals) (stream text.now c) frame.depth frame.level table (arrays values.old feeds.old args.old) }
-    ensures { ShiftedOn (ground_of text.now places.now lists.now tplaces.now book.now rows.now waves.now known signals) memo.old memo.new (stream text.now c) frame.depth frame.level table (arrays values.old feeds.old args.old) (arrays values.new feeds.new args.new) frame.seconds frame.turns result }
+    requires { (alive c ≡ true) × Stood (ground_of ground.now) (stream ground.now.declared.text.now c) frame.depth frame.level table (arrays values.old feeds.old args.old) }
+    ensures { ShiftedOn (ground_of ground.now) memo.old memo.new (stream ground.now.declared.text.now c) frame.depth frame.level table (arrays values.old feeds.old args.old) (arrays values.new feeds.new args.new) frame.seconds frame.turns result }
 {
     let mut given = [0; sets::MOST];
-    let h = heads::head(
-        text, c, places, lists, tplaces, book, rows, known, true, DEPTH, false, &mut given, args,
-    );
+    let h = heads::head(&ground.declared, c, true, DEPTH, false, &mut given, args);
     let nest = DEPTH - frame.depth;
-    mark_turns(memo, nest, &given, table, frame.turns, signals);
+    mark_turns(memo, nest, &given, table, frame.turns, ground.signals);
     let failed = pins::vectors(
-        text,
+        ground.declared.text,
         &given,
         values,
         feeds,
         frame.level,
-        signals,
-        waves,
+        ground.signals,
+        ground.waves,
         table,
         frame.turns,
     );
     let behind = h.cursor;
-    let cursor = words::due(text, behind, b"}");
+    let cursor = words::due(ground.declared.text, behind, b"}");
     Played {
         cursor,
         failed,
@@ -160,48 +157,29 @@ fn shift_on<'a>(
 
 // Shift { V { .. } }: the V as often as the frame says, and the `}` behind it.
 pub fn shift<'a>(
-    text: &'a [u8],
+    ground: &'a Ground<'a>,
     c: Cursor,
-    places: &'a [usize],
-    lists: &'a [u16],
-    tplaces: &'a [usize],
-    book: &'a [usize],
-    rows: &'a [u16],
-    waves: &'a [u8],
-    known: Known,
-    signals: usize,
     frame: Frame,
     table: usize,
     values: &mut [u8],
     feeds: &mut [usize],
     args: &mut [usize],
 ) -> Played
-    requires { (alive c ≡ true) × Stood (ground_of text.now places.now lists.now tplaces.now book.now rows.now waves.now known signals) (stream text.now c) frame.depth frame.level table (arrays values.old feeds.old args.old) }
-    ensures { Shifted (ground_of text.now places.now lists.now tplaces.now book.now rows.now waves.now known signals) (stream text.now c) frame.depth frame.level table (arrays values.old feeds.old args.old) (arrays values.new feeds.new args.new) frame.seconds frame.turns result }
+    requires { (alive c ≡ true) × Stood (ground_of ground.now) (stream ground.now.declared.text.now c) frame.depth frame.level table (arrays values.old feeds.old args.old) }
+    ensures { Shifted (ground_of ground.now) (stream ground.now.declared.text.now c) frame.depth frame.level table (arrays values.old feeds.old args.old) (arrays values.new feeds.new args.new) frame.seconds frame.turns result }
 {
     let mut memo = [0u16; 0];
-    shift_on(
-        text, c, places, lists, tplaces, book, rows, waves, known, signals, frame, table, values,
-        feeds, args, &mut memo,
-    )
+    shift_on(ground, c, frame, table, values, feeds, args, &mut memo)
 }
 
 // Loop N { .. }: those of its two turns that are needed. Where what is tracked of the first says that it would play as well from what it left, no cycle of the second fails,
 // and it leaves the same.
 #[cycle(body_of_looped_needed_turns_play_body_statement_statements_used_uses)]
 fn needed_turns<'a>(
-    text: &'a [u8],
+    ground: &'a Ground<'a>,
     c: Cursor,
-    places: &'a [usize],
-    lists: &'a [u16],
-    tplaces: &'a [usize],
-    book: &'a [usize],
-    rows: &'a [u16],
-    waves: &'a [u8],
     marks: &'a [u8],
     sums: &'a [u8],
-    known: Known,
-    signals: usize,
     frame: Frame,
     n: usize,
     table: usize,
@@ -210,8 +188,8 @@ fn needed_turns<'a>(
     args: &mut [usize],
     memo: &mut [u16],
 ) -> Played
-    requires { (alive c ≡ true) × (0 < n) × (0 < frame.depth) × (h : Stood (ground_of text.now places.now lists.now tplaces.now book.now rows.now waves.now known signals) (stream text.now c) (frame.depth - 1) frame.level table (arrays values.old feeds.old args.old)) × Heads (ground_of text.now places.now lists.now tplaces.now book.now rows.now waves.now known signals) memo.old h.env }
-    ensures { PromisedWhere (Looping signals (nest_of (frame.depth - 1)) memo.old) (ground_of text.now places.now lists.now tplaces.now book.now rows.now waves.now known signals) marks.now sums.now memo.old memo.new (stream text.now c) (frame.depth - 1) frame.level (nest_of (frame.depth - 1)) table (arrays values.old feeds.old args.old) (arrays values.new feeds.new args.new) (λ b. loop_few n frame.seconds (λ j. play_few j frame.turns b)) result }
+    requires { (alive c ≡ true) × (0 < n) × (0 < frame.depth) × (h : Stood (ground_of ground.now) (stream ground.now.declared.text.now c) (frame.depth - 1) frame.level table (arrays values.old feeds.old args.old)) × Heads (ground_of ground.now) memo.old h.env }
+    ensures { PromisedWhere (Looping ground.now.signals (nest_of (frame.depth - 1)) memo.old) (ground_of ground.now) marks.now sums.now memo.old memo.new (stream ground.now.declared.text.now c) (frame.depth - 1) frame.level (nest_of (frame.depth - 1)) table (arrays values.old feeds.old args.old) (arrays values.new feeds.new args.new) (λ b. loop_few n frame.seconds (λ j. play_few j frame.turns b)) result }
 {
     let first = Frame {
         seconds: frame.seconds,
@@ -220,8 +198,7 @@ fn needed_turns<'a>(
         level: frame.level,
     };
     let a = statements(
-        text, c, places, lists, tplaces, book, rows, waves, marks, sums, known, signals, first,
-        table, values, feeds, args, memo,
+        ground, c, marks, sums, first, table, values, feeds, args, memo,
     );
     if a.failed | (n < 2) | (frame.seconds == 0) {
         return a;
@@ -229,9 +206,9 @@ fn needed_turns<'a>(
     if begins_again(
         memo,
         DEPTH - first.depth,
-        waves,
+        ground.waves,
         values,
-        signals,
+        ground.signals,
         table,
         a.table,
     ) {
@@ -245,8 +222,7 @@ fn needed_turns<'a>(
         level: frame.level,
     };
     statements(
-        text, c, places, lists, tplaces, book, rows, waves, marks, sums, known, signals, second,
-        after, values, feeds, args, memo,
+        ground, c, marks, sums, second, after, values, feeds, args, memo,
     )
 }
 
@@ -254,19 +230,11 @@ fn needed_turns<'a>(
 // cycle fails.
 #[cycle(body_of_looped_needed_turns_play_body_statement_statements_used_uses)]
 fn looped<'a>(
-    text: &'a [u8],
+    ground: &'a Ground<'a>,
     head: Cursor,
     c: Cursor,
-    places: &'a [usize],
-    lists: &'a [u16],
-    tplaces: &'a [usize],
-    book: &'a [usize],
-    rows: &'a [u16],
-    waves: &'a [u8],
     marks: &'a [u8],
     sums: &'a [u8],
-    known: Known,
-    signals: usize,
     frame: Frame,
     n: usize,
     table: usize,
@@ -275,14 +243,13 @@ fn looped<'a>(
     args: &mut [usize],
     memo: &mut [u16],
 ) -> Played
-    requires { (alive c ≡ true) × (0 < n) × (0 < frame.depth) × (frame.depth ≤ depth_most) × (h : Stood (ground_of text.now places.now lists.now tplaces.now book.now rows.now waves.now known signals) (stream text.now c) (frame.depth - 1) frame.level table (arrays values.old feeds.old args.old)) × Heads (ground_of text.now places.now lists.now tplaces.now book.now rows.now waves.now known signals) memo.old h.env × LoopAt (ground_of text.now places.now lists.now tplaces.now book.now rows.now waves.now known signals) head c n }
-    ensures { (result.ends ≡ false) × PromisedWhere Plain (ground_of text.now places.now lists.now tplaces.now book.now rows.now waves.now known signals) marks.now sums.now memo.old memo.new (stream text.now c) (frame.depth - 1) frame.level (nest_of frame.depth) table (arrays values.old feeds.old args.old) (arrays values.new feeds.new args.new) (λ b. loop_few n frame.seconds (λ j. play_few j frame.turns b)) result }
+    requires { (alive c ≡ true) × (0 < n) × (0 < frame.depth) × (frame.depth ≤ depth_most) × (h : Stood (ground_of ground.now) (stream ground.now.declared.text.now c) (frame.depth - 1) frame.level table (arrays values.old feeds.old args.old)) × Heads (ground_of ground.now) memo.old h.env × LoopAt (ground_of ground.now) head c n }
+    ensures { (result.ends ≡ false) × PromisedWhere Plain (ground_of ground.now) marks.now sums.now memo.old memo.new (stream ground.now.declared.text.now c) (frame.depth - 1) frame.level (nest_of frame.depth) table (arrays values.old feeds.old args.old) (arrays values.new feeds.new args.new) (λ b. loop_few n frame.seconds (λ j. play_few j frame.turns b)) result }
 {
     let inside = DEPTH - (frame.depth - 1);
-    memos::fresh(memo, inside, signals);
+    memos::fresh(memo, inside, ground.signals);
     let turned = needed_turns(
-        text, c, places, lists, tplaces, book, rows, waves, marks, sums, known, signals, frame, n,
-        table, values, feeds, args, memo,
+        ground, c, marks, sums, frame, n, table, values, feeds, args, memo,
     );
     let behind = turned.cursor;
     if turned.failed {
@@ -303,27 +270,19 @@ fn looped<'a>(
         table,
         turned.table,
         values,
-        signals,
+        ground.signals,
     );
     let around = DEPTH - frame.depth;
-    memos::rise(memo, around, signals);
+    memos::rise(memo, around, ground.signals);
     goes_on(behind, turned.table)
 }
 
 // Loop N { .. }, whatever its body: its first turn, and its second where there is one and a second turn may be open.
 pub fn turns<'a>(
-    text: &'a [u8],
+    ground: &'a Ground<'a>,
     c: Cursor,
-    places: &'a [usize],
-    lists: &'a [u16],
-    tplaces: &'a [usize],
-    book: &'a [usize],
-    rows: &'a [u16],
-    waves: &'a [u8],
     marks: &'a [u8],
     sums: &'a [u8],
-    known: Known,
-    signals: usize,
     frame: Frame,
     n: usize,
     table: usize,
@@ -331,13 +290,12 @@ pub fn turns<'a>(
     feeds: &mut [usize],
     args: &mut [usize],
 ) -> Played
-    requires { (alive c ≡ true) × (0 < n) × (0 < frame.depth) × Stood (ground_of text.now places.now lists.now tplaces.now book.now rows.now waves.now known signals) (stream text.now c) (frame.depth - 1) frame.level table (arrays values.old feeds.old args.old) }
-    ensures { Promised (ground_of text.now places.now lists.now tplaces.now book.now rows.now waves.now known signals) marks.now sums.now (stream text.now c) (frame.depth - 1) frame.level table (arrays values.old feeds.old args.old) (arrays values.new feeds.new args.new) (λ b. loop_few n frame.seconds (λ j. play_few j frame.turns b)) result }
+    requires { (alive c ≡ true) × (0 < n) × (0 < frame.depth) × Stood (ground_of ground.now) (stream ground.now.declared.text.now c) (frame.depth - 1) frame.level table (arrays values.old feeds.old args.old) }
+    ensures { Promised (ground_of ground.now) marks.now sums.now (stream ground.now.declared.text.now c) (frame.depth - 1) frame.level table (arrays values.old feeds.old args.old) (arrays values.new feeds.new args.new) (λ b. loop_few n frame.seconds (λ j. play_few j frame.turns b)) result }
 {
     let mut memo = [0u16; 0];
     needed_turns(
-        text, c, places, lists, tplaces, book, rows, waves, marks, sums, known, signals, frame, n,
-        table, values, feeds, args, &mut memo,
+        ground, c, marks, sums, frame, n, table, values, feeds, args, &mut memo,
     )
 }
 
@@ -345,17 +303,9 @@ pub fn turns<'a>(
 // table come back.
 #[cycle(body_of_looped_needed_turns_play_body_statement_statements_used_uses)]
 fn play_body<'a>(
-    text: &'a [u8],
-    places: &'a [usize],
-    lists: &'a [u16],
-    tplaces: &'a [usize],
-    book: &'a [usize],
-    rows: &'a [u16],
-    waves: &'a [u8],
+    ground: &'a Ground<'a>,
     marks: &'a [u8],
     sums: &'a [u8],
-    known: Known,
-    signals: usize,
     frame: Frame,
     i: usize,
     t: usize,
@@ -365,8 +315,8 @@ fn play_body<'a>(
     args: &mut [usize],
     memo: &mut [u16],
 ) -> Played
-    requires { (h : Used (ground_of text.now places.now lists.now tplaces.now book.now rows.now waves.now known signals) i frame.depth frame.level table (arrays values.old feeds.old args.old)) × Heads (ground_of text.now places.now lists.now tplaces.now book.now rows.now waves.now known signals) memo.old h.env }
-    ensures { Performed (ground_of text.now places.now lists.now tplaces.now book.now rows.now waves.now known signals) marks.now sums.now memo.old memo.new i frame.depth frame.level table (arrays values.old feeds.old args.old) (arrays values.new feeds.new args.new) frame.seconds t result }
+    requires { (h : Used (ground_of ground.now) i frame.depth frame.level table (arrays values.old feeds.old args.old)) × Heads (ground_of ground.now) memo.old h.env }
+    ensures { Performed (ground_of ground.now) marks.now sums.now memo.old memo.new i frame.depth frame.level table (arrays values.old feeds.old args.old) (arrays values.new feeds.new args.new) frame.seconds t result }
 {
     let inner = Frame {
         seconds: frame.seconds,
@@ -374,21 +324,19 @@ fn play_body<'a>(
         depth: frame.depth - 1,
         level: frame.level + 1,
     };
-    let start = measures::start_at(book, i);
-    let body = &text[start..];
+    let start = measures::start_at(ground.declared.book, i);
+    let body = &ground.declared.text[start..];
     if i < measures::PROCEDURES {
         return body_of(
-            text, body, places, lists, tplaces, book, rows, waves, marks, sums, known, signals,
-            inner, table, values, feeds, args, memo,
+            ground, body, marks, sums, inner, table, values, feeds, args, memo,
         );
     }
     pins::leave(values, inner.level);
     let r = body_of(
-        text, body, places, lists, tplaces, book, rows, waves, marks, sums, known, signals, inner,
-        table, values, feeds, args, memo,
+        ground, body, marks, sums, inner, table, values, feeds, args, memo,
     );
     pins::come_back(values, inner.level);
-    memos::fresh(memo, DEPTH - inner.depth, signals);
+    memos::fresh(memo, DEPTH - inner.depth, ground.signals);
     let cursor = r.cursor;
     Played {
         cursor,
@@ -401,17 +349,9 @@ fn play_body<'a>(
 
 // Macro or Call of the body of number i, of which nothing is remembered.
 pub fn enter<'a>(
-    text: &'a [u8],
-    places: &'a [usize],
-    lists: &'a [u16],
-    tplaces: &'a [usize],
-    book: &'a [usize],
-    rows: &'a [u16],
-    waves: &'a [u8],
+    ground: &'a Ground<'a>,
     marks: &'a [u8],
     sums: &'a [u8],
-    known: Known,
-    signals: usize,
     frame: Frame,
     i: usize,
     t: usize,
@@ -420,13 +360,12 @@ pub fn enter<'a>(
     feeds: &mut [usize],
     args: &mut [usize],
 ) -> Played
-    requires { Used (ground_of text.now places.now lists.now tplaces.now book.now rows.now waves.now known signals) i frame.depth frame.level table (arrays values.old feeds.old args.old) }
-    ensures { Entered (ground_of text.now places.now lists.now tplaces.now book.now rows.now waves.now known signals) marks.now sums.now i frame.depth frame.level table (arrays values.old feeds.old args.old) (arrays values.new feeds.new args.new) frame.seconds t result }
+    requires { Used (ground_of ground.now) i frame.depth frame.level table (arrays values.old feeds.old args.old) }
+    ensures { Entered (ground_of ground.now) marks.now sums.now i frame.depth frame.level table (arrays values.old feeds.old args.old) (arrays values.new feeds.new args.new) frame.seconds t result }
 {
     let mut memo = [0u16; 0];
     play_body(
-        text, places, lists, tplaces, book, rows, waves, marks, sums, known, signals, frame, i, t,
-        table, values, feeds, args, &mut memo,
+        ground, marks, sums, frame, i, t, table, values, feeds, args, &mut memo,
     )
 }
 
@@ -443,12 +382,10 @@ fn settle(values: &mut [u8], left: &[u8], signals: usize)
 }
 
 // Macro or Call of the body of number i, whose sum may be known: where the state grants what that asks, no cycle of the body fails, and what it leaves is left.
-fn pass(
-    text: &[u8],
-    waves: &[u8],
-    marks: &[u8],
-    sums: &[u8],
-    signals: usize,
+fn pass<'a>(
+    ground: &'a Ground<'a>,
+    marks: &'a [u8],
+    sums: &'a [u8],
     i: usize,
     t: usize,
     given: &[u8],
@@ -456,8 +393,8 @@ fn pass(
     table: usize,
     values: &mut [u8],
 ) -> Passed
-    requires { (length waves.now ≡ tables_most * table_size) × (signals ≤ signals_most) × (i < bodies) × (length given.now ≡ signals_most) × (length args.now ≡ signals_most * 2) × (length values.old ≡ values_length) }
-    ensures { (places lists tplaces book rows : List ℕ) (known : Known) → Passing (ground_of text.now places lists tplaces book rows waves.now known signals) marks.now sums.now i t table given.now args.now values.old values.new result }
+    requires { (length ground.now.waves.now ≡ tables_most * table_size) × (ground.now.signals ≤ signals_most) × (i < bodies) × (length given.now ≡ signals_most) × (length args.now ≡ signals_most * 2) × (length values.old ≡ values_length) }
+    ensures { Passing (ground_of ground.now) marks.now sums.now i t table given.now args.now values.old values.new result }
 {
     let stay = Passed { done: false, table };
     if (marks.len() <= i) | (sums.len() < i * tallies::ROW + tallies::ROW) {
@@ -469,11 +406,20 @@ fn pass(
     let mut left = [0; sets::MOST];
     if i < measures::PROCEDURES {
         if !tallies::asks(
-            text, sums, i, waves, signals, given, args, table, values, &mut left,
+            ground.declared.text,
+            sums,
+            i,
+            ground.waves,
+            ground.signals,
+            given,
+            args,
+            table,
+            values,
+            &mut left,
         ) {
             return stay;
         }
-        settle(values, &left, signals);
+        settle(values, &left, ground.signals);
         return Passed {
             done: true,
             table: tallies::table_behind(sums, i, table),
@@ -481,7 +427,16 @@ fn pass(
     }
     let bare = [0; sets::MOST];
     let done = tallies::asks(
-        text, sums, i, waves, signals, given, args, table, &bare, &mut left,
+        ground.declared.text,
+        sums,
+        i,
+        ground.waves,
+        ground.signals,
+        given,
+        args,
+        table,
+        &bare,
+        &mut left,
     );
     Passed { done, table }
 }
@@ -596,104 +551,98 @@ fn begins_again(
 }
 
 // The row of a statement from this table, if it is remembered and holds for these pins.
-fn recall(memo: &[u16], waves: &[u8], u: Use, table: usize, values: &[u8], signals: usize) -> Found
+fn recall(
+    memo: &[u16],
+    waves: &[u8],
+    u: Use,
+    table: usize,
+    values: &[u8],
+    signals: usize,
+) -> Option<usize>
     requires { (length waves.now ≡ tables_most * table_size) × (signals ≤ signals_most) × (signals ≤ length values.now) }
-    ensures { Recalls waves.now memo.now signals u table values.now result }
+    ensures { IfSome result (λ at. Recalls waves.now memo.now signals u table values.now at) }
 {
-    let f = memos::find(memo, u, table);
-    if !f.is {
-        return f;
+    let at = memos::find(memo, u, table)?;
+    if !pins_granted(memo, at + memos::MARKED, waves, values, signals) {
+        return None;
     }
-    let at = f.at;
-    let is = pins_granted(memo, at + memos::MARKED, waves, values, signals);
-    Found { is, at }
+    Some(at)
 }
 
 // Macro or Call at the cursor c, with another behind it, of the body of number i: it is played, and remembered where no cycle fails; what it shows and
 // assigns is tracked, a level deeper and then here.
 #[cycle(body_of_looped_needed_turns_play_body_statement_statements_used_uses)]
 fn used<'a>(
-    text: &'a [u8],
+    ground: &'a Ground<'a>,
     c: Cursor,
-    behind: Cursor,
-    places: &'a [usize],
-    lists: &'a [u16],
-    tplaces: &'a [usize],
-    book: &'a [usize],
-    rows: &'a [u16],
-    waves: &'a [u8],
+    past: Cursor,
     marks: &'a [u8],
     sums: &'a [u8],
-    known: Known,
-    signals: usize,
     frame: Frame,
     i: usize,
     t: usize,
-    given: &'a [u8],
+    given: &[u8],
     table: usize,
     values: &mut [u8],
     feeds: &mut [usize],
     args: &mut [usize],
     memo: &mut [u16],
 ) -> Played
-    requires { (h : SomeInvoked (ground_of text.now places.now lists.now tplaces.now book.now rows.now waves.now known signals) c i t frame.depth frame.level table given.now (arrays values.old feeds.old args.old)) × Heads (ground_of text.now places.now lists.now tplaces.now book.now rows.now waves.now known signals) memo.old h.env × Behind (ground_of text.now places.now lists.now tplaces.now book.now rows.now waves.now known signals) c behind }
-    ensures { Served (ground_of text.now places.now lists.now tplaces.now book.now rows.now waves.now known signals) marks.now sums.now memo.old memo.new c i t frame.depth frame.level table given.now (arrays values.old feeds.old args.old) (arrays values.new feeds.new args.new) frame.seconds result }
+    requires { (h : SomeInvoked (ground_of ground.now) c i t frame.depth frame.level table given.now (arrays values.old feeds.old args.old)) × Heads (ground_of ground.now) memo.old h.env × Behind (ground_of ground.now) c past }
+    ensures { Served (ground_of ground.now) marks.now sums.now memo.old memo.new c i t frame.depth frame.level table given.now (arrays values.old feeds.old args.old) (arrays values.new feeds.new args.new) frame.seconds result }
 {
     let within = DEPTH - (frame.depth - 1);
-    memos::fresh(memo, within, signals);
+    memos::fresh(memo, within, ground.signals);
     pins::supply(given, args, feeds, frame.level + 1);
     let left = play_body(
-        text, places, lists, tplaces, book, rows, waves, marks, sums, known, signals, frame, i, t,
-        table, values, feeds, args, memo,
+        ground, marks, sums, frame, i, t, table, values, feeds, args, memo,
     );
     if left.failed {
         return left;
     }
     let u = use_at(frame.seconds, c);
-    memos::remember(memo, u, behind, within, table, left.table, values, signals);
-    memos::rise(memo, DEPTH - frame.depth, signals);
+    memos::remember(
+        memo,
+        u,
+        past,
+        within,
+        table,
+        left.table,
+        values,
+        ground.signals,
+    );
+    memos::rise(memo, DEPTH - frame.depth, ground.signals);
     left
 }
 
 // Macro or Call at the cursor c, with another past it, of the body of number i: it is passed where its sum is known and granted, else played.
 #[cycle(body_of_looped_needed_turns_play_body_statement_statements_used_uses)]
 fn uses<'a>(
-    text: &'a [u8],
+    ground: &'a Ground<'a>,
     c: Cursor,
     past: Cursor,
-    places: &'a [usize],
-    lists: &'a [u16],
-    tplaces: &'a [usize],
-    book: &'a [usize],
-    rows: &'a [u16],
-    waves: &'a [u8],
     marks: &'a [u8],
     sums: &'a [u8],
-    known: Known,
-    signals: usize,
     frame: Frame,
     i: usize,
     t: usize,
-    given: &'a [u8],
+    given: &[u8],
     table: usize,
     values: &mut [u8],
     feeds: &mut [usize],
     args: &mut [usize],
     memo: &mut [u16],
 ) -> Played
-    requires { (h : SomeInvoked (ground_of text.now places.now lists.now tplaces.now book.now rows.now waves.now known signals) c i t frame.depth frame.level table given.now (arrays values.old feeds.old args.old)) × Heads (ground_of text.now places.now lists.now tplaces.now book.now rows.now waves.now known signals) memo.old h.env × Behind (ground_of text.now places.now lists.now tplaces.now book.now rows.now waves.now known signals) c past }
-    ensures { (result.cursor ≡ past) × (result.ends ≡ false) × Served (ground_of text.now places.now lists.now tplaces.now book.now rows.now waves.now known signals) marks.now sums.now memo.old memo.new c i t frame.depth frame.level table given.now (arrays values.old feeds.old args.old) (arrays values.new feeds.new args.new) frame.seconds result }
+    requires { (h : SomeInvoked (ground_of ground.now) c i t frame.depth frame.level table given.now (arrays values.old feeds.old args.old)) × Heads (ground_of ground.now) memo.old h.env × Behind (ground_of ground.now) c past }
+    ensures { (result.cursor ≡ past) × (result.ends ≡ false) × Served (ground_of ground.now) marks.now sums.now memo.old memo.new c i t frame.depth frame.level table given.now (arrays values.old feeds.old args.old) (arrays values.new feeds.new args.new) frame.seconds result }
 {
-    let p = pass(
-        text, waves, marks, sums, signals, i, t, given, args, table, values,
-    );
+    let p = pass(ground, marks, sums, i, t, given, args, table, values);
     if p.done {
-        mark_passed(memo, DEPTH - frame.depth, sums, i, table, signals);
+        mark_passed(memo, DEPTH - frame.depth, sums, i, table, ground.signals);
         return goes_on(past, p.table);
     }
     let r = used(
-        text, c, past, places, lists, tplaces, book, rows, waves, marks, sums, known, signals,
-        frame, i, t, given, table, values, feeds, args, memo,
+        ground, c, past, marks, sums, frame, i, t, given, table, values, feeds, args, memo,
     );
     Played {
         cursor: past,
@@ -719,18 +668,10 @@ fn repeated(memo: &mut [u16], nest: usize, o: usize, values: &mut [u8], signals:
 // it assigned is left.
 #[cycle(body_of_looped_needed_turns_play_body_statement_statements_used_uses)]
 fn statement<'a>(
-    text: &'a [u8],
+    ground: &'a Ground<'a>,
     c: Cursor,
-    places: &'a [usize],
-    lists: &'a [u16],
-    tplaces: &'a [usize],
-    book: &'a [usize],
-    rows: &'a [u16],
-    waves: &'a [u8],
     marks: &'a [u8],
     sums: &'a [u8],
-    known: Known,
-    signals: usize,
     frame: Frame,
     table: usize,
     values: &mut [u8],
@@ -738,18 +679,15 @@ fn statement<'a>(
     args: &mut [usize],
     memo: &mut [u16],
 ) -> Played
-    requires { (alive c ≡ true) × (h : Stood (ground_of text.now places.now lists.now tplaces.now book.now rows.now waves.now known signals) (stream text.now c) frame.depth frame.level table (arrays values.old feeds.old args.old)) × Heads (ground_of text.now places.now lists.now tplaces.now book.now rows.now waves.now known signals) memo.old h.env }
-    ensures { Stepped (ground_of text.now places.now lists.now tplaces.now book.now rows.now waves.now known signals) marks.now sums.now memo.old memo.new (stream text.now c) frame.depth frame.level table (arrays values.old feeds.old args.old) (arrays values.new feeds.new args.new) frame.seconds frame.turns result }
+    requires { (alive c ≡ true) × (h : Stood (ground_of ground.now) (stream ground.now.declared.text.now c) frame.depth frame.level table (arrays values.old feeds.old args.old)) × Heads (ground_of ground.now) memo.old h.env }
+    ensures { Stepped (ground_of ground.now) marks.now sums.now memo.old memo.new (stream ground.now.declared.text.now c) frame.depth frame.level table (arrays values.old feeds.old args.old) (arrays values.new feeds.new args.new) frame.seconds frame.turns result }
 {
     let u = use_at(frame.seconds, c);
-    let f = recall(memo, waves, u, table, values, signals);
-    if f.is {
-        return repeated(memo, DEPTH - frame.depth, f.at, values, signals);
+    if let Some(at) = recall(memo, ground.waves, u, table, values, ground.signals) {
+        return repeated(memo, DEPTH - frame.depth, at, values, ground.signals);
     }
     let mut given = [0; sets::MOST];
-    let h = heads::head(
-        text, c, places, lists, tplaces, book, rows, known, true, DEPTH, false, &mut given, args,
-    );
+    let h = heads::head(&ground.declared, c, true, DEPTH, false, &mut given, args);
     let cursor = h.cursor;
     let what = h.what;
     match what {
@@ -761,15 +699,15 @@ fn statement<'a>(
             ends: true,
         },
         heads::What::Vector(place) => {
-            memos::mark(memo, DEPTH - frame.depth, &given, table, signals);
+            memos::mark(memo, DEPTH - frame.depth, &given, table, ground.signals);
             let failed = pins::vectors(
-                text,
+                ground.declared.text,
                 &given,
                 values,
                 feeds,
                 frame.level,
-                signals,
-                waves,
+                ground.signals,
+                ground.waves,
                 table,
                 1,
             );
@@ -782,22 +720,30 @@ fn statement<'a>(
             }
         }
         heads::What::Assigns => {
-            memos::mark(memo, DEPTH - frame.depth, &given, pins::NONE, signals);
-            pins::put(text, &given, values, feeds, frame.level, signals);
+            memos::mark(
+                memo,
+                DEPTH - frame.depth,
+                &given,
+                pins::NONE,
+                ground.signals,
+            );
+            pins::put(
+                ground.declared.text,
+                &given,
+                values,
+                feeds,
+                frame.level,
+                ground.signals,
+            );
             goes_on(cursor, table)
         }
         heads::What::Chooses(k) => goes_on(cursor, k),
         heads::What::Loops(n) => looped(
-            text, c, cursor, places, lists, tplaces, book, rows, waves, marks, sums, known,
-            signals, frame, n, table, values, feeds, args, memo,
+            ground, c, cursor, marks, sums, frame, n, table, values, feeds, args, memo,
         ),
-        heads::What::Shifts => shift_on(
-            text, cursor, places, lists, tplaces, book, rows, waves, known, signals, frame, table,
-            values, feeds, args, memo,
-        ),
+        heads::What::Shifts => shift_on(ground, cursor, frame, table, values, feeds, args, memo),
         heads::What::Uses(i, t) => uses(
-            text, c, cursor, places, lists, tplaces, book, rows, waves, marks, sums, known,
-            signals, frame, i, t, &given, table, values, feeds, args, memo,
+            ground, c, cursor, marks, sums, frame, i, t, &given, table, values, feeds, args, memo,
         ),
     }
 }
@@ -807,18 +753,10 @@ fn statement<'a>(
 // Statements from the cursor on, up to their `}`.
 #[cycle(body_of_looped_needed_turns_play_body_statement_statements_used_uses)]
 fn statements<'a>(
-    text: &'a [u8],
+    ground: &'a Ground<'a>,
     c: Cursor,
-    places: &'a [usize],
-    lists: &'a [u16],
-    tplaces: &'a [usize],
-    book: &'a [usize],
-    rows: &'a [u16],
-    waves: &'a [u8],
     marks: &'a [u8],
     sums: &'a [u8],
-    known: Known,
-    signals: usize,
     frame: Frame,
     table: usize,
     values: &mut [u8],
@@ -826,15 +764,14 @@ fn statements<'a>(
     args: &mut [usize],
     memo: &mut [u16],
 ) -> Played
-    requires { (alive c ≡ true) × (h : Stood (ground_of text.now places.now lists.now tplaces.now book.now rows.now waves.now known signals) (stream text.now c) frame.depth frame.level table (arrays values.old feeds.old args.old)) × Heads (ground_of text.now places.now lists.now tplaces.now book.now rows.now waves.now known signals) memo.old h.env }
-    ensures { PromisedWhere (λ b. Unit {0}) (ground_of text.now places.now lists.now tplaces.now book.now rows.now waves.now known signals) marks.now sums.now memo.old memo.new (stream text.now c) frame.depth frame.level (nest_of frame.depth) table (arrays values.old feeds.old args.old) (arrays values.new feeds.new args.new) (play_few frame.seconds frame.turns) result }
+    requires { (alive c ≡ true) × (h : Stood (ground_of ground.now) (stream ground.now.declared.text.now c) frame.depth frame.level table (arrays values.old feeds.old args.old)) × Heads (ground_of ground.now) memo.old h.env }
+    ensures { PromisedWhere (λ b. Unit {0}) (ground_of ground.now) marks.now sums.now memo.old memo.new (stream ground.now.declared.text.now c) frame.depth frame.level (nest_of frame.depth) table (arrays values.old feeds.old args.old) (arrays values.new feeds.new args.new) (play_few frame.seconds frame.turns) result }
 {
     let mut cursor = c;
     let mut chosen = table;
     loop {
         let r = statement(
-            text, cursor, places, lists, tplaces, book, rows, waves, marks, sums, known, signals,
-            frame, chosen, values, feeds, args, memo,
+            ground, cursor, marks, sums, frame, chosen, values, feeds, args, memo,
         );
         if r.failed | r.ends {
             return r;
@@ -847,18 +784,10 @@ fn statements<'a>(
 // The statements of a body, which is the part of the text that begins with it.
 #[cycle(body_of_looped_needed_turns_play_body_statement_statements_used_uses)]
 fn body_of<'a>(
-    text: &'a [u8],
+    ground: &'a Ground<'a>,
     body: &'a [u8],
-    places: &'a [usize],
-    lists: &'a [u16],
-    tplaces: &'a [usize],
-    book: &'a [usize],
-    rows: &'a [u16],
-    waves: &'a [u8],
     marks: &'a [u8],
     sums: &'a [u8],
-    known: Known,
-    signals: usize,
     frame: Frame,
     table: usize,
     values: &mut [u8],
@@ -866,13 +795,15 @@ fn body_of<'a>(
     args: &mut [usize],
     memo: &mut [u16],
 ) -> Played
-    requires { (length body.now ≤ length text.now) × (h : Stood (ground_of text.now places.now lists.now tplaces.now book.now rows.now waves.now known signals) (toks text.now (length text.now - length body.now)) frame.depth frame.level table (arrays values.old feeds.old args.old)) × Heads (ground_of text.now places.now lists.now tplaces.now book.now rows.now waves.now known signals) memo.old h.env }
-    ensures { PromisedWhere (λ b. Unit {0}) (ground_of text.now places.now lists.now tplaces.now book.now rows.now waves.now known signals) marks.now sums.now memo.old memo.new (toks text.now (length text.now - length body.now)) frame.depth frame.level (nest_of frame.depth) table (arrays values.old feeds.old args.old) (arrays values.new feeds.new args.new) (play_few frame.seconds frame.turns) result }
+    requires { (length body.now ≤ length ground.now.declared.text.now) × (h : Stood (ground_of ground.now) (toks ground.now.declared.text.now (length ground.now.declared.text.now - length body.now)) frame.depth frame.level table (arrays values.old feeds.old args.old)) × Heads (ground_of ground.now) memo.old h.env }
+    ensures { PromisedWhere (λ b. Unit {0}) (ground_of ground.now) marks.now sums.now memo.old memo.new (toks ground.now.declared.text.now (length ground.now.declared.text.now - length body.now)) frame.depth frame.level (nest_of frame.depth) table (arrays values.old feeds.old args.old) (arrays values.new feeds.new args.new) (play_few frame.seconds frame.turns) result }
 {
-    let c = words::cursor_at(text, text.len() - body.len());
+    let c = words::cursor_at(
+        ground.declared.text,
+        ground.declared.text.len() - body.len(),
+    );
     statements(
-        text, c, places, lists, tplaces, book, rows, waves, marks, sums, known, signals, frame,
-        table, values, feeds, args, memo,
+        ground, c, marks, sums, frame, table, values, feeds, args, memo,
     )
 }
 
@@ -880,18 +811,10 @@ fn body_of<'a>(
 
 // The listed pattern of number k, from its own first byte. It starts with no table and all signals unassigned.
 fn pattern<'a>(
-    text: &'a [u8],
-    places: &'a [usize],
-    lists: &'a [u16],
-    tplaces: &'a [usize],
-    book: &'a [usize],
-    rows: &'a [u16],
-    waves: &'a [u8],
+    ground: &'a Ground<'a>,
     marks: &'a [u8],
     sums: &'a [u8],
     list: &'a [usize],
-    known: Known,
-    signals: usize,
     patterns: usize,
     k: usize,
     values: &mut [u8],
@@ -899,13 +822,18 @@ fn pattern<'a>(
     args: &mut [usize],
     memo: &mut [u16],
 ) -> Played
-    requires { (h : SomeListed (ground_of text.now places.now lists.now tplaces.now book.now rows.now waves.now known signals) list.now patterns k (arrays values.old feeds.old args.old)) × Heads (ground_of text.now places.now lists.now tplaces.now book.now rows.now waves.now known signals) memo.old h.env }
-    ensures { PlaysListed (ground_of text.now places.now lists.now tplaces.now book.now rows.now waves.now known signals) marks.now sums.now memo.old memo.new list.now patterns k (arrays values.new feeds.new args.new) result }
+    requires { (h : SomeListed (ground_of ground.now) list.now patterns k (arrays values.old feeds.old args.old)) × Heads (ground_of ground.now) memo.old h.env }
+    ensures { PlaysListed (ground_of ground.now) marks.now sums.now memo.old memo.new list.now patterns k (arrays values.new feeds.new args.new) result }
 {
-    let names = &book[measures::PATTERNS * 2..];
-    let i = words::find(text, words::name_bytes(text, list, k), names, patterns);
-    let start = measures::start_at(book, measures::PATTERNS + i);
-    let body = &text[start..];
+    let names = &ground.declared.book[measures::PATTERNS * 2..];
+    let i = words::find(
+        ground.declared.text,
+        words::name_bytes(ground.declared.text, list, k),
+        names,
+        patterns,
+    );
+    let start = measures::start_at(ground.declared.book, measures::PATTERNS + i);
+    let body = &ground.declared.text[start..];
     let frame = Frame {
         seconds: SECONDS,
         turns: 0,
@@ -914,18 +842,10 @@ fn pattern<'a>(
     };
     pins::leave(values, 0);
     body_of(
-        text,
+        ground,
         body,
-        places,
-        lists,
-        tplaces,
-        book,
-        rows,
-        waves,
         marks,
         sums,
-        known,
-        signals,
         frame,
         pins::NONE,
         values,
@@ -937,23 +857,15 @@ fn pattern<'a>(
 
 // The listed patterns in order: does a cycle fail, and where does the first one's V stand?
 pub fn first_failing<'a>(
-    text: &'a [u8],
-    places: &'a [usize],
-    lists: &'a [u16],
-    tplaces: &'a [usize],
-    book: &'a [usize],
-    rows: &'a [u16],
-    waves: &'a [u8],
+    ground: &'a Ground<'a>,
     marks: &'a [u8],
     sums: &'a [u8],
     list: &'a [usize],
-    known: Known,
-    signals: usize,
     listed: usize,
     patterns: usize,
 ) -> Failing
-    requires { SomeRun text.now places.now lists.now tplaces.now waves.now book.now rows.now list.now known signals listed patterns }
-    ensures { (p : Parts) (d : Read) (run : Body) (h : Runs text.now places.now lists.now tplaces.now waves.now book.now rows.now list.now known signals listed patterns p d run) → Summed (ground_of text.now places.now lists.now tplaces.now book.now rows.now waves.now known signals) marks.now sums.now h.tabled.parts.env → Decides d run result }
+    requires { SomeRunOn (ground_of ground.now) list.now listed patterns }
+    ensures { (p : Parts) (d : Read) (run : Body) (h : RunsOn (ground_of ground.now) list.now listed patterns p d run) → Summed (ground_of ground.now) marks.now sums.now h.tabled.parts.env → Decides d run result }
 {
     let mut values = [0u8; pins::VALUES];
     let mut feeds = [0usize; pins::FEEDS];
@@ -962,18 +874,10 @@ pub fn first_failing<'a>(
     let mut k = 0;
     while k < listed {
         let r = pattern(
-            text,
-            places,
-            lists,
-            tplaces,
-            book,
-            rows,
-            waves,
+            ground,
             marks,
             sums,
             list,
-            known,
-            signals,
             patterns,
             k,
             &mut values,

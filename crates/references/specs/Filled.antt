@@ -13,6 +13,7 @@ use Rattle.words.specs.Cursor.{alive, stream}
 use Rattle.words.specs.Values.{told}
 use Rattle.labels.specs.Table.{words_of, number_of}
 use Rattle.heads.specs.declared.Known.{Known}
+use Rattle.heads.specs.declared.Declared.{Declared}
 use Rattle.heads.specs.Known.{Describes}
 use Rattle.references.specs.References.{referred}
 use Rattle.references.specs.declared.Passed.{Passed}
@@ -63,6 +64,10 @@ tables text places lists tplaces book rows known labels count = record {
   labels = labels;
   count = count;
 }
+
+-- as the code has them
+abbrev pub tables_of : Declared → (labels : List ℕ) → ℕ → Tables
+tables_of d = tables d.text.now d.places.now d.lists.now d.tplaces.now d.book.now d.rows.now d.known
 
 -- from ts the tokens hold the body b, behind which us stand, and n cycles come before it: in it bodies stand `more` deep at most, no Shift is its own, and its
 -- last cycle is within the bound

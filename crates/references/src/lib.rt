@@ -6,9 +6,9 @@ ghost use Rattle.words.specs.Cursor.{alive, stream};
 ghost use Rattle.meaning.specs.Bounds.{signals_most, cycles_most};
 ghost use Rattle.labels.specs.Table.{Held};
 ghost use Rattle.references.specs.References.{name_at, past_by};
-ghost use Rattle.references.specs.Filled.{noted, Filled, past_of, tables, Stood, Promised, Stepped};
+ghost use Rattle.references.specs.Filled.{noted, Filled, past_of, tables_of, Stood, Promised, Stepped};
 
-use heads::Known;
+use heads::Declared;
 use measures::DEPTH;
 use words::Cursor;
 
@@ -129,14 +129,8 @@ fn turned(turns: usize, start: usize, stop: usize) -> usize
 // The statement at the cursor, or the `}` there.
 #[cycle(fill_statement)]
 fn statement<'a>(
-    text: &'a [u8],
+    declared: &'a Declared<'a>,
     c: Cursor,
-    places: &'a [usize],
-    lists: &'a [u16],
-    tplaces: &'a [usize],
-    book: &'a [usize],
-    rows: &'a [u16],
-    known: Known,
     labels: &'a [u16],
     chains: &'a [u16],
     nexts: &'a [u16],
@@ -146,13 +140,11 @@ fn statement<'a>(
     args: &mut [usize],
     table: &mut [usize],
 ) -> Passed
-    requires { (alive c ≡ true) × (length args.old ≡ signals_most * 2) × Held text.now labels.now chains.now nexts.now count × (count ≤ length table.old) × Stood (tables text.now places.now lists.now tplaces.now book.now rows.now known labels.now count) (stream text.now c) depth cycles }
-    ensures { (length args.new ≡ signals_most * 2) × (length table.new ≡ length table.old) × Stepped (tables text.now places.now lists.now tplaces.now book.now rows.now known labels.now count) (stream text.now c) depth cycles table.old result table.new }
+    requires { (alive c ≡ true) × (length args.old ≡ signals_most * 2) × Held declared.now.text.now labels.now chains.now nexts.now count × (count ≤ length table.old) × Stood (tables_of declared.now labels.now count) (stream declared.now.text.now c) depth cycles }
+    ensures { (length args.new ≡ signals_most * 2) × (length table.new ≡ length table.old) × Stepped (tables_of declared.now labels.now count) (stream declared.now.text.now c) depth cycles table.old result table.new }
 {
     let mut given = [0; sets::MOST];
-    let h = heads::head(
-        text, c, places, lists, tplaces, book, rows, known, true, DEPTH, false, &mut given, args,
-    );
+    let h = heads::head(declared, c, true, DEPTH, false, &mut given, args);
     let cursor = h.cursor;
     let what = h.what;
     match what {
@@ -163,20 +155,23 @@ fn statement<'a>(
         },
         heads::What::Vector(place) => onward(cursor, cycles + 1),
         heads::What::Assigns => {
-            note(text, c, labels, chains, nexts, count, cycles, table);
+            note(
+                declared.text,
+                c,
+                labels,
+                chains,
+                nexts,
+                count,
+                cycles,
+                table,
+            );
             onward(cursor, cycles)
         }
         heads::What::Chooses(k) => onward(cursor, cycles),
         heads::What::Loops(n) => {
             let r = fill(
-                text,
+                declared,
                 cursor,
-                places,
-                lists,
-                tplaces,
-                book,
-                rows,
-                known,
                 labels,
                 chains,
                 nexts,
@@ -191,7 +186,7 @@ fn statement<'a>(
         }
         heads::What::Shifts => onward(cursor, cycles),
         heads::What::Uses(i, t) => {
-            let m = measures::used(t, measures::measure_at(book, i));
+            let m = measures::used(t, measures::measure_at(declared.book, i));
             onward(cursor, cycles + m.cycles)
         }
     }
@@ -200,14 +195,8 @@ fn statement<'a>(
 // Statements from the cursor on, up to their `}`, where so many cycles come before them: each X's name has its place in the table, if nothing stands there yet.
 #[cycle(fill_statement)]
 pub fn fill<'a>(
-    text: &'a [u8],
+    declared: &'a Declared<'a>,
     c: Cursor,
-    places: &'a [usize],
-    lists: &'a [u16],
-    tplaces: &'a [usize],
-    book: &'a [usize],
-    rows: &'a [u16],
-    known: Known,
     labels: &'a [u16],
     chains: &'a [u16],
     nexts: &'a [u16],
@@ -217,15 +206,14 @@ pub fn fill<'a>(
     args: &mut [usize],
     table: &mut [usize],
 ) -> Passed
-    requires { (alive c ≡ true) × (length args.old ≡ signals_most * 2) × Held text.now labels.now chains.now nexts.now count × (count ≤ length table.old) × Stood (tables text.now places.now lists.now tplaces.now book.now rows.now known labels.now count) (stream text.now c) depth cycles }
-    ensures { (length args.new ≡ signals_most * 2) × (length table.new ≡ length table.old) × Promised (tables text.now places.now lists.now tplaces.now book.now rows.now known labels.now count) (stream text.now c) depth cycles table.old result table.new }
+    requires { (alive c ≡ true) × (length args.old ≡ signals_most * 2) × Held declared.now.text.now labels.now chains.now nexts.now count × (count ≤ length table.old) × Stood (tables_of declared.now labels.now count) (stream declared.now.text.now c) depth cycles }
+    ensures { (length args.new ≡ signals_most * 2) × (length table.new ≡ length table.old) × Promised (tables_of declared.now labels.now count) (stream declared.now.text.now c) depth cycles table.old result table.new }
 {
     let mut cursor = c;
     let mut passed = cycles;
     loop {
         let r = statement(
-            text, cursor, places, lists, tplaces, book, rows, known, labels, chains, nexts, count,
-            depth, passed, args, table,
+            declared, cursor, labels, chains, nexts, count, depth, passed, args, table,
         );
         if r.ends {
             return r;

@@ -9,11 +9,7 @@ pub fn copy(buffer: &mut [u8], from: usize, to: usize, count: usize)
     requires { (from + count ≤ to) × (to + count ≤ length buffer.old) }
     ensures { Copies buffer.old from to count buffer.new }
 {
-    let mut i = 0;
-    while i < count {
-        buffer[to + i] = buffer[from + i];
-        i += 1;
-    }
+    buffer.copy_within(from..from + count, to);
 }
 
 // The last `step` bytes before a place, again and again behind it. All that is there already is copied at once, so that the length of a run doubles.
@@ -23,10 +19,7 @@ pub fn extend(buffer: &mut [u8], at: usize, step: usize, count: usize)
 {
     let mut done = 0;
     while done < count {
-        let mut run = step + done;
-        if count - done < run {
-            run = count - done;
-        }
+        let run = (step + done).min(count - done);
         copy(buffer, at - step, at + done, run);
         done += run;
     }

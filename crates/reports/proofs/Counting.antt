@@ -8,15 +8,15 @@ use mathlib.Core.List.{List, [], ◌∷◌, ◌++◌}
 use lib.Dec.{leb, ltb}
 use lib.ListN.{length, length-append}
 use borrow.Author.Tests.{lt-leb, le-leb, ltb-true, ltb-false}
+use Rattle.std.specs.Prelude.{Option as Maybe}
 use Rattle.meaning.specs.Reader.{ahead_of, while}
 use Rattle.meaning.specs.Meaning.{Answer, given, refused, answering}
 use Rattle.words.specs.Cursor.{stream, alive, Goes}
-use Rattle.words.specs.Values.{told}
+use Rattle.words.specs.Values.{told, value_of}
 use Rattle.words.specs.declared.Cursor.{Cursor}
 use Rattle.words.proofs.Loops.{Leads, turned, less, room}
 use Rattle.reports.specs.Report.{Offset, Fail, not_in_pattern, offset, one_more, answered_at}
 use Rattle.reports.specs.Read.{earlier, outside_at, first_outside}
-use Rattle.reports.specs.declared.Outside.{Outside}
 use Rattle.reports.proofs.Passing.{takes_more, more_goes}
 
 -- ---- the first that falls outside
@@ -40,15 +40,15 @@ first_append left (x ∷ l) o =
 
 -- ---- the loop
 
-pub record Kept (text close : List ℕ) (c : Cursor) (left : ℕ) (r : Cursor) (count : ℕ) (first : Outside) : Type 0 where
+pub record Kept (text close : List ℕ) (c : Cursor) (left : ℕ) (r : Cursor) (count : ℕ) (first : Maybe ℕ) : Type 0 where
   pub so_far : List Offset
   pub leads : Leads text c (while (λ ts. not (ahead_of close ts)) one_more []) r (while (λ ts. not (ahead_of close ts)) one_more so_far)
   pub many : count ≡ length so_far
-  pub firsts : told first.is first.place ≡ first_outside left so_far
+  pub firsts : value_of first ≡ first_outside left so_far
 
-pub one_more_lem : {text close : List ℕ} {c r r' : Cursor} {left count : ℕ} {first first' : Outside} {o : Offset} {b : Bool} → Kept text close c left r count first
+pub one_more_lem : {text close : List ℕ} {c r r' : Cursor} {left count : ℕ} {first first' : Maybe ℕ} {o : Offset} {b : Bool} → Kept text close c left r count first
     → b ≡ (alive r && not (ahead_of close (stream text r))) → b ≡ true → Goes text r offset r' o
-    → told first'.is first'.place ≡ earlier (told first.is first.place) (outside_at left o.n o.at) → Kept text close c left r' (count + 1) first'
+    → value_of first' ≡ earlier (value_of first) (outside_at left o.n o.at) → Kept text close c left r' (count + 1) first'
 one_more_lem {left = left} {o = o} k e h g f =
     record {
       so_far = k.so_far ++ o ∷ [];

@@ -1,23 +1,17 @@
 -- What the code has of a report: whether it is sound, the pattern's name by its place and end, and from where on its records can be read.
-use Rattle.std.specs.Prelude.{ℕ, ◌≡◌, true, false, List, [], ◌∷◌, leb, length}
+use Rattle.std.specs.Prelude.{ℕ, ◌≡◌, true, List, [], ◌∷◌, leb, length, Result, Ok, Err}
 use Rattle.std.proofs.Math.Option.{Option, none, some}
+use Rattle.tokens.specs.declared.Refusal.{Refusal}
 use Rattle.tokens.specs.Tokens.{Toks, toks}
-use Rattle.meaning.specs.Bounds.{cycles_most}
 use Rattle.meaning.specs.Reader.{Reader, ok, until}
 use Rattle.meaning.specs.Meaning.{given, refused}
 use Rattle.words.specs.Cursor.{span, stream, alive, Goes}
-use Rattle.words.specs.Values.{told}
+use Rattle.words.specs.Values.{told, value_of}
 use Rattle.words.specs.declared.Cursor.{Cursor}
 use Rattle.reports.specs.Report.{Signals, Offset, one_more, Record, one_record, opening, reported}
 use Rattle.reports.specs.declared.Placed.{Placed}
 use Rattle.reports.specs.declared.Opened.{Opened}
-use Rattle.reports.specs.declared.Finding.{Finding}
-use Rattle.reports.specs.declared.Finding.TheVariants.{Refused, Sound}
-
--- a number that an offset can be
-unfoldable pub bounded : Option ℕ → Option ℕ
-bounded none = none
-bounded (some n) = elim (leb n cycles_most) [ true ↦ some n | false ↦ none ]
+use Rattle.reports.specs.declared.Sound.{Sound}
 
 -- THE PROMISE of a function that reads what it does not keep: the reader m goes from c to r with some answer
 pub record Passes {A : Type 0} (text : List ℕ) (c : Cursor) (m : Reader A) (r : Cursor) : Type 0 where
@@ -44,7 +38,7 @@ pub record Places (text : List ℕ) (c : Cursor) (left : ℕ) (r : Placed) : Typ
   pub list : List Offset
   pub goes : Goes text c (until ";" one_more []) r.cursor list
   pub many : r.count ≡ length list
-  pub first : told r.outside r.place ≡ first_outside left list
+  pub first : value_of r.outside ≡ first_outside left list
 
 -- ---- the whole report
 
@@ -61,6 +55,6 @@ pub record Holds (ss : Signals) (bs : List ℕ) (at end from : ℕ) : Type 0 whe
   pub again : until "}" (one_record ss) [] (toks bs from) ≡ ok list behind
 
 -- THE PROMISE of the whole pass: the report's refusal, or that it is sound
-abbrev pub Decides : Signals → List ℕ → Finding → Type 0
-Decides ss bs (Refused n p) = reported ss bs ≡ refused n p
-Decides ss bs (Sound at end from) = Holds ss bs at end from
+abbrev pub Decides : Signals → List ℕ → Result Sound Refusal → Type 0
+Decides ss bs (Err r) = reported ss bs ≡ refused r.no r.place
+Decides ss bs (Ok s) = Holds ss bs s.at s.end s.records

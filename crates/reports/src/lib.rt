@@ -1,16 +1,16 @@
 // A fail report: read once for its own faults, and again record by record.
 #![tactic(auto)]
 
-ghost use Rattle.std.specs.Prelude.{◌≡◌, ◌-◌, List, [], get_or};
+ghost use Rattle.std.specs.Prelude.{◌≡◌, List, [], get_or};
 ghost use Rattle.meaning.specs.Reader.{until};
-ghost use Rattle.meaning.specs.Names.{number as number_of};
 ghost use Rattle.words.specs.Cursor.{ahead, Goes};
 ghost use Rattle.words.specs.Table.{names};
-ghost use Rattle.words.specs.Values.{value_of, told};
+ghost use Rattle.words.specs.Values.{value_of};
 ghost use Rattle.reports.specs.Report.{is_state, state as state_due, offset as offset_due, head as head_due, Record, one_record, closing as closing_due};
-ghost use Rattle.reports.specs.Read.{bounded, Passes, earlier, outside_at, Places, Opens, Decides};
+ghost use Rattle.reports.specs.Read.{Passes, earlier, outside_at, Places, Opens, Decides};
 
-use words::{BAD_NUMBER, Cursor, NOT_HERE, UNKNOWN, Value};
+use tokens::Refusal;
+use words::{BAD_NUMBER, Cursor, NOT_HERE, UNKNOWN};
 
 const OFFSET_MOST: u64 = 1_099_511_627_776;
 
@@ -36,20 +36,12 @@ pub struct Headed {
     pub signal: usize,
 }
 
-// Is there an offset that falls outside the pattern, and where does the first such stand?
-#[derive(Clone, Copy)]
-struct Outside {
-    is: bool,
-    place: usize,
-}
-
-// A record's offsets: how many there are, the first that falls outside the pattern, and the cursor behind the record.
+// A record's offsets: how many there are, where the first stands that falls outside the pattern, and the cursor behind the record.
 #[derive(Clone, Copy)]
 pub struct Placed {
     pub cursor: Cursor,
     pub count: usize,
-    pub outside: bool,
-    pub place: usize,
+    pub outside: Option<usize>,
 }
 
 // The pattern's name by its place and end; the place behind `FailData {` and the cursor there.
@@ -61,48 +53,15 @@ struct Opened {
     records: usize,
 }
 
-// What is found of a report as a text of its own.
+// A report that is sound as a text of its own: its pattern's name by its place and end, and the place behind `FailData {`.
 #[derive(Clone, Copy)]
-pub enum Finding {
-    // the number of the refusal, and its place in the report
-    Refused(u8, usize),
-    // the pattern's name by its place and end, and the place behind `FailData {`
-    Sound(usize, usize, usize),
+pub struct Sound {
+    pub at: usize,
+    pub end: usize,
+    pub records: usize,
 }
 
 // ---- offsets
-
-// What a digit adds to a number.
-fn digit_of(b: u8) -> u64
-    ensures { result ≡ b - 48 }
-{
-    if b < 48 {
-        return 0;
-    }
-    b as u64 - 48
-}
-
-// The number that decimal digits stand for, if an offset can be so large.
-fn number(w: &[u8]) -> Value
-    ensures { value_of result ≡ bounded (number_of w.now) }
-{
-    let mut n: u64 = 0;
-    let mut i = 0;
-    while i < w.len() {
-        if !words::is_digit(w[i]) {
-            return Value { right: false, n: 0 };
-        }
-        n = n * 10 + digit_of(w[i]);
-        if OFFSET_MOST < n {
-            return Value { right: false, n: 0 };
-        }
-        i += 1;
-    }
-    Value {
-        right: 0 < w.len(),
-        n,
-    }
-}
 
 fn is_state(w: &[u8]) -> bool
     ensures { result ≡ is_state w.now }
@@ -134,10 +93,10 @@ pub fn offset(report: &[u8], c: Cursor) -> Counted
     ensures { Goes report.now c offset_due result.cursor (record { at = c.at; n = result.n; letter = result.letter }) }
 {
     let at = c.at;
-    let v = number(words::bytes_of(report, at, c.end));
-    let n = v.n;
+    let v = words::number_up_to(words::bytes_of(report, at, c.end), OFFSET_MOST);
+    let n = v.unwrap_or(0);
     let d = words::word(report, c);
-    let e = words::refuse_if(d, !v.right, BAD_NUMBER, at);
+    let e = words::refuse_if(d, v.is_none(), BAD_NUMBER, at);
     if words::is(report, e, b"'") {
         let s = state(report, e);
         let cursor = s.cursor;
@@ -174,16 +133,13 @@ pub fn head<'a>(
     Headed { cursor, signal }
 }
 
-// The first of those that fall outside, with one offset more, where `left` cycles of the pattern are left.
-fn first_outside(f: Outside, n: u64, at: usize, left: u64) -> Outside
-    ensures { told result.is result.place ≡ earlier (told f.is f.place) (outside_at left n at) }
+// Where the first stands of those that fall outside, with one offset more, where `left` cycles of the pattern are left.
+fn first_outside(f: Option<usize>, n: u64, at: usize, left: u64) -> Option<usize>
+    ensures { value_of result ≡ earlier (value_of f) (outside_at left n at) }
 {
-    if f.is {
-        return f;
-    }
-    Outside {
-        is: left <= n,
-        place: at,
+    match f {
+        None if left <= n => Some(at),
+        _ => f,
     }
 }
 
@@ -193,14 +149,11 @@ pub fn count_offsets(report: &[u8], c: Cursor, left: u64) -> Placed
 {
     let mut cursor = c;
     let mut count = 0;
-    let mut first = Outside {
-        is: false,
-        place: 0,
-    };
+    let mut outside = None;
     while words::until(report, cursor, b";") {
         let at = cursor.at;
         let o = offset(report, cursor);
-        first = first_outside(first, o.n, at, left);
+        outside = first_outside(outside, o.n, at, left);
         count += 1;
         cursor = o.cursor;
     }
@@ -208,8 +161,7 @@ pub fn count_offsets(report: &[u8], c: Cursor, left: u64) -> Placed
     Placed {
         cursor: end,
         count,
-        outside: first.is,
-        place: first.place,
+        outside,
     }
 }
 
@@ -277,21 +229,28 @@ fn closing(report: &[u8], c: Cursor) -> Cursor
 }
 
 // The report's own faults, 1 to 9, where the text has `count` signals.
-pub fn reported<'a>(report: &'a [u8], text: &'a [u8], places: &'a [usize], count: usize) -> Finding
+pub fn reported<'a>(
+    report: &'a [u8],
+    text: &'a [u8],
+    places: &'a [usize],
+    count: usize,
+) -> Result<Sound, Refusal>
     ensures { Decides (names text.now places.now count) report.now result }
 {
-    match tokens::fault_in(report) {
-        tokens::Fault::Faulty(n, p) => Finding::Refused(n, p),
-        tokens::Fault::Clean => {
-            let c = words::cursor_at(report, 0);
-            let o = opening(report, c);
-            let a = o.cursor;
-            let b = all_records(report, a, text, places, count);
-            let e = closing(report, b);
-            if e.no != 0 {
-                return Finding::Refused(e.no, e.at);
-            }
-            Finding::Sound(o.at, o.end, o.records)
-        }
+    tokens::fault_in(report)?;
+    let c = words::cursor_at(report, 0);
+    let o = opening(report, c);
+    let b = all_records(report, o.cursor, text, places, count);
+    let e = closing(report, b);
+    if e.no != 0 {
+        return Err(Refusal {
+            no: e.no,
+            place: e.at,
+        });
     }
+    Ok(Sound {
+        at: o.at,
+        end: o.end,
+        records: o.records,
+    })
 }

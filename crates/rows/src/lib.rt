@@ -35,12 +35,8 @@ pub fn spend(w: Walk, cost: usize) -> Walk
 {
     if w.walking {
         return Walk {
-            pass: w.pass,
-            row: w.row,
-            show: w.show,
             budget: w.budget - cost,
-            walking: true,
-            mark: w.mark,
+            ..w
         };
     }
     w
@@ -53,11 +49,7 @@ pub fn past(w: Walk, cycles: usize) -> Walk
 {
     Walk {
         pass: w.pass - cycles,
-        row: w.row,
-        show: w.show,
-        budget: w.budget,
-        walking: w.walking,
-        mark: w.mark,
+        ..w
     }
 }
 
@@ -66,20 +58,15 @@ fn put_row(part: &mut [u8], values: &[u8], signals: usize, table: usize, mark: u
     requires { (signals ≤ signals_most) × (length values.now ≡ values_length) × (row_width signals ≤ length part.old) }
     ensures { ((c : Cycle) → Cycled signals values.now table c → part.new ≡ row_of mark c ++ drop (row_width signals) part.old) × (length part.new ≡ length part.old) }
 {
-    let mut s = 0;
-    while s < signals {
+    for s in 0..signals {
         let b = values[s];
-        if b == 0 {
-            part[s] = mark;
-        } else {
-            part[s] = b;
-        }
-        s += 1;
+        part[s] = if b == 0 { mark } else { b };
     }
-    let mut digit = b'0';
-    if table < timing::TABLES {
-        digit += table as u8;
-    }
+    let digit = if table < timing::TABLES {
+        b'0' + table as u8
+    } else {
+        b'0'
+    };
     part[signals] = digit;
     part[signals + 1] = b'\n';
 }
@@ -96,11 +83,10 @@ pub fn cycle(values: &[u8], signals: usize, table: usize, w: Walk, buffer: &mut 
     if w.show == 0 {
         return Walk {
             pass: 0,
-            row: w.row,
             show: 0,
             budget: x.budget,
             walking: false,
-            mark: w.mark,
+            ..w
         };
     }
     let part = &mut buffer[w.row * (signals + 2)..];
@@ -111,7 +97,7 @@ pub fn cycle(values: &[u8], signals: usize, table: usize, w: Walk, buffer: &mut 
         show: w.show - 1,
         budget: x.budget,
         walking: false,
-        mark: w.mark,
+        ..w
     }
 }
 
@@ -123,17 +109,13 @@ pub fn again(w: Walk, cycles: usize, turns: usize, signals: usize, buffer: &mut 
     ensures { Again signals cycles turns w result buffer.old buffer.new }
 {
     let width = signals + 2;
-    let mut count = turns * cycles;
-    if w.show < count {
-        count = w.show;
-    }
+    let count = (turns * cycles).min(w.show);
     repeats::extend(buffer, w.row * width, cycles * width, count * width);
     Walk {
         pass: 0,
         row: w.row + count,
         show: w.show - count,
-        budget: w.budget,
         walking: false,
-        mark: w.mark,
+        ..w
     }
 }

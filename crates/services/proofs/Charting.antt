@@ -6,13 +6,13 @@ use mathlib.Core.Bool.{Bool, true, false, not, ◌||◌}
 use mathlib.Core.List.{List}
 use lib.Dec.{leb}
 use lib.ListN.{length}
-use borrow.Author.Tests.{leb-true, eq-eqb, ne_eqb}
-use Rattle.std.specs.Prelude.{Result, Ok, Err}
+use borrow.Author.Tests.{leb-true}
+use Rattle.std.specs.Prelude.{Result, Ok, Err, Some, None}
 use Rattle.tokens.specs.declared.Refusal.{Refusal}
 use Rattle.meaning.specs.Refusals.{too_many, no_room}
 use Rattle.meaning.specs.Meaning.{Answer, given, refused, answering, Meaning, meaning}
 use Rattle.meaning.specs.Charts.{chart_most, asked_in, Chart, chart, waveforms}
-use Rattle.charts.specs.Serving.{Accepted, stopped_by, Serves}
+use Rattle.charts.specs.Serving.{Accepted, Serves}
 use Rattle.charts.specs.declared.Served.{Served}
 use Rattle.verdicts.specs.Buffers.{afterwards, spared}
 use Rattle.verdicts.specs.Judged.{Judges}
@@ -31,13 +31,13 @@ module _ {a : Answer Chart} {times letters counts : List ℕ} where
   plots_refused e = rw e (record { answers = refl; times_are = refl; letters_are = refl; counts_are = refl })
 
   module _ {x : Chart} {times' letters' counts' : List ℕ} {s : Served} (e : a ≡ given x) (h : Serves x times' letters' counts' s) where
-    pub plots_drawn : s.no ≡ 0 → Plots a times times' letters letters' counts counts' (Ok s.events)
+    pub plots_drawn : s.stopped ≡ None → Plots a times times' letters letters' counts counts' (Ok s.events)
     unfolding afterwards
-    plots_drawn z = rw (e, h.is, eq-eqb s.no 0 z, stopped_by) (record { answers = refl; times_are = refl; letters_are = refl; counts_are = refl })
+    plots_drawn z = rw (e, h.is, z) (record { answers = refl; times_are = refl; letters_are = refl; counts_are = refl })
 
-    pub plots_stopped : (s.no ≡ 0 → ⊥) → Plots a times times' letters letters' counts counts' (Err (Stopped (record { no = s.no; place = 0 }) s.served))
+    pub plots_stopped : {no : ℕ} → s.stopped ≡ Some no → Plots a times times' letters letters' counts counts' (Err (Stopped (record { no = no; place = 0 }) s.served))
     unfolding afterwards
-    plots_stopped z = rw (e, h.is, ne_eqb s.no 0 z, stopped_by) (record { answers = refl; times_are = refl; letters_are = refl; counts_are = refl })
+    plots_stopped z = rw (e, h.is, z) (record { answers = refl; times_are = refl; letters_are = refl; counts_are = refl })
 
 -- nothing else is handed out
 pub plots_spared : {a : Answer Chart} {times times' letters letters' counts counts' : List ℕ} {r : Result ℕ Undrawn}

@@ -24,7 +24,6 @@ use Rattle.pages.specs.Pages.{Puts}
 use Rattle.sections.specs.Listing.{Fronts}
 use Rattle.index.specs.Index.{Index, lines_of, index_of, written, holder, rebuilt_in, index, not_the_index, taken_as, taken, belongs, holds, Rebuilt as Bytes}
 use Rattle.index.specs.Lines.{index_in, held_of}
-use Rattle.index.specs.declared.Held.{Held}
 use Rattle.verdicts.specs.Found.{meant_by}
 use Rattle.verdicts.specs.Buffers.{afterwards, spared}
 use Rattle.services.specs.Indexes.{Stands, Rebuilds, Indexes}
@@ -142,9 +141,3 @@ pub front_fits : (page buffer : List ℕ) (n : ℕ) (spare : Bool) {bytes : List
     → 0 + length bytes ≤ length buffer
 front_fits page buffer n spare e f =
     omega (arith, ap length (span_front page n e), length-take n page, ltb-false (length buffer) n (neither (not spare) (ltb (length buffer) n) f).1)
-
-pub held_some : (h : Held) → h.held ≡ true → given (some h.number) ≡ given (held_of h)
-held_some h e = rw e
-
-pub held_none : (h : Held) → h.held ≡ false → ◌≡◌ {A = Answer (Option ℕ)} (given none) (given (held_of h))
-held_none h e = rw e

@@ -11,6 +11,7 @@ use Rattle.meaning.specs.Results.{answer_of}
 use Rattle.meaning.specs.Services.{Counts, Waveform}
 use Rattle.meaning.specs.Charts.{Chart}
 use Rattle.index.specs.Index.{Rebuilt as Bytes}
+use Rattle.index.specs.Lines.{held_of}
 use Rattle.saving.specs.Saving.{Restored}
 use Rattle.verdicts.specs.Buffers.{afterwards}
 use Rattle.texts.specs.Told.{counts_in}
@@ -18,7 +19,7 @@ use Rattle.texts.specs.declared.Counts.{Counts as Five}
 use Rattle.services.specs.Answers.{checked_of, located_of}
 use Rattle.services.specs.Waveforms.{Shapes}
 use Rattle.services.specs.Charts.{charted_of, Plots}
-use Rattle.services.specs.Indexes.{belonging_of, pattern_of, holding_of, Indexes}
+use Rattle.services.specs.Indexes.{belonging_of, holding_of, Indexes}
 use Rattle.services.specs.Saves.{Saves}
 use Rattle.services.specs.declared.Undrawn.{Undrawn}
 use Rattle.services.specs.declared.Undrawn.TheVariants.{Stopped, Refused}
@@ -74,13 +75,13 @@ pub belongs_determined : {a : Answer (Unit {0})} (r s : Result (Unit {0}) Refusa
 belongs_determined r s h k = determined (λ u. tt) (λ u. tt) (λ u. refl) r s h k
 
 pub holds_determined : {a : Answer (Option ℕ)} (r s : Result (Maybe ℕ) Refusal) → holding_of r ≡ a → holding_of s ≡ a → r ≡ s
-holds_determined r s h k = determined pattern_of back same r s h k
+holds_determined r s h k = determined held_of back same r s h k
   where
     back : Option ℕ → Maybe ℕ
     back (some k) = Some k
     back none = None
 
-    same : (o : Maybe ℕ) → o ≡ back (pattern_of o)
+    same : (o : Maybe ℕ) → o ≡ back (held_of o)
     same (Some k) = refl
     same None = refl
 

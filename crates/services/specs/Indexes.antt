@@ -1,6 +1,6 @@
 -- The index (request 7): what the services promise of their answers and the buffer.
-use Rattle.std.specs.Prelude.{ℕ, ◌≡◌, List, length, take, Result, Ok, Err, Option as Maybe, Some, None}
-use Rattle.std.proofs.Math.Option.{Option, none, some}
+use Rattle.std.specs.Prelude.{ℕ, ◌≡◌, List, length, take, Result, Ok, Err, Option as Maybe}
+use Rattle.std.proofs.Math.Option.{Option}
 use Rattle.tokens.specs.declared.Refusal.{Refusal}
 use Rattle.meaning.specs.Meaning.{Answer, given, refused, Meaning, meaning}
 use Rattle.meaning.specs.Results.{answer_of}
@@ -30,12 +30,8 @@ indexed_of r buffer = answer_of (λ n. record { size = n; buffer = buffer }) r
 abbrev pub belonging_of : Result (Unit {0}) Refusal → Answer (Unit {0})
 belonging_of = answer_of (λ u. tt)
 
-abbrev pub pattern_of : Maybe ℕ → Option ℕ
-pattern_of (Some k) = some k
-pattern_of None = none
-
 abbrev pub holding_of : Result (Maybe ℕ) Refusal → Answer (Option ℕ)
-holding_of = answer_of pattern_of
+holding_of = answer_of held_of
 
 -- THE PROMISE of the service Index, whose answer is a: the buffer is that of the answer, or as it was
 pub record Indexes (a : Answer Bytes) (before after : List ℕ) (r : Result ℕ Refusal) : Type 0 where

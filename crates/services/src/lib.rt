@@ -195,8 +195,8 @@ pub fn plotted(
         }));
     }
     let s = charts::serve(text, asked, times, letters, counts);
-    if s.no != 0 {
-        let refusal = Refusal { no: s.no, place: 0 };
+    if let Some(no) = s.stopped {
+        let refusal = Refusal { no, place: 0 };
         return Err(Undrawn::Stopped(refusal, s.served));
     }
     Ok(s.events)

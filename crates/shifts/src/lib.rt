@@ -26,15 +26,13 @@ pub fn turns(
     ensures { Others level values.old values.new feeds.old feeds.new × Shifting text.now given.now signals level table t values.old values.new feeds.old feeds.new walk result buffer.old buffer.new }
 {
     pins::skip(text, given, values, feeds, level, signals, walk.pass);
-    let mut i = walk.pass;
     let mut w = rows::past(walk, walk.pass);
-    while i < t {
+    for _ in walk.pass..t {
         pins::put(text, given, values, feeds, level, signals);
         w = rows::cycle(values, signals, table, w, buffer);
         if rows::over(w) {
             return w;
         }
-        i += 1;
     }
     w
 }

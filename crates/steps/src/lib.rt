@@ -10,9 +10,8 @@ ghost use Rattle.plays.specs.Plays.{ground_of, arrays};
 ghost use Rattle.plays.specs.declared.Frame.{Frame};
 ghost use Rattle.steps.specs.Walks.{once_of, Alike, Copiable, Repeated, Stood, Promised, Stepped, LoopStood, Looped, TurnStood, Turned, ShiftStood, Shifted, UseStood, Entered, IntoStood, WentInto};
 
-use heads::Known;
 use measures::DEPTH;
-use plays::Frame;
+use plays::{Frame, Ground};
 use rows::Walk;
 use words::Cursor;
 
@@ -41,16 +40,8 @@ fn once(frame: Frame) -> Frame
 
 // Shift { V { .. } }: passed with all its turns, or entered in the turn that has the cycle.
 fn shift<'a>(
-    text: &'a [u8],
+    ground: &'a Ground<'a>,
     c: Cursor,
-    places: &'a [usize],
-    lists: &'a [u16],
-    tplaces: &'a [usize],
-    book: &'a [usize],
-    rows: &'a [u16],
-    waves: &'a [u8],
-    known: Known,
-    signals: usize,
     frame: Frame,
     table: usize,
     walk: Walk,
@@ -59,28 +50,12 @@ fn shift<'a>(
     args: &mut [usize],
     buffer: &mut [u8],
 ) -> Walked
-    requires { (alive c ≡ true) × ShiftStood (ground_of text.now places.now lists.now tplaces.now book.now rows.now waves.now known signals) (stream text.now c) frame.depth frame.level table frame.turns (arrays values.old feeds.old args.old) walk buffer.old }
-    ensures { Shifted (ground_of text.now places.now lists.now tplaces.now book.now rows.now waves.now known signals) (stream text.now c) frame.depth frame.level table frame.turns (arrays values.old feeds.old args.old) (arrays values.new feeds.new args.new) walk buffer.old buffer.new result }
+    requires { (alive c ≡ true) × ShiftStood (ground_of ground.now) (stream ground.now.declared.text.now c) frame.depth frame.level table frame.turns (arrays values.old feeds.old args.old) walk buffer.old }
+    ensures { Shifted (ground_of ground.now) (stream ground.now.declared.text.now c) frame.depth frame.level table frame.turns (arrays values.old feeds.old args.old) (arrays values.new feeds.new args.new) walk buffer.old buffer.new result }
 {
     let w = rows::spend(walk, 2);
     if frame.turns <= w.pass {
-        let r = plays::shift(
-            text,
-            c,
-            places,
-            lists,
-            tplaces,
-            book,
-            rows,
-            waves,
-            known,
-            signals,
-            once(frame),
-            table,
-            values,
-            feeds,
-            args,
-        );
+        let r = plays::shift(ground, c, once(frame), table, values, feeds, args);
         let behind = r.cursor;
         return Walked {
             cursor: behind,
@@ -90,23 +65,21 @@ fn shift<'a>(
         };
     }
     let mut given = [0; sets::MOST];
-    let h = heads::head(
-        text, c, places, lists, tplaces, book, rows, known, true, DEPTH, false, &mut given, args,
-    );
+    let h = heads::head(&ground.declared, c, true, DEPTH, false, &mut given, args);
     let shown = shifts::turns(
-        text,
+        ground.declared.text,
         &given,
         values,
         feeds,
         frame.level,
-        signals,
+        ground.signals,
         table,
         frame.turns,
         w,
         buffer,
     );
     let behind = h.cursor;
-    let cursor = words::due(text, behind, b"}");
+    let cursor = words::due(ground.declared.text, behind, b"}");
     Walked {
         cursor,
         table,
@@ -160,16 +133,8 @@ fn repeated(w: Walk, shown: usize, turns: usize, signals: usize, buffer: &mut [u
 // found, is that of every turn left.
 #[cycle(body_of_enter_into_reach_repeat_statement_statements_turns)]
 fn turns<'a>(
-    text: &'a [u8],
+    ground: &'a Ground<'a>,
     c: Cursor,
-    places: &'a [usize],
-    lists: &'a [u16],
-    tplaces: &'a [usize],
-    book: &'a [usize],
-    rows: &'a [u16],
-    waves: &'a [u8],
-    known: Known,
-    signals: usize,
     frame: Frame,
     n: usize,
     table: usize,
@@ -179,8 +144,8 @@ fn turns<'a>(
     args: &mut [usize],
     buffer: &mut [u8],
 ) -> Walked
-    requires { (alive c ≡ true) × (0 < frame.depth) × TurnStood (ground_of text.now places.now lists.now tplaces.now book.now rows.now waves.now known signals) (stream text.now c) (frame.depth - 1) frame.level table frame.turns n (arrays values.old feeds.old args.old) walk buffer.old }
-    ensures { Turned (ground_of text.now places.now lists.now tplaces.now book.now rows.now waves.now known signals) (stream text.now c) (frame.depth - 1) frame.level table frame.turns n (arrays values.old feeds.old args.old) (arrays values.new feeds.new args.new) walk buffer.old buffer.new result }
+    requires { (alive c ≡ true) × (0 < frame.depth) × TurnStood (ground_of ground.now) (stream ground.now.declared.text.now c) (frame.depth - 1) frame.level table frame.turns n (arrays values.old feeds.old args.old) walk buffer.old }
+    ensures { Turned (ground_of ground.now) (stream ground.now.declared.text.now c) (frame.depth - 1) frame.level table frame.turns n (arrays values.old feeds.old args.old) (arrays values.new feeds.new args.new) walk buffer.old buffer.new result }
 {
     let inner = Frame {
         seconds: frame.seconds,
@@ -196,11 +161,8 @@ fn turns<'a>(
         let start = w;
         let before = chosen;
         let mut kept = [0u8; sets::MOST];
-        keep(values, &mut kept, signals);
-        let r = statements(
-            text, c, places, lists, tplaces, book, rows, waves, known, signals, inner, chosen, w,
-            values, feeds, args, buffer,
-        );
+        keep(values, &mut kept, ground.signals);
+        let r = statements(ground, c, inner, chosen, w, values, feeds, args, buffer);
         chosen = r.table;
         w = r.walk;
         cursor = r.cursor;
@@ -208,9 +170,9 @@ fn turns<'a>(
             break;
         }
         i += 1;
-        let same = same_pins(values, &kept, signals);
+        let same = same_pins(values, &kept, ground.signals);
         if (start.pass == 0) & (chosen == before) & same {
-            w = repeated(w, start.row, n - i, signals, buffer);
+            w = repeated(w, start.row, n - i, ground.signals, buffer);
             break;
         }
     }
@@ -227,16 +189,8 @@ fn turns<'a>(
 // A Loop on the way to the cycle: passed with all its turns, or entered in the one that has the cycle. Every turn behind the first begins where the first ended.
 #[cycle(body_of_enter_into_reach_repeat_statement_statements_turns)]
 fn reach<'a>(
-    text: &'a [u8],
+    ground: &'a Ground<'a>,
     c: Cursor,
-    places: &'a [usize],
-    lists: &'a [u16],
-    tplaces: &'a [usize],
-    book: &'a [usize],
-    rows: &'a [u16],
-    waves: &'a [u8],
-    known: Known,
-    signals: usize,
     frame: Frame,
     n: usize,
     table: usize,
@@ -246,39 +200,19 @@ fn reach<'a>(
     args: &mut [usize],
     buffer: &mut [u8],
 ) -> Walked
-    requires { (alive c ≡ true) × (0 < n) × (0 < frame.depth) × LoopStood (ground_of text.now places.now lists.now tplaces.now book.now rows.now waves.now known signals) (stream text.now c) (frame.depth - 1) frame.level table frame.turns n (arrays values.old feeds.old args.old) walk buffer.old }
-    ensures { Looped (ground_of text.now places.now lists.now tplaces.now book.now rows.now waves.now known signals) (stream text.now c) (frame.depth - 1) frame.level table frame.turns n (arrays values.old feeds.old args.old) (arrays values.new feeds.new args.new) walk buffer.old buffer.new result }
+    requires { (alive c ≡ true) × (0 < n) × (0 < frame.depth) × LoopStood (ground_of ground.now) (stream ground.now.declared.text.now c) (frame.depth - 1) frame.level table frame.turns n (arrays values.old feeds.old args.old) walk buffer.old }
+    ensures { Looped (ground_of ground.now) (stream ground.now.declared.text.now c) (frame.depth - 1) frame.level table frame.turns n (arrays values.old feeds.old args.old) (arrays values.new feeds.new args.new) walk buffer.old buffer.new result }
 {
-    let m = loops::measure(
-        text,
-        c,
-        places,
-        lists,
-        tplaces,
-        book,
-        rows,
-        known,
-        signals,
-        frame.depth - 1,
-        args,
-    );
+    let m = loops::measure(ground, c, frame.depth - 1, args);
     let measure = m.measure;
     let w = rows::spend(walk, measure.size + 1);
     let all = n * measure.cycles;
     if all <= w.pass {
         let r = plays::turns(
-            text,
+            ground,
             c,
-            places,
-            lists,
-            tplaces,
-            book,
-            rows,
-            waves,
             b"",
             b"",
-            known,
-            signals,
             once(frame),
             n,
             table,
@@ -299,18 +233,10 @@ fn reach<'a>(
     let mut chosen = table;
     if 0 < j {
         let first = plays::turns(
-            text,
+            ground,
             c,
-            places,
-            lists,
-            tplaces,
-            book,
-            rows,
-            waves,
             b"",
             b"",
-            known,
-            signals,
             once(frame),
             n,
             table,
@@ -321,16 +247,8 @@ fn reach<'a>(
         chosen = first.table;
     }
     turns(
-        text,
+        ground,
         c,
-        places,
-        lists,
-        tplaces,
-        book,
-        rows,
-        waves,
-        known,
-        signals,
         frame,
         n - j,
         chosen,
@@ -345,16 +263,8 @@ fn reach<'a>(
 // Loop N { .. }: measured only on the way to the cycle.
 #[cycle(body_of_enter_into_reach_repeat_statement_statements_turns)]
 fn repeat<'a>(
-    text: &'a [u8],
+    ground: &'a Ground<'a>,
     c: Cursor,
-    places: &'a [usize],
-    lists: &'a [u16],
-    tplaces: &'a [usize],
-    book: &'a [usize],
-    rows: &'a [u16],
-    waves: &'a [u8],
-    known: Known,
-    signals: usize,
     frame: Frame,
     n: usize,
     table: usize,
@@ -364,18 +274,16 @@ fn repeat<'a>(
     args: &mut [usize],
     buffer: &mut [u8],
 ) -> Walked
-    requires { (alive c ≡ true) × (0 < n) × (0 < frame.depth) × LoopStood (ground_of text.now places.now lists.now tplaces.now book.now rows.now waves.now known signals) (stream text.now c) (frame.depth - 1) frame.level table frame.turns n (arrays values.old feeds.old args.old) walk buffer.old }
-    ensures { Looped (ground_of text.now places.now lists.now tplaces.now book.now rows.now waves.now known signals) (stream text.now c) (frame.depth - 1) frame.level table frame.turns n (arrays values.old feeds.old args.old) (arrays values.new feeds.new args.new) walk buffer.old buffer.new result }
+    requires { (alive c ≡ true) × (0 < n) × (0 < frame.depth) × LoopStood (ground_of ground.now) (stream ground.now.declared.text.now c) (frame.depth - 1) frame.level table frame.turns n (arrays values.old feeds.old args.old) walk buffer.old }
+    ensures { Looped (ground_of ground.now) (stream ground.now.declared.text.now c) (frame.depth - 1) frame.level table frame.turns n (arrays values.old feeds.old args.old) (arrays values.new feeds.new args.new) walk buffer.old buffer.new result }
 {
     if walk.walking {
         return reach(
-            text, c, places, lists, tplaces, book, rows, waves, known, signals, frame, n, table,
-            walk, values, feeds, args, buffer,
+            ground, c, frame, n, table, walk, values, feeds, args, buffer,
         );
     }
     turns(
-        text, c, places, lists, tplaces, book, rows, waves, known, signals, frame, n, table, walk,
-        values, feeds, args, buffer,
+        ground, c, frame, n, table, walk, values, feeds, args, buffer,
     )
 }
 
@@ -384,15 +292,7 @@ fn repeat<'a>(
 // The body of number i, its Shift played t times, from its own first byte. A macro runs in place; from a procedure the caller's pins and table come back.
 #[cycle(body_of_enter_into_reach_repeat_statement_statements_turns)]
 fn into<'a>(
-    text: &'a [u8],
-    places: &'a [usize],
-    lists: &'a [u16],
-    tplaces: &'a [usize],
-    book: &'a [usize],
-    rows: &'a [u16],
-    waves: &'a [u8],
-    known: Known,
-    signals: usize,
+    ground: &'a Ground<'a>,
     frame: Frame,
     i: usize,
     t: usize,
@@ -403,8 +303,8 @@ fn into<'a>(
     args: &mut [usize],
     buffer: &mut [u8],
 ) -> Walked
-    requires { IntoStood (ground_of text.now places.now lists.now tplaces.now book.now rows.now waves.now known signals) i frame.depth frame.level table t (arrays values.old feeds.old args.old) walk buffer.old }
-    ensures { WentInto (ground_of text.now places.now lists.now tplaces.now book.now rows.now waves.now known signals) i frame.depth frame.level table t (arrays values.old feeds.old args.old) (arrays values.new feeds.new args.new) walk buffer.old buffer.new result }
+    requires { IntoStood (ground_of ground.now) i frame.depth frame.level table t (arrays values.old feeds.old args.old) walk buffer.old }
+    ensures { WentInto (ground_of ground.now) i frame.depth frame.level table t (arrays values.old feeds.old args.old) (arrays values.new feeds.new args.new) walk buffer.old buffer.new result }
 {
     let inner = Frame {
         seconds: frame.seconds,
@@ -412,18 +312,16 @@ fn into<'a>(
         depth: frame.depth - 1,
         level: frame.level + 1,
     };
-    let start = measures::start_at(book, i);
-    let body = &text[start..];
+    let start = measures::start_at(ground.declared.book, i);
+    let body = &ground.declared.text[start..];
     if i < measures::PROCEDURES {
         return body_of(
-            text, body, places, lists, tplaces, book, rows, waves, known, signals, inner, table,
-            walk, values, feeds, args, buffer,
+            ground, body, inner, table, walk, values, feeds, args, buffer,
         );
     }
     pins::leave(values, inner.level);
     let r = body_of(
-        text, body, places, lists, tplaces, book, rows, waves, known, signals, inner, table, walk,
-        values, feeds, args, buffer,
+        ground, body, inner, table, walk, values, feeds, args, buffer,
     );
     pins::come_back(values, inner.level);
     let cursor = r.cursor;
@@ -439,15 +337,7 @@ fn into<'a>(
 // Macro or Call: passed, or entered.
 #[cycle(body_of_enter_into_reach_repeat_statement_statements_turns)]
 fn enter<'a>(
-    text: &'a [u8],
-    places: &'a [usize],
-    lists: &'a [u16],
-    tplaces: &'a [usize],
-    book: &'a [usize],
-    rows: &'a [u16],
-    waves: &'a [u8],
-    known: Known,
-    signals: usize,
+    ground: &'a Ground<'a>,
     frame: Frame,
     i: usize,
     t: usize,
@@ -458,30 +348,19 @@ fn enter<'a>(
     args: &mut [usize],
     buffer: &mut [u8],
 ) -> Walked
-    requires { UseStood (ground_of text.now places.now lists.now tplaces.now book.now rows.now waves.now known signals) i frame.depth frame.level table t (arrays values.old feeds.old args.old) walk buffer.old }
-    ensures { Entered (ground_of text.now places.now lists.now tplaces.now book.now rows.now waves.now known signals) i frame.depth frame.level table t (arrays values.old feeds.old args.old) (arrays values.new feeds.new args.new) walk buffer.old buffer.new result }
+    requires { UseStood (ground_of ground.now) i frame.depth frame.level table t (arrays values.old feeds.old args.old) walk buffer.old }
+    ensures { Entered (ground_of ground.now) i frame.depth frame.level table t (arrays values.old feeds.old args.old) (arrays values.new feeds.new args.new) walk buffer.old buffer.new result }
 {
-    let m = measures::measure_at(book, i);
+    let m = measures::measure_at(ground.declared.book, i);
     let w = rows::spend(walk, m.size + 1);
     let cycles = m.cycles + t * m.shifts;
     if w.pass < cycles {
-        return into(
-            text, places, lists, tplaces, book, rows, waves, known, signals, frame, i, t, table, w,
-            values, feeds, args, buffer,
-        );
+        return into(ground, frame, i, t, table, w, values, feeds, args, buffer);
     }
     let r = plays::enter(
-        text,
-        places,
-        lists,
-        tplaces,
-        book,
-        rows,
-        waves,
+        ground,
         b"",
         b"",
-        known,
-        signals,
         once(frame),
         i,
         t,
@@ -514,16 +393,8 @@ fn gone(cursor: Cursor, table: usize, walk: Walk) -> Walked
 // The statement at the cursor, or the `}` there.
 #[cycle(body_of_enter_into_reach_repeat_statement_statements_turns)]
 fn statement<'a>(
-    text: &'a [u8],
+    ground: &'a Ground<'a>,
     c: Cursor,
-    places: &'a [usize],
-    lists: &'a [u16],
-    tplaces: &'a [usize],
-    book: &'a [usize],
-    rows: &'a [u16],
-    waves: &'a [u8],
-    known: Known,
-    signals: usize,
     frame: Frame,
     table: usize,
     walk: Walk,
@@ -532,13 +403,11 @@ fn statement<'a>(
     args: &mut [usize],
     buffer: &mut [u8],
 ) -> Walked
-    requires { (alive c ≡ true) × Stood (ground_of text.now places.now lists.now tplaces.now book.now rows.now waves.now known signals) (stream text.now c) frame.depth frame.level table frame.turns (arrays values.old feeds.old args.old) walk buffer.old }
-    ensures { Stepped (ground_of text.now places.now lists.now tplaces.now book.now rows.now waves.now known signals) (stream text.now c) frame.depth frame.level table frame.turns (arrays values.old feeds.old args.old) (arrays values.new feeds.new args.new) walk buffer.old buffer.new result }
+    requires { (alive c ≡ true) × Stood (ground_of ground.now) (stream ground.now.declared.text.now c) frame.depth frame.level table frame.turns (arrays values.old feeds.old args.old) walk buffer.old }
+    ensures { Stepped (ground_of ground.now) (stream ground.now.declared.text.now c) frame.depth frame.level table frame.turns (arrays values.old feeds.old args.old) (arrays values.new feeds.new args.new) walk buffer.old buffer.new result }
 {
     let mut given = [0; sets::MOST];
-    let h = heads::head(
-        text, c, places, lists, tplaces, book, rows, known, true, DEPTH, false, &mut given, args,
-    );
+    let h = heads::head(&ground.declared, c, true, DEPTH, false, &mut given, args);
     let cursor = h.cursor;
     let what = h.what;
     match what {
@@ -549,31 +418,42 @@ fn statement<'a>(
             ends: true,
         },
         heads::What::Vector(place) => {
-            pins::put(text, &given, values, feeds, frame.level, signals);
+            pins::put(
+                ground.declared.text,
+                &given,
+                values,
+                feeds,
+                frame.level,
+                ground.signals,
+            );
             gone(
                 cursor,
                 table,
-                rows::cycle(values, signals, table, walk, buffer),
+                rows::cycle(values, ground.signals, table, walk, buffer),
             )
         }
         heads::What::Assigns => {
-            pins::put(text, &given, values, feeds, frame.level, signals);
+            pins::put(
+                ground.declared.text,
+                &given,
+                values,
+                feeds,
+                frame.level,
+                ground.signals,
+            );
             gone(cursor, table, rows::spend(walk, 1))
         }
         heads::What::Chooses(k) => gone(cursor, k, rows::spend(walk, 1)),
         heads::What::Loops(n) => repeat(
-            text, cursor, places, lists, tplaces, book, rows, waves, known, signals, frame, n,
-            table, walk, values, feeds, args, buffer,
+            ground, cursor, frame, n, table, walk, values, feeds, args, buffer,
         ),
         heads::What::Shifts => shift(
-            text, cursor, places, lists, tplaces, book, rows, waves, known, signals, frame, table,
-            walk, values, feeds, args, buffer,
+            ground, cursor, frame, table, walk, values, feeds, args, buffer,
         ),
         heads::What::Uses(i, t) => {
             pins::supply(&given, args, feeds, frame.level + 1);
             let r = enter(
-                text, places, lists, tplaces, book, rows, waves, known, signals, frame, i, t,
-                table, walk, values, feeds, args, buffer,
+                ground, frame, i, t, table, walk, values, feeds, args, buffer,
             );
             gone(cursor, r.table, r.walk)
         }
@@ -585,16 +465,8 @@ fn statement<'a>(
 // Statements from the cursor on, up to their `}`, or until nothing is left to do.
 #[cycle(body_of_enter_into_reach_repeat_statement_statements_turns)]
 fn statements<'a>(
-    text: &'a [u8],
+    ground: &'a Ground<'a>,
     c: Cursor,
-    places: &'a [usize],
-    lists: &'a [u16],
-    tplaces: &'a [usize],
-    book: &'a [usize],
-    rows: &'a [u16],
-    waves: &'a [u8],
-    known: Known,
-    signals: usize,
     frame: Frame,
     table: usize,
     walk: Walk,
@@ -603,16 +475,15 @@ fn statements<'a>(
     args: &mut [usize],
     buffer: &mut [u8],
 ) -> Walked
-    requires { (alive c ≡ true) × Stood (ground_of text.now places.now lists.now tplaces.now book.now rows.now waves.now known signals) (stream text.now c) frame.depth frame.level table frame.turns (arrays values.old feeds.old args.old) walk buffer.old }
-    ensures { Promised (ground_of text.now places.now lists.now tplaces.now book.now rows.now waves.now known signals) (stream text.now c) frame.depth frame.level table frame.turns (arrays values.old feeds.old args.old) (arrays values.new feeds.new args.new) walk buffer.old buffer.new result }
+    requires { (alive c ≡ true) × Stood (ground_of ground.now) (stream ground.now.declared.text.now c) frame.depth frame.level table frame.turns (arrays values.old feeds.old args.old) walk buffer.old }
+    ensures { Promised (ground_of ground.now) (stream ground.now.declared.text.now c) frame.depth frame.level table frame.turns (arrays values.old feeds.old args.old) (arrays values.new feeds.new args.new) walk buffer.old buffer.new result }
 {
     let mut cursor = c;
     let mut chosen = table;
     let mut w = walk;
     loop {
         let r = statement(
-            text, cursor, places, lists, tplaces, book, rows, waves, known, signals, frame, chosen,
-            w, values, feeds, args, buffer,
+            ground, cursor, frame, chosen, w, values, feeds, args, buffer,
         );
         w = r.walk;
         if r.ends | rows::over(w) {
@@ -626,16 +497,8 @@ fn statements<'a>(
 // The statements of a body, which is the part of the text that begins with it.
 #[cycle(body_of_enter_into_reach_repeat_statement_statements_turns)]
 pub fn body_of<'a>(
-    text: &'a [u8],
+    ground: &'a Ground<'a>,
     body: &'a [u8],
-    places: &'a [usize],
-    lists: &'a [u16],
-    tplaces: &'a [usize],
-    book: &'a [usize],
-    rows: &'a [u16],
-    waves: &'a [u8],
-    known: Known,
-    signals: usize,
     frame: Frame,
     table: usize,
     walk: Walk,
@@ -644,12 +507,12 @@ pub fn body_of<'a>(
     args: &mut [usize],
     buffer: &mut [u8],
 ) -> Walked
-    requires { (length body.now ≤ length text.now) × Stood (ground_of text.now places.now lists.now tplaces.now book.now rows.now waves.now known signals) (toks text.now (length text.now - length body.now)) frame.depth frame.level table frame.turns (arrays values.old feeds.old args.old) walk buffer.old }
-    ensures { Promised (ground_of text.now places.now lists.now tplaces.now book.now rows.now waves.now known signals) (toks text.now (length text.now - length body.now)) frame.depth frame.level table frame.turns (arrays values.old feeds.old args.old) (arrays values.new feeds.new args.new) walk buffer.old buffer.new result }
+    requires { (length body.now ≤ length ground.now.declared.text.now) × Stood (ground_of ground.now) (toks ground.now.declared.text.now (length ground.now.declared.text.now - length body.now)) frame.depth frame.level table frame.turns (arrays values.old feeds.old args.old) walk buffer.old }
+    ensures { Promised (ground_of ground.now) (toks ground.now.declared.text.now (length ground.now.declared.text.now - length body.now)) frame.depth frame.level table frame.turns (arrays values.old feeds.old args.old) (arrays values.new feeds.new args.new) walk buffer.old buffer.new result }
 {
-    let c = words::cursor_at(text, text.len() - body.len());
-    statements(
-        text, c, places, lists, tplaces, book, rows, waves, known, signals, frame, table, walk,
-        values, feeds, args, buffer,
-    )
+    let c = words::cursor_at(
+        ground.declared.text,
+        ground.declared.text.len() - body.len(),
+    );
+    statements(ground, c, frame, table, walk, values, feeds, args, buffer)
 }

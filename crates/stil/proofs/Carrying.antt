@@ -5,10 +5,10 @@ use mathlib.Core.List.{List, [], ◌∷◌}
 use lib.ListN.{length}
 use borrow.Author.Tests.{le-leb, lt-leb, eq-eqb, ne_eqb}
 use Rattle.tokens.specs.Written.{cases}
-use Rattle.intake.specs.Intake.{raw_most}
+use Rattle.intake.specs.Intake.{raw_most, Progress, open_at, refused_with, closed_at}
 use Rattle.intake.specs.declared.Intake.{Intake}
-use Rattle.intake.specs.declared.Progress.{Progress}
-use Rattle.intake.specs.declared.Progress.TheVariants.{Open, Refused, Closed}
+use Rattle.std.specs.Prelude.{Err}
+use Rattle.tokens.specs.declared.Refusal.{Refusal}
 use Rattle.meaning.specs.Refusals.{no_room}
 use Rattle.meaning.specs.Meaning.{given, refused}
 use Rattle.texts.specs.Told.{packed_refusal}
@@ -20,15 +20,15 @@ use Rattle.stil.specs.Intakes.{state_least, is_open, is_refused, is_closed, byte
 
 module _ (kind a b c d e : ℕ) where
   pub is_open_lem : {run mode : ℕ} → kind ≡ is_open → run ≡ byte_of c → mode ≡ byte_of d
-      → Open (record { taken = a; stored = b; run = run; mode = mode; opening = e }) ≡ progress_is kind a b c d e
+      → open_at (record { taken = a; stored = b; run = run; mode = mode; opening = e }) ≡ progress_is kind a b c d e
   unfolding progress_is cases
   is_open_lem h f g = rw (f, g, eq-eqb kind is_open h, progress_is)
 
-  pub is_closed_lem : (kind ≡ is_open → ⊥) → kind ≡ is_closed → Closed a ≡ progress_is kind a b c d e
+  pub is_closed_lem : (kind ≡ is_open → ⊥) → kind ≡ is_closed → closed_at a ≡ progress_is kind a b c d e
   unfolding progress_is cases
   is_closed_lem g h = rw (ne_eqb kind is_open g, eq-eqb kind is_closed h, progress_is)
 
-  pub is_refused_lem : {n : ℕ} → (kind ≡ is_open → ⊥) → (kind ≡ is_closed → ⊥) → n ≡ byte_of a → Refused n b ≡ progress_is kind a b c d e
+  pub is_refused_lem : {n : ℕ} → (kind ≡ is_open → ⊥) → (kind ≡ is_closed → ⊥) → n ≡ byte_of a → refused_with n b ≡ progress_is kind a b c d e
   unfolding progress_is cases
   is_refused_lem g h f = rw (f, ne_eqb kind is_open g, ne_eqb kind is_closed h, progress_is)
 
@@ -43,17 +43,17 @@ raw_far n p h = rw (lt-leb p raw_most h, raw_refusal)
 -- ---- an answer told
 
 module _ {p : Progress} {state state' : List ℕ} where
-  pub tells_open : {x : Intake} → p ≡ Open x → state' ≡ fronted (is_open ∷ x.taken ∷ x.stored ∷ x.run ∷ x.mode ∷ x.opening ∷ []) state
+  pub tells_open : {x : Intake} → p ≡ open_at x → state' ≡ fronted (is_open ∷ x.taken ∷ x.stored ∷ x.run ∷ x.mode ∷ x.opening ∷ []) state
       → Tells p state 0 state'
   unfolding told_by numbers_of
   tells_open e s = record { number = rw e; state_is = s ∙ rw e }
 
-  pub tells_refused : {n q r : ℕ} → p ≡ Refused n q → state' ≡ fronted (is_refused ∷ n ∷ q ∷ 0 ∷ 0 ∷ 0 ∷ []) state → r ≡ raw_refusal n q
+  pub tells_refused : {x : Refusal} {r : ℕ} → p ≡ Err x → state' ≡ fronted (is_refused ∷ x.no ∷ x.place ∷ 0 ∷ 0 ∷ 0 ∷ []) state → r ≡ raw_refusal x.no x.place
       → Tells p state r state'
   unfolding told_by numbers_of
   tells_refused e s h = record { number = h ∙ rw e; state_is = s ∙ rw e }
 
-  pub tells_closed : {n : ℕ} → p ≡ Closed n → state' ≡ fronted (is_closed ∷ n ∷ 0 ∷ 0 ∷ 0 ∷ 0 ∷ []) state → Tells p state 0 state'
+  pub tells_closed : {n : ℕ} → p ≡ closed_at n → state' ≡ fronted (is_closed ∷ n ∷ 0 ∷ 0 ∷ 0 ∷ 0 ∷ []) state → Tells p state 0 state'
   unfolding told_by numbers_of
   tells_closed e s = record { number = rw e; state_is = s ∙ rw e }
 

@@ -9,9 +9,9 @@ use lib.ListN.{length, drop}
 use lib.Dec.{eqb}
 use Rattle.tokens.specs.Written.{cases}
 use Rattle.intake.specs.declared.Intake.{Intake}
-use Rattle.intake.specs.declared.Progress.{Progress}
-use Rattle.intake.specs.declared.Progress.TheVariants.{Open, Refused, Closed}
-use Rattle.intake.specs.Intake.{Step, stepped, mark_with, outside, behind_slash, in_line, in_block, behind_star, step, refusal, refusal_of, Taken, on, refused, behind, takes, room_of, after_taking, chunked, closing, after_closing, closed, begun}
+use Rattle.std.specs.Prelude.{Ok, Err}
+use Rattle.intake.specs.declared.Stage.TheVariants.{Open, Closed}
+use Rattle.intake.specs.Intake.{Progress, Step, stepped, mark_with, outside, behind_slash, in_line, in_block, behind_star, step, refusal, refusal_of, Taken, on, refused, behind, takes, room_of, after_taking, chunked, closing, after_closing, closed, begun}
 use Rattle.intake.specs.Calls.{calls, intake}
 use Rattle.stil.specs.Intakes.{byte_of, progress_is, progress_of, numbers_of, encoded, Fits, Carries, calls_in, intake_in}
 
@@ -19,9 +19,9 @@ use Rattle.stil.specs.Intakes.{byte_of, progress_is, progress_of, numbers_of, en
 
 pub decode_encode : (p : Progress) → Fits p → (state : List ℕ) → progress_of (encoded p state) ≡ p
 unfolding progress_is numbers_of cases Fits
-decode_encode (Open x) f state = rw (mod-eq_of_lt f.0, mod-eq_of_lt f.1)
-decode_encode (Refused n p) f state = rw (mod-eq_of_lt f)
-decode_encode (Closed n) f state = refl
+decode_encode (Ok (Open x)) f state = rw (mod-eq_of_lt f.0, mod-eq_of_lt f.1)
+decode_encode (Err r) f state = rw (mod-eq_of_lt f)
+decode_encode (Ok (Closed n)) f state = refl
 
 -- six times 0, whatever stands behind them
 pub fresh : (rest : List ℕ) → progress_of (0 ∷ 0 ∷ 0 ∷ 0 ∷ 0 ∷ 0 ∷ rest) ≡ begun
@@ -143,15 +143,15 @@ ending_fits store at (refused n p) h = h
 
 pub chunked_fits : (p : Progress) → Fits p → (chunk store : List ℕ) → Fits (chunked p chunk store).0
 unfolding chunked Fits
-chunked_fits (Open x) f chunk store = taking_fits store x.stored _ (takes_small (room_of store) x f chunk)
-chunked_fits (Refused n p) f chunk store = f
-chunked_fits (Closed n) f chunk store = f
+chunked_fits (Ok (Open x)) f chunk store = taking_fits store x.stored _ (takes_small (room_of store) x f chunk)
+chunked_fits (Err r) f chunk store = f
+chunked_fits (Ok (Closed n)) f chunk store = f
 
 pub closed_fits : (p : Progress) → Fits p → (store : List ℕ) → Fits (closed p store).0
 unfolding closed Fits
-closed_fits (Open x) f store = ending_fits store x.stored _ (closing_small (room_of store) x f)
-closed_fits (Refused n p) f store = f
-closed_fits (Closed n) f store = f
+closed_fits (Ok (Open x)) f store = ending_fits store x.stored _ (closing_small (room_of store) x f)
+closed_fits (Err r) f store = f
+closed_fits (Ok (Closed n)) f store = f
 
 -- ---- calls one after the other
 
@@ -161,14 +161,14 @@ unfolding numbers_of
 encoded_again p q state = ap (λ (n : ℕ). numbers_of q ++ drop n (encoded p state)) (six q) ∙ ap (λ (s : List ℕ). numbers_of q ++ s) (rest p) ∙ ap (λ (n : ℕ). numbers_of q ++ drop n state) (sym (six q))
   where
     six : (p : Progress) → length (numbers_of p) ≡ 6
-    six (Open x) = refl
-    six (Refused n q) = refl
-    six (Closed n) = refl
+    six (Ok (Open x)) = refl
+    six (Err r) = refl
+    six (Ok (Closed n)) = refl
 
     rest : (p : Progress) → drop 6 (encoded p state) ≡ drop 6 state
-    rest (Open x) = refl
-    rest (Refused n q) = refl
-    rest (Closed n) = refl
+    rest (Ok (Open x)) = refl
+    rest (Err r) = refl
+    rest (Ok (Closed n)) = refl
 
 -- THE LAW: what the calls leave in a state is what the intake's own calls answer, and the store is theirs
 pub calls_chain : (p : Progress) → Fits p → (state : List ℕ) (cs : List (List ℕ)) (store : List ℕ)

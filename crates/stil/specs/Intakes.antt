@@ -1,9 +1,8 @@
 -- The intake (request 3) for callers in C: what it answered last is a state of lent numbers. A call decodes them, does what the intake does, and encodes the answer.
-use Rattle.std.specs.Prelude.{ℕ, ◌+◌, ◌*◌, ◌%◌, ◌<◌, ◌≡◌, true, false, List, [], ◌∷◌, length, get_or, eqb, leb}
+use Rattle.std.specs.Prelude.{ℕ, ◌+◌, ◌*◌, ◌%◌, ◌<◌, ◌≡◌, true, false, List, [], ◌∷◌, length, get_or, eqb, leb, Ok, Err}
 use Rattle.tokens.specs.Written.{cases}
-use Rattle.intake.specs.declared.Progress.{Progress}
-use Rattle.intake.specs.declared.Progress.TheVariants.{Open, Refused, Closed}
-use Rattle.intake.specs.Intake.{raw_most, chunked, closed}
+use Rattle.intake.specs.declared.Stage.TheVariants.{Open, Closed}
+use Rattle.intake.specs.Intake.{raw_most, Progress, open_at, refused_with, closed_at, chunked, closed}
 use Rattle.meaning.specs.Refusals.{no_room}
 use Rattle.meaning.specs.Meaning.{Answer, given, refused}
 use Rattle.texts.specs.Told.{packed_refusal}
@@ -34,18 +33,18 @@ byte_of n = n % 256
 unfoldable pub progress_is : (kind a b c d e : ℕ) → Progress
 progress_is kind a b c d e =
     cases (
-    (eqb kind is_open, Open (record { taken = a; stored = b; run = byte_of c; mode = byte_of d; opening = e }))
-    ∷ (eqb kind is_closed, Closed a)
-    ∷ []) (Refused (byte_of a) b)
+    (eqb kind is_open, open_at (record { taken = a; stored = b; run = byte_of c; mode = byte_of d; opening = e }))
+    ∷ (eqb kind is_closed, closed_at a)
+    ∷ []) (refused_with (byte_of a) b)
 
 abbrev pub progress_of : List ℕ → Progress
 progress_of s = progress_is (get_or s 0 0) (get_or s 1 0) (get_or s 2 0) (get_or s 3 0) (get_or s 4 0) (get_or s 5 0)
 
 -- the same numbers again; one that has no meaning is 0
 unfoldable pub numbers_of : Progress → List ℕ
-numbers_of (Open x) = is_open ∷ x.taken ∷ x.stored ∷ x.run ∷ x.mode ∷ x.opening ∷ []
-numbers_of (Refused n p) = is_refused ∷ n ∷ p ∷ 0 ∷ 0 ∷ 0 ∷ []
-numbers_of (Closed n) = is_closed ∷ n ∷ 0 ∷ 0 ∷ 0 ∷ 0 ∷ []
+numbers_of (Ok (Open x)) = is_open ∷ x.taken ∷ x.stored ∷ x.run ∷ x.mode ∷ x.opening ∷ []
+numbers_of (Err r) = is_refused ∷ r.no ∷ r.place ∷ 0 ∷ 0 ∷ 0 ∷ []
+numbers_of (Ok (Closed n)) = is_closed ∷ n ∷ 0 ∷ 0 ∷ 0 ∷ 0 ∷ []
 
 -- at the front of a state
 abbrev pub encoded : Progress → List ℕ → List ℕ
@@ -53,9 +52,9 @@ encoded p state = fronted (numbers_of p) state
 
 -- what the code can hold: its bytes are bytes
 unfoldable pub Fits : Progress → Type 0
-Fits (Open x) = (x.run < 256) × (x.mode < 256)
-Fits (Refused n p) = n < 256
-Fits (Closed n) = Unit {0}
+Fits (Ok (Open x)) = (x.run < 256) × (x.mode < 256)
+Fits (Err r) = r.no < 256
+Fits (Ok (Closed n)) = Unit {0}
 
 -- ---- a call
 
@@ -69,9 +68,9 @@ raw_refusal n p = elim (leb p raw_most) [ true ↦ p * 32 + n | false ↦ n ]
 
 -- the returned number: 0 where the intake is open or closed, else the refusal
 unfoldable pub told_by : Progress → ℕ
-told_by (Open x) = 0
-told_by (Refused n p) = raw_refusal n p
-told_by (Closed n) = 0
+told_by (Ok (Open x)) = 0
+told_by (Err r) = raw_refusal r.no r.place
+told_by (Ok (Closed n)) = 0
 
 unfoldable pub told_in : Answer (Progress × List ℕ) → ℕ
 told_in (given x) = told_by x.0

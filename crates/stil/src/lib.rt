@@ -5,7 +5,7 @@
 ghost use Rattle.std.specs.Prelude.{◌≡◌, ◌∷◌, [], not, ◌≤◌, length, eqb};
 ghost use Rattle.tokens.specs.Tokens.{next_token};
 ghost use Rattle.columns.specs.Columns.{position};
-ghost use Rattle.intake.specs.Intake.{chunked, closed as closed_of};
+ghost use Rattle.intake.specs.Intake.{chunked, closed as closed_of, ended};
 ghost use Rattle.meaning.specs.Meaning.{given};
 ghost use Rattle.meaning.specs.Services.{check as check_of, name_of, window as window_of, waveform as waveform_of};
 ghost use Rattle.meaning.specs.Charts.{waveforms as waveforms_of};
@@ -25,7 +25,7 @@ ghost use Rattle.stil.specs.Folds.{Flattens};
 ghost use Rattle.stil.specs.Reports.{report_refusal, Replies};
 
 use fails::Unanswered;
-use intake::{Intake, Progress};
+use intake::{Intake, Progress, Stage};
 use services::Undrawn;
 use tokens::{Refusal, TEXT_MOST};
 use words::NO_ROOM;
@@ -320,19 +320,22 @@ fn progress_of(kind: u64, a: u64, b: u64, c: u64, d: u64, e: u64) -> Progress
     if kind == IS_OPEN {
         let run = byte_of(c);
         let mode = byte_of(d);
-        return Progress::Open(Intake {
+        return Ok(Stage::Open(Intake {
             taken: a as usize,
             stored: b as usize,
             run,
             mode,
             opening: e as usize,
-        });
+        }));
     }
     if kind == IS_CLOSED {
-        return Progress::Closed(a as usize);
+        return Ok(Stage::Closed(a as usize));
     }
     let number = byte_of(a);
-    Progress::Refused(number, b as usize)
+    Err(Refusal {
+        no: number,
+        place: b as usize,
+    })
 }
 
 // Six numbers to the front of a state.
@@ -364,7 +367,7 @@ fn put_progress(p: Progress, state: &mut [u64]) -> u64
     ensures { Tells p state.old result state.new }
 {
     match p {
-        Progress::Open(it) => {
+        Ok(Stage::Open(it)) => {
             let run = it.run as u64;
             let mode = it.mode as u64;
             put_six(
@@ -378,17 +381,24 @@ fn put_progress(p: Progress, state: &mut [u64]) -> u64
             );
             0
         }
-        Progress::Refused(n, q) => {
-            let number = n as u64;
-            let place = q as u64;
+        Err(refusal) => {
+            let number = refusal.no as u64;
+            let place = refusal.place as u64;
             put_six(state, IS_REFUSED, number, place, 0, 0, 0);
-            pack_raw(n, q)
+            pack_raw(refusal.no, refusal.place)
         }
-        Progress::Closed(n) => {
+        Ok(Stage::Closed(n)) => {
             put_six(state, IS_CLOSED, n as u64, 0, 0, 0, 0);
             0
         }
     }
+}
+
+// What the close answered, as it stays.
+fn at_close(answer: Result<usize, Refusal>) -> Progress
+    ensures { result ≡ ended answer }
+{
+    Ok(Stage::Closed(answer?))
 }
 
 // The next chunk of a raw text. A state of less than six numbers is 19.
@@ -411,6 +421,6 @@ pub fn lutemeteor_intake_close(state: &mut [u64], store: &mut [u8]) -> u64
         return pack(FULL);
     }
     let p = progress_of(state[0], state[1], state[2], state[3], state[4], state[5]);
-    let answer = intake::close(p, store);
+    let answer = at_close(intake::close(p, store));
     put_progress(answer, state)
 }

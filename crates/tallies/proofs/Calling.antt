@@ -15,7 +15,7 @@ use Rattle.sums.specs.Parts.{Kept, Shows, Entered, InPlace, Called}
 use Rattle.sums.proofs.Statements.{kept_both}
 use Rattle.tallies.specs.Rows.{slots, given_from, sum_at, Only, More, Marked, Asked, ShownWhere, FedWhere, Passed, OnSignal, Retabled}
 use Rattle.tallies.proofs.Stored.{only_then}
-use Rattle.tallies.proofs.Grown.{under_slot, given_slot, more_none, more_then, shows_kept}
+use Rattle.tallies.proofs.Grown.{under_slot, given_slot, more_then, shows_kept}
 use Rattle.tallies.proofs.Others.{other_sum}
 use Rattle.tallies.proofs.Feeding.{where_kept}
 use Rattle.tallies.proofs.Entering.{real_char, on_kept, on_later, fed_later}
@@ -55,11 +55,6 @@ pub record Entering (text waves given args : List ℕ) (r from s : ℕ) (sums su
   pub each : (xs : Args) → Supplied text xs given args → (tabs : Tables) → Marked waves tabs → (i : ℕ) → i < s → OnSignal tabs r from i (arg_of i xs) sums sums'
 
 module _ {text waves given args : List ℕ} {r from : ℕ} {sums : List ℕ} where
-  pub entering_none : Entering text waves given args r from 0 sums sums
-  entering_none =
-      let m = more_none {r = r} {sums = sums} in
-      record { only = m.only; kept = m.kept; table_is = refl; rest = λ i h. refl; each = λ xs u tabs w i h. absurd (omega arith) }
-
   module _ {s : ℕ} {sums' sums'' : List ℕ} (y : Entering text waves given args r from s sums sums') (d : from ≡ r → ⊥) where
     pub entering_next : s < signals_most → Passed r s sums' sums''
         → ((xs : Args) → Supplied text xs given args → (tabs : Tables) → Marked waves tabs → OnSignal tabs r from s (arg_of s xs) sums' sums'')
@@ -106,9 +101,6 @@ pub record Calling (text waves given args : List ℕ) (r from s : ℕ) (sums sum
   pub fed : (xs : Args) → Supplied text xs given args → (tabs : Tables) → Marked waves tabs → (i : ℕ) → i < s → FedWhere tabs r from i (arg_of i xs) sums sums'
 
 module _ {text waves given args : List ℕ} {r from : ℕ} {sums : List ℕ} where
-  pub calling_none : Calling text waves given args r from 0 sums sums
-  calling_none = record { more = more_none; tabled = λ i h. absurd (omega arith); fed = λ xs u tabs w i h. absurd (omega arith) }
-
   module _ {s : ℕ} {sums' : List ℕ} (y : Calling text waves given args r from s sums sums') (d : from ≡ r → ⊥) where
     pub calling_next : {sums'' sums''' : List ℕ} → s < signals_most → More r sums' sums''
         → ((sum_at sums' from).under s none ≡ true → (sum_at sums' r).table ≡ none → (sum_at sums'' r).needs ≡ true) → More r sums'' sums'''

@@ -79,19 +79,19 @@ module _ (sums : List ℕ) (from i : ℕ) {b : ℕ} (h : i < signals_most) (e : 
   left_is : (sum_at sums from).pin i ≡ shown_of b
   left_is = pin_at sums from i h ∙ ap shown_of (sym e)
 
-  -- entered from a state with the character c there
-  module _ (c : ℕ) (cs : List ℕ) where
-    pub left_nothing : b ≡ 0 → c ≡ left_on ((sum_at sums from).pin i) c cs
-    unfolding left_on
-    left_nothing z = rw (left_is ∙ shown_zero b z)
+-- entered from a state with the character c there
+module _ (b c : ℕ) (cs : List ℕ) where
+  pub left_nothing : b ≡ 0 → c ≡ left_on (shown_of b) c cs
+  unfolding left_on
+  left_nothing z = rw (shown_zero b z)
 
-    pub left_last : {v : ℕ} → b ≡ mark → v ≡ last_of cs 0 → v ≡ left_on ((sum_at sums from).pin i) c cs
-    unfolding left_on
-    left_last m q = rw (left_is ∙ shown_mark b m) q
+  pub left_last : {v : ℕ} → b ≡ mark → v ≡ last_of cs 0 → v ≡ left_on (shown_of b) c cs
+  unfolding left_on
+  left_last m q = rw (shown_mark b m) q
 
-    pub left_char : (b ≡ 0 → ⊥) → (b ≡ mark → ⊥) → b ≡ left_on ((sum_at sums from).pin i) c cs
-    unfolding left_on
-    left_char n m = rw (left_is ∙ shown_char b n m)
+  pub left_char : (b ≡ 0 → ⊥) → (b ≡ mark → ⊥) → b ≡ left_on (shown_of b) c cs
+  unfolding left_on
+  left_char n m = rw (shown_char b n m)
 
 module _ (S : Shown) (sums : List ℕ) (from i : ℕ) {b : ℕ} (h : i < signals_most) (e : b ≡ byte_at sums from (pins_from + i)) where
   pub leaves_nothing : b ≡ 0 → (cs : List ℕ) → S ≡ behind S ((sum_at sums from).pin i) cs

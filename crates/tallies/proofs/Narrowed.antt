@@ -11,7 +11,7 @@ use Rattle.tokens.proofs.Bools.{both}
 use Rattle.meaning.specs.Bounds.{tables_most}
 use Rattle.tallies.specs.Rows.{fine_from, flag_at, sum_at, Stored, More}
 use Rattle.tallies.proofs.Stored.{flag_is, flag_was}
-use Rattle.tallies.proofs.Grown.{more_none, more_then, more_unfine}
+use Rattle.tallies.proofs.Grown.{more_then, more_unfine}
 
 -- of the first k tables, those that are fine have P
 pub record Narrowed (P : ℕ → Type 0) (r k : ℕ) (sums sums' : List ℕ) : Type 0 where
@@ -19,9 +19,6 @@ pub record Narrowed (P : ℕ → Type 0) (r k : ℕ) (sums sums' : List ℕ) : T
   pub each : (j : ℕ) → j < k → flag_at sums' r (fine_from + j) ≡ true → P j
 
 module _ {P : ℕ → Type 0} {r : ℕ} {sums : List ℕ} where
-  pub narrowed_none : Narrowed P r 0 sums sums
-  narrowed_none = record { more = more_none; each = λ j h. absurd (omega arith) }
-
   module _ {k : ℕ} {sums' : List ℕ} (x : Narrowed P r k sums sums') where
     pub narrowed_passed : P k → Narrowed P r (k + 1) sums sums'
     narrowed_passed p =

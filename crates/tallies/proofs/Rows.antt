@@ -1,11 +1,14 @@
 -- A row by itself: cleared, assignments made, a table chosen.
-use Prim.Native.Nat.{ℕ, ◌+◌, ◌≤◌, ◌<◌}
+use Prim.Native.Nat.{ℕ, ◌+◌, ◌*◌, ◌≤◌, ◌<◌}
 use native.Mathlib.Omega.{arith}
 use mathlib.Core.Path.{◌≡◌, refl, sym, ap, ◌∙◌}
 use mathlib.Core.Bool.{Bool, true, false}
 use mathlib.Core.List.{List, [], ◌∷◌}
 use lib.Dec.{ltb, eqb}
-use lib.ListN.{get_or}
+use lib.ListN.{length, get_or, set, replicate, length-set, length-replicate, get_or-replicate}
+use lib.Seq.{get_or-set_same, get_or-set_other}
+use borrow.Rule.Slice.PartMut.{put_mid}
+use Rattle.std.proofs.lemmas.List.{places}
 use borrow.Author.Count.{below_more}
 use borrow.Author.Tests.{ltb-true, ltb-false, eqb-true, eqb-false, eq-eqb, ne_eqb}
 use Rattle.tokens.proofs.Bools.{neither}
@@ -20,28 +23,56 @@ use Rattle.pins.proofs.Callers.{table_some, table_none}
 use Rattle.sums.specs.Sums.{Shown, before, argument, char}
 use Rattle.sums.specs.Parts.{Nothing, Kept, shown_one, shown_by, Assigned, Chosen}
 use Rattle.sums.proofs.Statements.{kept_both}
-use Rattle.tallies.specs.Rows.{pins_from, fine_from, bad_place, byte_at, shown_of, sum_at, Only, Stored}
+use Rattle.tallies.specs.Rows.{row_size, pins_from, fine_from, bad_place, byte_at, shown_of, sum_at, Only, Stored}
 use Rattle.tallies.proofs.Stored.{only_then}
-use Rattle.tallies.proofs.Grown.{pin_at, pin_none, pin_alike, kept_beside, more_none}
+use Rattle.tallies.proofs.Grown.{pin_at, pin_none, pin_alike, kept_beside}
 
 -- ---- cleared
 
--- the first bytes are 0
-abbrev pub Zeros : List ℕ → ℕ → ℕ → Type 0
-Zeros sums r n = (p : ℕ) → p < n → byte_at sums r p ≡ 0
+long_mid : (a k : ℕ) (xs ys : List ℕ) → a + k ≤ length xs → length ys ≡ k → length (put_mid a k xs ys) ≡ length xs
+long_mid a k xs ys h e = grind (arith, places)
 
-pub zeros_next : {r n : ℕ} {sums sums' : List ℕ} → Zeros sums r n → Stored r n 0 sums sums' → Zeros sums' r (n + 1)
-zeros_next {r} {n} {sums} {sums'} z x = below_more (λ p. byte_at sums' r p ≡ 0) n (λ p h. x.else p (λ e. omega arith) ∙ z p h) x.here
+before_mid : (a k : ℕ) (xs ys : List ℕ) (p : ℕ) → p < a → a ≤ length xs → get_or (put_mid a k xs ys) p 0 ≡ get_or xs p 0
+before_mid a k xs ys p h l = grind (arith, places)
 
-pub zeros_kept : {r n p v : ℕ} {sums sums' : List ℕ} → Zeros sums r n → Stored r p v sums sums' → n ≤ p → Zeros sums' r n
-zeros_kept z x l q h = x.else q (λ e. omega arith) ∙ z q h
+-- a row is written anew
+laid : {r k : ℕ} {sums : List ℕ} (row : List ℕ) → k ≡ row_size → r * row_size + row_size ≤ length sums → length row ≡ row_size
+    → Only r sums (put_mid (r * row_size) k sums row) × ((p : ℕ) → p < row_size → byte_at (put_mid (r * row_size) k sums row) r p ≡ get_or row p 0)
+laid {r} {k} {sums} row e room long = (
+  record { long = long_mid (r * row_size) k sums row (omega arith) (long ∙ sym e); below = λ p h. grind (arith, places); above = λ p h. grind (arith, places) },
+  λ p h. grind (arith, places),
+)
 
-pub cleared : {r : ℕ} {sums sums' : List ℕ} → Zeros sums r fine_from → Stored r (bad_place + 2) tables_most sums sums' → (n : ℕ) → Nothing n (sum_at sums' r)
-cleared {r} {sums} {sums'} z x n =
-    record {
-      pins_are = λ i h. pin_none sums' r i (λ l. x.else (pins_from + i) (λ e. omega arith) ∙ z (pins_from + i) (omega arith));
-      table_is = ap table_of x.here ∙ table_none tables_most (omega arith);
-    }
+-- zeros, then the tables' flags, then no table
+abbrev fresh : List ℕ → List ℕ → List ℕ
+fresh row flags = set (put_mid fine_from tables_most row flags) (bad_place + 2) tables_most
+
+pub cleared : {r k w : ℕ} {sums row : List ℕ} (flags : List ℕ) → k ≡ row_size → w ≡ row_size → r * row_size + row_size ≤ length sums → row ≡ replicate w 0 → length flags ≡ tables_most
+    → Only r sums (put_mid (r * row_size) k sums (fresh row flags)) × ((n : ℕ) → Nothing n (sum_at (put_mid (r * row_size) k sums (fresh row flags)) r))
+cleared {r} {k} {w} {sums} {row} flags e f room zeros long = (
+  l.0,
+  λ n. record {
+    pins_are = λ i h. pin_none _ r i (λ q. l.1 (pins_from + i) (omega arith) ∙ zero (pins_from + i) (omega arith));
+    table_is = ap table_of (l.1 (bad_place + 2) (omega arith) ∙ last) ∙ table_none tables_most (omega arith);
+  },
+)
+  where
+    wide : length row ≡ row_size
+    wide = ap length zeros ∙ length-replicate {A = ℕ} w 0 ∙ f
+
+    inner : length (put_mid fine_from tables_most row flags) ≡ row_size
+    inner = long_mid fine_from tables_most row flags (omega (arith, wide)) long ∙ wide
+
+    l : Only r sums (put_mid (r * row_size) k sums (fresh row flags)) × ((p : ℕ) → p < row_size → byte_at (put_mid (r * row_size) k sums (fresh row flags)) r p ≡ get_or (fresh row flags) p 0)
+    l = laid (fresh row flags) e room (length-set (put_mid fine_from tables_most row flags) (bad_place + 2) tables_most ∙ inner)
+
+    zero : (p : ℕ) → p < fine_from → get_or (fresh row flags) p 0 ≡ 0
+    zero p h =
+        get_or-set_other _ (bad_place + 2) p tables_most 0 (λ z. omega arith) ∙ before_mid fine_from tables_most row flags p h (omega (arith, wide)) ∙ ap (λ l. get_or l p 0) zeros
+        ∙ get_or-replicate {A = ℕ} w p 0 0 (omega arith)
+
+    last : get_or (fresh row flags) (bad_place + 2) 0 ≡ tables_most
+    last = get_or-set_same (put_mid fine_from tables_most row flags) (bad_place + 2) tables_most 0 (omega (arith, inner))
 
 -- ---- a table
 
@@ -76,11 +107,6 @@ pub record Assigning (r : ℕ) (given : List ℕ) (s : ℕ) (sums sums' : List �
   pub rest : (i : ℕ) → s ≤ i → i < signals_most → byte_at sums' r (pins_from + i) ≡ byte_at sums r (pins_from + i)
 
 module _ {r : ℕ} {given sums : List ℕ} where
-  pub assigning_none : Assigning r given 0 sums sums
-  assigning_none =
-      let m = more_none {r = r} {sums = sums} in
-      record { only = m.only; kept = m.kept; table_is = refl; done = λ i h. absurd (omega arith); rest = λ i l h. refl }
-
   module _ {s : ℕ} {sums' : List ℕ} (x : Assigning r given s sums sums') (h : s < signals_most) where
     pub assigning_kept : get_or given s 0 ≡ 0 → Assigning r given (s + 1) sums sums'
     assigning_kept e =

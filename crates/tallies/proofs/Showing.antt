@@ -117,9 +117,6 @@ pub record Cycling (waves : List ℕ) (r t s : ℕ) (sums sums' : List ℕ) : Ty
   pub shows : (tabs : Tables) → Marked waves tabs → (i : ℕ) → i < s → Shows tabs i ((sum_at sums r).pin i) (table_of t) (sum_at sums' r)
 
 module _ {waves : List ℕ} {r t : ℕ} {sums : List ℕ} where
-  pub cycling_none : Cycling waves r t 0 sums sums
-  cycling_none = record { more = more_none; shows = λ tabs m i h. absurd (omega arith) }
-
   pub cycling_next : {s x : ℕ} {sums' sums'' : List ℕ} → Cycling waves r t s sums sums' → s < signals_most → x ≡ byte_at sums' r (pins_from + s) → More r sums' sums''
       → ((tabs : Tables) → Marked waves tabs → Shows tabs s (shown_of x) (table_of t) (sum_at sums'' r)) → Cycling waves r t (s + 1) sums sums''
   cycling_next {s} {x} {sums'} {sums''} y h e k f =
@@ -150,9 +147,6 @@ pub record Showing (waves : List ℕ) (r from place i x t : ℕ) (sums sums' : L
   pub shows : (tabs : Tables) → Marked waves tabs → (k : ℕ) → k < t → flag_at sums from (place + k) ≡ true → Shows tabs i (shown_of x) (some k) (sum_at sums' r)
 
 module _ {waves : List ℕ} {r from place i x : ℕ} {sums : List ℕ} where
-  pub showing_none : Showing waves r from place i x 0 sums sums
-  showing_none = record { more = more_none; shows = λ tabs m k h. absurd (omega arith) }
-
   module _ {t : ℕ} {sums' : List ℕ} (y : Showing waves r from place i x t sums sums') where
     -- a byte of the body's row, which is not written
     unmarked : {b p : ℕ} → (from ≡ r → ⊥) → p < row_size → b ≡ byte_at sums' from p → b ≡ 0 → flag_at sums from p ≡ true → ⊥

@@ -1,13 +1,15 @@
 -- A byte of a row is stored: only that row is written, and of it only that byte.
-use Prim.Native.Nat.{ℕ, ◌+◌, ◌*◌, ◌≤◌, ◌<◌}
+use Prim.Native.Nat.{ℕ, ◌+◌, ◌-◌, ◌*◌, ◌≤◌, ◌<◌}
 use native.Mathlib.Omega.{arith}
 use mathlib.Core.Path.{◌≡◌, refl, sym, ◌∙◌}
 use mathlib.Core.Bool.{Bool, true, false, not}
 use mathlib.Core.List.{List}
 use lib.Dec.{ltb, eqb}
-use lib.ListN.{length, set, length-set}
+use lib.ListN.{length, get_or, set, take, drop, length-set}
 use lib.Seq.{get_or-set_same, get_or-set_other}
+use Rattle.std.proofs.lemmas.List.{places}
 use borrow.Author.Tests.{ltb-true, ltb-false, eqb-true, eqb-false, ne_eqb, not-true}
+use Rattle.meaning.specs.Bounds.{tables_most}
 use Rattle.tallies.specs.Rows.{row_size, byte_at, flag_at, Only, Stored}
 
 -- ---- flags
@@ -20,6 +22,18 @@ flag_is {n} e = eqb-false n 0 (not-true _ e)
 
 pub flag_off : {n : ℕ} → n ≡ 0 → not (eqb n 0) ≡ false
 flag_off e = rw e
+
+-- ---- a part that is lent by itself
+
+pub lent : (l : List ℕ) (a n i : ℕ) → i < n → get_or (take n (drop a l)) i 0 ≡ get_or l (a + i) 0
+lent l a n i h = grind (arith, places)
+
+-- of the tables' slots none is marked
+pub none_marked : (l : List ℕ) (a : ℕ) → ((k : ℕ) → k < length (take (a + tables_most - a) (drop a l)) → get_or (take (a + tables_most - a) (drop a l)) k 0 ≡ 0) → a + tables_most ≤ length l
+    → {k p : ℕ} → k < tables_most → p ≡ a + k → get_or l p 0 ≡ 0
+none_marked l a off room {k} {p} h e =
+    let few : k < length (take (a + tables_most - a) (drop a l)) = grind (arith, places) in
+    rw e (sym (lent l a (a + tables_most - a) k (omega arith)) ∙ off k few)
 
 -- ---- only a row is written
 

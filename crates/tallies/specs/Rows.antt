@@ -165,7 +165,11 @@ pub record Retabled (r : ℕ) (U : Sum) (sums sums' : List ℕ) : Type 0 where
   pub pins_are : (i : ℕ) → (sum_at sums' r).pin i ≡ (sum_at sums r).pin i
   pub table_is : (sum_at sums' r).table ≡ or_table U.table (sum_at sums r).table
 
--- ---- a body that is entered from a state
+-- ---- a body that is entered from a state: its row by itself
+
+-- is a byte of the row set?
+abbrev pub flag_in : List ℕ → ℕ → Bool
+flag_in row p = not (eqb (get_or row p 0) 0)
 
 -- what signal i has behind a body that leaves u there, where c was before and its argument is l
 unfoldable pub left_on : Shown → ℕ → List ℕ → ℕ
@@ -179,22 +183,22 @@ pub record Suits (S : Sum) (table : Option ℕ) : Type 0 where
   pub tabled : S.needs ≡ true → (k : ℕ) × (table ≡ some k) × (S.fine k ≡ true)
 
 -- the character c can be shown on signal i under each slot that is marked in the row, from a place on; the last slot is the table in force
-pub record FitsWhere (tabs : Tables) (r place i c : ℕ) (table : Option ℕ) (sums : List ℕ) : Type 0 where
-  pub fits : (t : Option ℕ) → is_slot t ≡ true → flag_at sums r (place + slot_of t) ≡ true → ok_at tabs (or_table t table) i c ≡ true
+pub record FitsWhere (tabs : Tables) (place i c : ℕ) (table : Option ℕ) (row : List ℕ) : Type 0 where
+  pub fits : (t : Option ℕ) → is_slot t ≡ true → flag_in row (place + slot_of t) ≡ true → ok_at tabs (or_table t table) i c ≡ true
 
 -- so can each of these characters, where the row shows the argument
-pub record FedFits (tabs : Tables) (r i : ℕ) (cs : List ℕ) (table : Option ℕ) (sums : List ℕ) : Type 0 where
-  pub each : (c : ℕ) → has c cs ≡ true → FitsWhere tabs r (given_from + i * slots) i c table sums
+pub record FedFits (tabs : Tables) (i : ℕ) (cs : List ℕ) (table : Option ℕ) (row : List ℕ) : Type 0 where
+  pub each : (c : ℕ) → has c cs ≡ true → FitsWhere tabs (given_from + i * slots) i c table row
 
 -- so can the character c
-abbrev pub FitsFed : List ℕ → ℕ → ℕ → Option ℕ → List ℕ → ℕ → Type 0
-FitsFed waves r i table sums c = (tabs : Tables) → Marked waves tabs → FitsWhere tabs r (given_from + i * slots) i c table sums
+abbrev pub FitsFed : List ℕ → ℕ → Option ℕ → List ℕ → ℕ → Type 0
+FitsFed waves i table row c = (tabs : Tables) → Marked waves tabs → FitsWhere tabs (given_from + i * slots) i c table row
 
 -- signal i has c before and cs as its argument: both can be shown, and `pin` is what the row leaves
-pub record OnPin (waves : List ℕ) (r i c : ℕ) (cs : List ℕ) (table : Option ℕ) (sums : List ℕ) (pin : ℕ) : Type 0 where
-  pub shown : (tabs : Tables) → Marked waves tabs → FitsWhere tabs r (i * slots) i c table sums
-  pub fed : (tabs : Tables) → Marked waves tabs → FedFits tabs r i cs table sums
-  pub pin_is : pin ≡ left_on ((sum_at sums r).pin i) c cs
+pub record OnPin (waves : List ℕ) (i c : ℕ) (cs : List ℕ) (table : Option ℕ) (row : List ℕ) (pin : ℕ) : Type 0 where
+  pub shown : (tabs : Tables) → Marked waves tabs → FitsWhere tabs (i * slots) i c table row
+  pub fed : (tabs : Tables) → Marked waves tabs → FedFits tabs i cs table row
+  pub pin_is : pin ≡ left_on (shown_of (get_or row (pins_from + i) 0)) c cs
 
 -- the state s grants all that a body of sum S asks, and `left` are the pins behind it
 pub record Grants (tabs : Tables) (n : ℕ) (S : Sum) (s : State) (left : List ℕ) : Type 0 where

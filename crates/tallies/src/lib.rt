@@ -1,7 +1,7 @@
 // Sums of bodies, a row of bytes each: what a body asks of the state in which it begins, so that no cycle of it fails, and what it leaves.
 #![tactic(auto)]
 
-ghost use Rattle.std.specs.Prelude.{◌≡◌, true, false, not, ◌||◌, ◌&&◌, eqb, List, ℕ, ◌+◌, ◌*◌, ◌<◌, ◌≤◌, length};
+ghost use Rattle.std.specs.Prelude.{◌≡◌, true, false, not, ◌||◌, ◌&&◌, eqb, List, ℕ, ◌+◌, ◌*◌, ◌<◌, ◌≤◌, length, get_or, IfSome};
 ghost use Rattle.std.proofs.Math.Option.{none, some};
 ghost use Rattle.meaning.specs.Bounds.{signals_most, tables_most};
 ghost use Rattle.meaning.specs.Timing.{Tables};
@@ -15,7 +15,7 @@ ghost use Rattle.arguments.specs.Supplied.{Supplied, DataAt};
 ghost use Rattle.sums.specs.Parts.{Nothing, Assigned, Chosen, Shows, Cycled, InPlace, Called, Alone, last_of, behind};
 ghost use Rattle.pins.specs.Shown.{table_of};
 ghost use Rattle.sums.specs.Sums.{before, ok_at, or_table};
-ghost use Rattle.tallies.specs.Rows.{slots, row_size, byte_at, flag_at, shown_of, sum_at, Only, Stored, More, Marked, Inherits, Needed, Tabled, Asked, ShownWhere, FedWhere, Passed, OnSignal, Retabled, is_summed, is_shifted, Grants, Holds, FitsWhere, FedFits, OnPin, Suits, bytes, SeenWord, ShownFed, FitsFed};
+ghost use Rattle.tallies.specs.Rows.{slots, row_size, byte_at, flag_at, flag_in, shown_of, sum_at, Only, Stored, More, Marked, Inherits, Needed, Tabled, Asked, ShownWhere, FedWhere, Passed, OnSignal, Retabled, is_summed, is_shifted, Grants, Holds, FitsWhere, FedFits, OnPin, Suits, bytes, SeenWord, ShownFed, FitsFed};
 
 use measures::MARK;
 use timing::CHARS;
@@ -43,13 +43,6 @@ pub const SUMMED: u8 = 1;
 
 pub const SHIFTED: u8 = 2;
 
-// A signal as a body entered from a state leaves it, if its pin and its argument could be shown wherever the body shows them.
-#[derive(Clone, Copy)]
-struct On {
-    fits: bool,
-    pin: u8,
-}
-
 // Is it known of a body with that mark what it asks, with its Shift played t times?
 pub fn usable(mark: u8, t: usize) -> bool
     ensures { result ≡ (eqb mark is_summed || (eqb mark is_shifted && not (eqb t 0))) }
@@ -73,16 +66,13 @@ fn store(sums: &mut [u8], r: usize, p: usize, b: u8)
     sums[r * ROW + p] = b;
 }
 
-// Is any table's slot marked, from a place of the row on? No branch for each, so that they are looked at together.
-fn any_table(sums: &[u8], r: usize, place: usize) -> bool
-    requires { (r * row_size + row_size ≤ length sums.now) × (place + slots ≤ row_size) }
-    ensures { result ≡ false → (k : ℕ) → k < tables_most → byte_at sums.now r (place + k) ≡ 0 }
+// Is any of these slots marked? No branch for each, so that they are looked at together.
+fn any_marked(slots: &[u8]) -> bool
+    ensures { result ≡ false → (k : ℕ) → k < length slots.now → get_or slots.now k 0 ≡ 0 }
 {
     let mut any = false;
-    let mut k = 0;
-    while k < timing::TABLES {
-        any = any | (byte(sums, r, place + k) != 0);
-        k += 1;
+    for &b in slots {
+        any |= b != 0;
     }
     any
 }
@@ -94,17 +84,10 @@ pub fn clear(sums: &mut [u8], r: usize)
     requires { r * row_size + row_size ≤ length sums.old }
     ensures { Only r sums.old sums.new × ((n : ℕ) → Nothing n (sum_at sums.new r)) }
 {
-    let mut i = 0;
-    while i < ROW {
-        store(sums, r, i, 0);
-        i += 1;
-    }
-    let mut k = 0;
-    while k < timing::TABLES {
-        store(sums, r, FINE + k, 1);
-        k += 1;
-    }
-    store(sums, r, TABLE, timing::TABLES as u8);
+    let row = &mut sums[r * ROW..r * ROW + ROW];
+    row.fill(0);
+    row[FINE..FINE + timing::TABLES].fill(1);
+    row[TABLE] = timing::TABLES as u8;
 }
 
 // Assignments: each signal has its character, or the next of its argument.
@@ -112,12 +95,10 @@ pub fn assign(sums: &mut [u8], r: usize, given: &[u8])
     requires { (r * row_size + row_size ≤ length sums.old) × (length given.now ≡ signals_most) }
     ensures { Only r sums.old sums.new × ((n : ℕ) (a : Assigns) → Given a given.now → Assigned n a (sum_at sums.old r) (sum_at sums.new r)) }
 {
-    let mut s = 0;
-    while s < sets::MOST {
-        if given[s] != 0 {
-            store(sums, r, PINS + s, given[s]);
+    for (s, &c) in given.iter().enumerate() {
+        if c != 0 {
+            store(sums, r, PINS + s, c);
         }
-        s += 1;
     }
 }
 
@@ -163,12 +144,10 @@ fn show_before(sums: &mut [u8], r: usize, waves: &[u8], s: usize, x: u8)
     ensures { More r sums.old sums.new × ((tabs : Tables) → Marked waves.now tabs → Inherits tabs s x (sum_at sums.new r)) }
 {
     store(sums, r, NEEDS, 1);
-    let mut k = 0;
-    while k < timing::TABLES {
+    for k in 0..timing::TABLES {
         if !has(waves, k, s, x) {
             store(sums, r, FINE + k, 0);
         }
-        k += 1;
     }
 }
 
@@ -199,11 +178,7 @@ fn in_force(sums: &[u8], r: usize) -> usize
     requires { r * row_size + row_size ≤ length sums.now }
     ensures { (result < slots) × (table_of result ≡ (sum_at sums.now r).table) }
 {
-    let t = byte(sums, r, TABLE) as usize;
-    if t < timing::TABLES {
-        return t;
-    }
-    timing::TABLES
+    table_behind(sums, r, timing::TABLES)
 }
 
 // The same; where it is the one before, that is asked for.
@@ -224,11 +199,9 @@ pub fn cycle(sums: &mut [u8], r: usize, waves: &[u8], signals: usize)
     ensures { Only r sums.old sums.new × ((tabs : Tables) → Marked waves.now tabs → Cycled tabs signals (sum_at sums.old r) (sum_at sums.new r)) }
 {
     let t = need_table(sums, r);
-    let mut s = 0;
-    while s < signals {
+    for s in 0..signals {
         let x = byte(sums, r, PINS + s);
         show(sums, r, waves, s, x, t);
-        s += 1;
     }
 }
 
@@ -239,12 +212,10 @@ fn narrow(sums: &mut [u8], to: usize, from: usize)
     requires { (to * row_size + row_size ≤ length sums.old) × (from * row_size + row_size ≤ length sums.old) × (from ≡ to → ⊥) }
     ensures { More to sums.old sums.new × ((k : ℕ) → (sum_at sums.new to).fine k ≡ true → (sum_at sums.old from).fine k ≡ true) }
 {
-    let mut k = 0;
-    while k < timing::TABLES {
+    for k in 0..timing::TABLES {
         if byte(sums, from, FINE + k) == 0 {
             store(sums, to, FINE + k, 0);
         }
-        k += 1;
     }
 }
 
@@ -284,17 +255,19 @@ fn ask(sums: &mut [u8], to: usize, from: usize)
 
 // ---- what it shows of a signal
 
-// Something is shown under each table whose slot the body's row marks, from a place on.
+// Something is shown under each table whose slot the body's row marks, from a place on. Mostly none is marked, which one look tells.
 fn show_tables(sums: &mut [u8], to: usize, from: usize, place: usize, waves: &[u8], s: usize, x: u8)
     requires { (to * row_size + row_size ≤ length sums.old) × (from * row_size + row_size ≤ length sums.old) × (from ≡ to → ⊥) × (place + slots ≤ row_size) × (length waves.now ≡ tables_most * table_size) × (s < signals_most) }
     ensures { More to sums.old sums.new × ((tabs : Tables) → Marked waves.now tabs → (k : ℕ) → k < tables_most → flag_at sums.old from (place + k) ≡ true → Shows tabs s (shown_of x) (some k) (sum_at sums.new to)) }
 {
-    let mut t = 0;
-    while t < timing::TABLES {
+    let first = from * ROW + place;
+    if !any_marked(&sums[first..first + timing::TABLES]) {
+        return;
+    }
+    for t in 0..timing::TABLES {
         if byte(sums, from, place + t) != 0 {
             show(sums, to, waves, s, x, t);
         }
-        t += 1;
     }
 }
 
@@ -317,20 +290,6 @@ fn show_where(sums: &mut [u8], to: usize, from: usize, place: usize, waves: &[u8
     }
 }
 
-// The same for what stands on a signal: most have no table's slot marked, which one look tells.
-fn show_pin(sums: &mut [u8], to: usize, from: usize, place: usize, waves: &[u8], s: usize, x: u8)
-    requires { (to * row_size + row_size ≤ length sums.old) × (from * row_size + row_size ≤ length sums.old) × (from ≡ to → ⊥) × (place + slots ≤ row_size) × (length waves.now ≡ tables_most * table_size) × (s < signals_most) }
-    ensures { More to sums.old sums.new × ((tabs : Tables) → Marked waves.now tabs → ShownWhere tabs to from place s (shown_of x) sums.old sums.new) }
-{
-    if any_table(sums, from, place) {
-        show_where(sums, to, from, place, waves, s, x);
-        return;
-    }
-    if byte(sums, from, place + timing::TABLES) != 0 {
-        show_in_force(sums, to, waves, s, x);
-    }
-}
-
 // The bytes of a word of a signal's argument: each that was not seen yet is shown wherever the body shows the argument. The answer is the last one; without any, `before`.
 fn feed_word(
     w: &[u8],
@@ -346,14 +305,12 @@ fn feed_word(
     ensures { (result ≡ last_of w.now before) × More to sums.old sums.new × SeenWord w.now seen.old seen.new (ShownFed waves.now to from s sums.old sums.new) }
 {
     let mut last = before;
-    let mut i = 0;
-    while i < w.len() {
-        last = w[i];
-        if seen[last as usize] == 0 {
-            show_where(sums, to, from, GIVEN + s * SLOTS, waves, s, last);
-            seen[last as usize] = 1;
+    for &c in w {
+        last = c;
+        if seen[c as usize] == 0 {
+            show_where(sums, to, from, GIVEN + s * SLOTS, waves, s, c);
+            seen[c as usize] = 1;
         }
-        i += 1;
     }
     last
 }
@@ -442,7 +399,7 @@ fn enter(
     ensures { Passed to s sums.old sums.new × ((xs : Args) → Supplied text.now xs given.now args.now → (tabs : Tables) → Marked waves.now tabs → OnSignal tabs to from s (arg_of s xs) sums.old sums.new) }
 {
     let x = byte(sums, to, PINS + s);
-    show_pin(sums, to, from, s * SLOTS, waves, s, x);
+    show_where(sums, to, from, s * SLOTS, waves, s, x);
     let last = feed_signal(text, sums, to, from, waves, s, given, args);
     leave(sums, to, from, s, last);
 }
@@ -472,10 +429,8 @@ pub fn in_place(
     ensures { Only to sums.old sums.new × ((sum_at sums.old to).bad ≡ true → (sum_at sums.new to).bad ≡ true) × ((xs : Args) → Supplied text.now xs given.now args.now → (tabs : Tables) → Marked waves.now tabs → (sum_at sums.new to).bad ≡ false → InPlace tabs signals (sum_at sums.old to) (sum_at sums.old from) (λ i. arg_of i xs) (sum_at sums.new to)) }
 {
     ask(sums, to, from);
-    let mut s = 0;
-    while s < signals {
+    for s in 0..signals {
         enter(text, sums, to, from, waves, s, given, args);
-        s += 1;
     }
     retable(sums, to, from);
 }
@@ -507,11 +462,9 @@ pub fn called(
     ensures { More to sums.old sums.new × ((xs : Args) → Supplied text.now xs given.now args.now → (tabs : Tables) → Marked waves.now tabs → Called tabs signals (sum_at sums.old to) (sum_at sums.old from) (λ i. arg_of i xs) (sum_at sums.new to)) }
 {
     ask(sums, to, from);
-    let mut s = 0;
-    while s < signals {
+    for s in 0..signals {
         show_unassigned(sums, to, from, s);
         feed_signal(text, sums, to, from, waves, s, given, args);
-        s += 1;
     }
 }
 
@@ -528,12 +481,10 @@ pub fn grants(sums: &[u8], r: usize, signals: usize) -> bool
     if byte(sums, r, NEEDS) != 0 {
         return false;
     }
-    let mut s = 0;
-    while s < signals {
+    for s in 0..signals {
         if byte(sums, r, s * SLOTS + timing::TABLES) != 0 {
             return false;
         }
-        s += 1;
     }
     true
 }
@@ -556,7 +507,7 @@ pub fn assigns(sums: &[u8], r: usize, s: usize) -> bool
     byte(sums, r, PINS + s) != 0
 }
 
-// ---- a body entered from a state
+// ---- a body entered from a state: its row is lent by itself
 
 // Can the character be shown on a signal under the table of a slot? An unassigned signal can under every table; without one nothing can.
 pub fn fits(waves: &[u8], t: usize, s: usize, x: u8) -> bool
@@ -573,105 +524,80 @@ pub fn fits(waves: &[u8], t: usize, s: usize, x: u8) -> bool
 }
 
 // Can it where the byte at a place of the row marks that slot?
-fn fits_slot(sums: &[u8], r: usize, p: usize, waves: &[u8], t: usize, s: usize, x: u8) -> bool
-    requires { (r * row_size + row_size ≤ length sums.now) × (p < row_size) × (length waves.now ≡ tables_most * table_size) × (s < signals_most) }
-    ensures { result ≡ true → (tabs : Tables) → Marked waves.now tabs → flag_at sums.now r p ≡ true → ok_at tabs (table_of t) s x ≡ true }
+fn fits_slot(row: &[u8], p: usize, waves: &[u8], t: usize, s: usize, x: u8) -> bool
+    requires { (length row.now ≡ row_size) × (p < row_size) × (length waves.now ≡ tables_most * table_size) × (s < signals_most) }
+    ensures { result ≡ true → (tabs : Tables) → Marked waves.now tabs → flag_in row.now p ≡ true → ok_at tabs (table_of t) s x ≡ true }
 {
-    if byte(sums, r, p) == 0 {
+    if row[p] == 0 {
         return true;
     }
     fits(waves, t, s, x)
 }
 
-// Can it wherever the row shows what stood on the signal before, or its argument? `place` is where the slots of that stand.
-fn fits_where(
-    sums: &[u8],
-    r: usize,
-    place: usize,
-    waves: &[u8],
-    s: usize,
-    x: u8,
-    table: usize,
-) -> bool
-    requires { (r * row_size + row_size ≤ length sums.now) × (place + slots ≤ row_size) × (length waves.now ≡ tables_most * table_size) × (s < signals_most) }
-    ensures { result ≡ true → (tabs : Tables) → Marked waves.now tabs → FitsWhere tabs r place s x (table_of table) sums.now }
+// Can it under each table whose slot the row marks, from a place on? Mostly none is marked, which one look tells.
+fn fits_tables(row: &[u8], place: usize, waves: &[u8], s: usize, x: u8) -> bool
+    requires { (length row.now ≡ row_size) × (place + slots ≤ row_size) × (length waves.now ≡ tables_most * table_size) × (s < signals_most) }
+    ensures { result ≡ true → (tabs : Tables) → Marked waves.now tabs → (k : ℕ) → k < tables_most → flag_in row.now (place + k) ≡ true → ok_at tabs (table_of k) s x ≡ true }
 {
-    let mut t = 0;
-    while t < timing::TABLES {
-        if !fits_slot(sums, r, place + t, waves, t, s, x) {
+    if !any_marked(&row[place..place + timing::TABLES]) {
+        return true;
+    }
+    for t in 0..timing::TABLES {
+        if !fits_slot(row, place + t, waves, t, s, x) {
             return false;
         }
-        t += 1;
     }
-    fits_slot(sums, r, place + timing::TABLES, waves, table, s, x)
+    true
 }
 
-// The same for what stands on a signal: most have no table's slot marked, which one look tells.
-fn fits_pin(
-    sums: &[u8],
-    r: usize,
-    place: usize,
-    waves: &[u8],
-    s: usize,
-    x: u8,
-    table: usize,
-) -> bool
-    requires { (r * row_size + row_size ≤ length sums.now) × (place + slots ≤ row_size) × (length waves.now ≡ tables_most * table_size) × (s < signals_most) }
-    ensures { result ≡ true → (tabs : Tables) → Marked waves.now tabs → FitsWhere tabs r place s x (table_of table) sums.now }
+// Can it wherever the row shows what stood on the signal before, or its argument? `place` is where the slots of that stand.
+fn fits_where(row: &[u8], place: usize, waves: &[u8], s: usize, x: u8, table: usize) -> bool
+    requires { (length row.now ≡ row_size) × (place + slots ≤ row_size) × (length waves.now ≡ tables_most * table_size) × (s < signals_most) }
+    ensures { result ≡ true → (tabs : Tables) → Marked waves.now tabs → FitsWhere tabs place s x (table_of table) row.now }
 {
-    if any_table(sums, r, place) {
-        return fits_where(sums, r, place, waves, s, x, table);
+    if !fits_tables(row, place, waves, s, x) {
+        return false;
     }
-    fits_slot(sums, r, place + timing::TABLES, waves, table, s, x)
+    fits_slot(row, place + timing::TABLES, waves, table, s, x)
 }
 
-// So each byte of a word of an argument that was not seen yet; the pin is the last one, without any `before`.
+// So each byte of a word of an argument that was not seen yet? Then the last one is the pin, without any `before`.
 fn fits_word(
     word: &[u8],
     seen: &mut [u8],
-    sums: &[u8],
-    r: usize,
+    row: &[u8],
     waves: &[u8],
     s: usize,
     before: u8,
     table: usize,
-) -> On
-    requires { (length seen.old ≡ bytes) × (r * row_size + row_size ≤ length sums.now) × (length waves.now ≡ tables_most * table_size) × (s < signals_most) }
-    ensures { result.fits ≡ true → (result.pin ≡ last_of word.now before) × SeenWord word.now seen.old seen.new (FitsFed waves.now r s (table_of table) sums.now) }
+) -> Option<u8>
+    requires { (length seen.old ≡ bytes) × (length row.now ≡ row_size) × (length waves.now ≡ tables_most * table_size) × (s < signals_most) }
+    ensures { IfSome result (λ pin. (pin ≡ last_of word.now before) × SeenWord word.now seen.old seen.new (FitsFed waves.now s (table_of table) row.now)) }
 {
     let mut last = before;
-    let mut i = 0;
-    while i < word.len() {
-        last = word[i];
-        if seen[last as usize] == 0 {
-            if !fits_where(sums, r, GIVEN + s * SLOTS, waves, s, last, table) {
-                return On {
-                    fits: false,
-                    pin: last,
-                };
+    for &c in word {
+        last = c;
+        if seen[c as usize] == 0 {
+            if !fits_where(row, GIVEN + s * SLOTS, waves, s, c, table) {
+                return None;
             }
-            seen[last as usize] = 1;
+            seen[c as usize] = 1;
         }
-        i += 1;
     }
-    On {
-        fits: true,
-        pin: last,
-    }
+    Some(last)
 }
 
-// So each character of an argument, word by word; the pin is the last of them, 0 for none. Each is looked at once.
+// So each character of an argument, word by word? Then the last of them is the pin, 0 for none. Each is looked at once.
 fn fed_fits(
     text: &[u8],
-    sums: &[u8],
-    r: usize,
+    row: &[u8],
     waves: &[u8],
     s: usize,
     place: usize,
     table: usize,
-) -> On
-    requires { (r * row_size + row_size ≤ length sums.now) × (length waves.now ≡ tables_most * table_size) × (s < signals_most) }
-    ensures { (cs : List ℕ) → DataAt text.now place cs → result.fits ≡ true → (result.pin ≡ last_of cs 0) × ((tabs : Tables) → Marked waves.now tabs → FedFits tabs r s cs (table_of table) sums.now) }
+) -> Option<u8>
+    requires { (length row.now ≡ row_size) × (length waves.now ≡ tables_most * table_size) × (s < signals_most) }
+    ensures { IfSome result (λ pin. (cs : List ℕ) → DataAt text.now place cs → (pin ≡ last_of cs 0) × ((tabs : Tables) → Marked waves.now tabs → FedFits tabs s cs (table_of table) row.now)) }
 {
     let mut seen = [0u8; BYTES];
     let mut at = place;
@@ -679,17 +605,10 @@ fn fed_fits(
     loop {
         let word = feeds::next_word(text, at);
         if word.end <= word.at {
-            return On {
-                fits: true,
-                pin: last,
-            };
+            return Some(last);
         }
         let w = words::bytes_of(text, word.at, word.end);
-        let o = fits_word(w, &mut seen, sums, r, waves, s, last, table);
-        if !o.fits {
-            return o;
-        }
-        last = o.pin;
+        last = fits_word(w, &mut seen, row, waves, s, last, table)?;
         at = word.end;
     }
 }
@@ -697,59 +616,48 @@ fn fed_fits(
 // The same, where the signal has one.
 fn signal_fits(
     text: &[u8],
-    sums: &[u8],
-    r: usize,
+    row: &[u8],
     waves: &[u8],
     s: usize,
     given: &[u8],
     args: &[usize],
     table: usize,
-) -> On
-    requires { (r * row_size + row_size ≤ length sums.now) × (length waves.now ≡ tables_most * table_size) × (s < signals_most) × (length given.now ≡ signals_most) × (length args.now ≡ signals_most * 2) }
-    ensures { (xs : Args) → Supplied text.now xs given.now args.now → result.fits ≡ true → (result.pin ≡ last_of (arg_of s xs) 0) × ((tabs : Tables) → Marked waves.now tabs → FedFits tabs r s (arg_of s xs) (table_of table) sums.now) }
+) -> Option<u8>
+    requires { (length row.now ≡ row_size) × (length waves.now ≡ tables_most * table_size) × (s < signals_most) × (length given.now ≡ signals_most) × (length args.now ≡ signals_most * 2) }
+    ensures { IfSome result (λ pin. (xs : Args) → Supplied text.now xs given.now args.now → (pin ≡ last_of (arg_of s xs) 0) × ((tabs : Tables) → Marked waves.now tabs → FedFits tabs s (arg_of s xs) (table_of table) row.now)) }
 {
     if given[s] == 0 {
-        return On { fits: true, pin: 0 };
+        return Some(0);
     }
-    fed_fits(text, sums, r, waves, s, args[sets::MOST + s], table)
+    fed_fits(text, row, waves, s, args[sets::MOST + s], table)
 }
 
-// A signal with the character x before: its argument too, and what the row leaves on it.
+// A signal with the character x before, if that and its argument can be shown wherever the row shows them: the pin that the row leaves on it.
 fn on_signal(
     text: &[u8],
-    sums: &[u8],
-    r: usize,
+    row: &[u8],
     waves: &[u8],
     s: usize,
     x: u8,
     given: &[u8],
     args: &[usize],
     table: usize,
-) -> On
-    requires { (r * row_size + row_size ≤ length sums.now) × (length waves.now ≡ tables_most * table_size) × (s < signals_most) × (length given.now ≡ signals_most) × (length args.now ≡ signals_most * 2) }
-    ensures { result.fits ≡ true → (xs : Args) → Supplied text.now xs given.now args.now → OnPin waves.now r s x (arg_of s xs) (table_of table) sums.now result.pin }
+) -> Option<u8>
+    requires { (length row.now ≡ row_size) × (length waves.now ≡ tables_most * table_size) × (s < signals_most) × (length given.now ≡ signals_most) × (length args.now ≡ signals_most * 2) }
+    ensures { IfSome result (λ pin. (xs : Args) → Supplied text.now xs given.now args.now → OnPin waves.now s x (arg_of s xs) (table_of table) row.now pin) }
 {
-    if !fits_pin(sums, r, s * SLOTS, waves, s, x, table) {
-        return On {
-            fits: false,
-            pin: x,
-        };
+    if !fits_where(row, s * SLOTS, waves, s, x, table) {
+        return None;
     }
-    let o = signal_fits(text, sums, r, waves, s, given, args, table);
-    let u = byte(sums, r, PINS + s);
+    let last = signal_fits(text, row, waves, s, given, args, table)?;
+    let u = row[PINS + s];
     if u == 0 {
-        return On {
-            fits: o.fits,
-            pin: x,
-        };
+        return Some(x);
     }
     if u == MARK {
-        return o;
+        return Some(last);
     }
-    On {
-        fits: o.fits,
-        pin: u,
-    }
+    Some(u)
 }
 
 // Is the table in force one that the row asks for?
@@ -788,14 +696,12 @@ pub fn asks(
     if !suits(sums, r, table) {
         return false;
     }
-    let mut s = 0;
-    while s < signals {
-        let o = on_signal(text, sums, r, waves, s, pins[s], given, args, table);
-        if !o.fits {
+    let row = &sums[r * ROW..r * ROW + ROW];
+    for s in 0..signals {
+        let Some(pin) = on_signal(text, row, waves, s, pins[s], given, args, table) else {
             return false;
-        }
-        left[s] = o.pin;
-        s += 1;
+        };
+        left[s] = pin;
     }
     true
 }
@@ -803,7 +709,7 @@ pub fn asks(
 // The table in force behind the row, where `table` was before.
 pub fn table_behind(sums: &[u8], r: usize, table: usize) -> usize
     requires { r * row_size + row_size ≤ length sums.now }
-    ensures { table_of result ≡ or_table (sum_at sums.now r).table (table_of table) }
+    ensures { (table_of result ≡ or_table (sum_at sums.now r).table (table_of table)) × (table < slots → result < slots) }
 {
     let k = byte(sums, r, TABLE) as usize;
     if k < timing::TABLES {

@@ -1,16 +1,13 @@
 -- An answer as a caller in C has it: one number, and the numbers of its buffer.
 use Prim.Native.Nat.{ℕ, ◌+◌, ◌*◌, ◌≤◌, ◌<◌}
-use mathlib.Core.Path.{◌≡◌, refl}
-use mathlib.Core.List.{List}
-use lib.ListN.{length, set}
+use mathlib.Core.Path.{◌≡◌, refl, ap}
+use mathlib.Core.List.{List, [], ◌∷◌, ◌++◌}
+use lib.ListN.{length, drop}
 use borrow.Author.Tests.{le-leb, lt-leb}
 use Rattle.tokens.specs.Refusals.{text_most}
 use Rattle.meaning.specs.Refusals.{no_room}
 use Rattle.meaning.specs.Meaning.{Answer, given, refused}
 use Rattle.meaning.specs.Services.{Counts}
-use Rattle.declared.specs.declared.Told.{Told}
-use Rattle.declared.specs.Numbers.{written as written_five}
-use Rattle.declared.proofs.Numbers.{stays, fills}
 use Rattle.texts.specs.Told.{packed_refusal, packed, written, Packs}
 
 module _ {a : Answer Counts} (l : List ℕ) where
@@ -24,14 +21,10 @@ module _ {a : Answer Counts} (l : List ℕ) where
     packs_far h = rw (← e) (record { number = rw (lt-leb p text_most h, packed_refusal); buffer = refl })
 
   module _ {x : Counts} (e : given x ≡ a) where
-    abbrev five : Told
-    five = record { no = x.signals; place = x.tables; signals = x.listed; names = x.cycles; tables = x.size }
-
     pub packs_none : length l < 5 → Packs a l no_room l
-    unfolding packed written written_five
-    packs_none h = rw (← e) (record { number = rw (lt-leb 5 (length l) h, packed); buffer = stays five l h })
+    unfolding packed written
+    packs_none h = rw (← e) (record { number = rw (lt-leb 5 (length l) h, packed); buffer = rw (lt-leb 5 (length l) h, written) })
 
-    pub packs_five : 5 ≤ length l
-        → Packs a l 0 (set (set (set (set (set l 0 x.signals) 1 x.tables) 2 x.listed) 3 x.cycles) 4 x.size)
-    unfolding packed written written_five
-    packs_five h = rw (← e) (record { number = rw (le-leb 5 (length l) h, packed); buffer = fills five l h })
+    pub packs_five : 5 ≤ length l → {five : List ℕ} → five ≡ x.signals ∷ x.tables ∷ x.listed ∷ x.cycles ∷ x.size ∷ [] → Packs a l 0 (five ++ drop 5 l)
+    unfolding packed written
+    packs_five h q = rw (← e) (record { number = rw (le-leb 5 (length l) h, packed); buffer = rw (le-leb 5 (length l) h, written) (ap (λ (b : List ℕ). b ++ drop 5 l) q) })

@@ -24,7 +24,7 @@ ghost use Rattle.texts.specs.Tables.{stopped_at, Reads, NotesRead, Decides};
 ghost use Rattle.texts.specs.Run.{Tells, sound_of, Recorded, ReadAs};
 ghost use Rattle.texts.specs.Told.{decided_of, Packs};
 
-use heads::Known;
+use heads::{Declared, Known};
 use measures::{CYCLES_MOST, DEPTH, Measure, SIZE_MOST};
 use timing::Watch;
 use tokens::{Refusal, TEXT_MOST, TOO_LONG};
@@ -98,9 +98,16 @@ fn pattern<'a>(
     let b = words::refuse_if(a, PATTERNS <= count, TOO_MANY, c.at);
     let d = words::new_name(text, b, &book[measures::BODIES * 2..], count + 1);
     let e = words::due(text, d, b"{");
-    let x = bodies::statements(
-        text, e, places, lists, tplaces, book, rows, known, false, DEPTH, row, args, used,
-    );
+    let declared = Declared {
+        text,
+        places,
+        lists,
+        tplaces,
+        book,
+        rows,
+        known,
+    };
+    let x = bodies::statements(&declared, e, false, DEPTH, row, args, used);
     let r = x.cursor;
     if r.no != 0 {
         return r;
@@ -446,11 +453,13 @@ pub extern "C" fn lutemeteor_sound(text: &[u8], numbers: &mut [usize]) -> usize
             if numbers.len() < 5 {
                 return NO_ROOM;
             }
-            numbers[0] = counts.signals;
-            numbers[1] = counts.tables;
-            numbers[2] = counts.listed;
-            numbers[3] = counts.cycles;
-            numbers[4] = counts.size;
+            numbers[..5].copy_from_slice(&[
+                counts.signals,
+                counts.tables,
+                counts.listed,
+                counts.cycles,
+                counts.size,
+            ]);
             0
         }
     }

@@ -37,5 +37,5 @@ pub record Crosses (text places lists tplaces waves book rows list : List ℕ) (
 
 -- THE PROMISE of judging its run: it is accepted, or refused, 17 or 25
 abbrev pub Plays : (text places lists tplaces waves book rows list : List ℕ) → Verdict → Result (Unit {0}) Refusal → Type 0
-Plays text places lists tplaces waves book rows list v (Ok u) = {w : Watch} (f : Found text w places lists tplaces waves book rows list v) → meaning text ≡ given (meant_by f.it)
-Plays text places lists tplaces waves book rows list v (Err r) = {w : Watch} → Found text w places lists tplaces waves book rows list v → meaning text ≡ refused r.no r.place
+Plays text places lists tplaces waves book rows list v (Ok u) = (w : Watch) (f : Found text w places lists tplaces waves book rows list v) → meaning text ≡ given (meant_by f.it)
+Plays text places lists tplaces waves book rows list v (Err r) = (w : Watch) → Found text w places lists tplaces waves book rows list v → meaning text ≡ refused r.no r.place

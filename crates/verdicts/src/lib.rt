@@ -12,7 +12,8 @@ ghost use Rattle.texts.specs.Tables.{Found, NotesSound};
 ghost use Rattle.verdicts.specs.Judged.{named_of, numbered, Judges, Copies};
 ghost use Rattle.verdicts.specs.Found.{no_waveform, SomeFound, Unplayable, Crosses, Plays};
 
-use plays::Failing;
+use heads::Declared;
+use plays::{Failing, Ground};
 use texts::{Counts, Verdict};
 use timing::Watch;
 use tokens::Refusal;
@@ -137,20 +138,24 @@ fn summed<'a>(
     ensures { Unplayable text.now places.now lists.now tplaces.now waves.now book.now rows.now list.now v result }
 {
     let parts = v.parts;
-    let known = parts.known;
+    let ground = Ground {
+        declared: Declared {
+            text,
+            places,
+            lists,
+            tplaces,
+            book,
+            rows,
+            known: parts.known,
+        },
+        waves,
+        signals: parts.signals,
+    };
     let mut marks = [0u8; measures::BODIES];
     let mut sums = [0u8; grants::SUMS];
     let granted = grants::granted(
-        text,
-        places,
-        lists,
-        tplaces,
-        book,
-        rows,
-        waves,
+        &ground,
         list,
-        known,
-        parts.signals,
         parts.listed,
         parts.patterns,
         &mut marks,
@@ -162,22 +167,7 @@ fn summed<'a>(
             place: 0,
         };
     }
-    plays::first_failing(
-        text,
-        places,
-        lists,
-        tplaces,
-        book,
-        rows,
-        waves,
-        &marks,
-        &sums,
-        list,
-        known,
-        parts.signals,
-        parts.listed,
-        parts.patterns,
-    )
+    plays::first_failing(&ground, &marks, &sums, list, parts.listed, parts.patterns)
 }
 
 // The first cycle of a text's run that fails, where 1 to 16 leave the text. Most texts are plain, and none of theirs does.
@@ -232,21 +222,26 @@ fn crossing<'a>(
     ensures { Crosses text.now places.now lists.now tplaces.now waves.now book.now rows.now list.now v result }
 {
     let parts = v.parts;
+    let ground = Ground {
+        declared: Declared {
+            text,
+            places,
+            lists,
+            tplaces,
+            book,
+            rows,
+            known: parts.known,
+        },
+        waves,
+        signals: parts.signals,
+    };
     let mut firsts = [0u32; spans::TIMES];
     let mut lasts = [0u32; spans::TIMES];
     let mut periods = [0u64; spans::PERIODS];
     spans::of_text(text, &mut firsts, &mut lasts, &mut periods);
     crossings::first_failing_pair(
-        text,
-        places,
-        lists,
-        tplaces,
-        book,
-        rows,
-        waves,
+        &ground,
         list,
-        parts.known,
-        parts.signals,
         parts.listed,
         parts.patterns,
         &firsts,

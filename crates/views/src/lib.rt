@@ -71,17 +71,22 @@ fn view<'a>(
             place: 0,
         });
     }
-    let visits = windows::window(
-        text,
-        places,
-        lists,
-        tplaces,
-        book,
-        rows,
+    let ground = Ground {
+        declared: Declared {
+            text,
+            places,
+            lists,
+            tplaces,
+            book,
+            rows,
+            known: parts.known,
+        },
         waves,
+        signals: parts.signals,
+    };
+    let visits = windows::window(
+        &ground,
         list,
-        parts.known,
-        parts.signals,
         parts.listed,
         parts.patterns,
         total.size,

@@ -32,7 +32,7 @@ use Rattle.pins.specs.Shown.{values_length, feeds_length}
 use Rattle.heads.specs.declared.Known.{Known}
 use Rattle.texts.specs.declared.Parts.{Parts}
 use Rattle.texts.proofs.Runs.{list_from, list_cut, list_end}
-use Rattle.plays.specs.Plays.{Ground, ground_of, Arrays, arrays, Sized}
+use Rattle.plays.specs.Plays.{Ground, grounded, Arrays, arrays, Sized}
 use Rattle.plays.specs.Run.{ListedAt}
 use Rattle.plays.proofs.Running.{opening_long}
 use Rattle.plays.proofs.Texts.{listed_at, opening_sized}
@@ -54,7 +54,7 @@ outset budget first due mark = record { pass = first; row = 0; show = due; budge
 module _ {text places lists tplaces waves book rows list : List ℕ} {known : Known} {signals listed patterns sized first due : ℕ} {before : List ℕ} {p : Parts} {d : Read} {m : Meaning}
     (h : Accepts text places lists tplaces waves book rows list known signals listed patterns sized first due before p d m) where
   abbrev all : Ground
-  all = ground_of text places lists tplaces book rows waves known signals
+  all = grounded text places lists tplaces book rows waves known signals
 
   abbrev env : Env
   env = h.runs.tabled.parts.env
@@ -144,7 +144,7 @@ module _ {text places lists tplaces waves book rows list : List ℕ} {known : Kn
 module _ (text places lists tplaces waves book rows list : List ℕ) (known : Known) (signals listed patterns sized first due budget mark : ℕ) (before : List ℕ) where
   -- from the listed name of number k on, whatever accepted text the tables hold, its patterns are still to be gone through
   pub record Unseen (k : ℕ) (x : Arrays) (w : Walk) (buffer : List ℕ) : Type 0 where
-    pub arrays_sized : Sized (ground_of text places lists tplaces book rows waves known signals) 0 x
+    pub arrays_sized : Sized (grounded text places lists tplaces book rows waves known signals) 0 x
     pub left : (p : Parts) (d : Read) (m : Meaning) (h : Accepts text places lists tplaces waves book rows list known signals listed patterns sized first due before p d m)
         → Before h.runs.tabled.parts.env.tables signals h.runs.tabled.parts.env d.patterns m.run (list_from text list listed k) (outset budget first due mark) w before buffer
 

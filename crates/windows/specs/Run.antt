@@ -62,3 +62,10 @@ pub record SomeText (text places lists tplaces waves book rows list : List ℕ) 
 pub record Windows (signals first due mark : ℕ) (before : List ℕ) (m : Meaning) (r : ℕ) (after : List ℕ) : Type 0 where
   pub visits_are : r ≡ visits 0 m.run first
   pub rows_are : after ≡ rows mark (seen first due (cycles_of signals m.run)) ++ drop (due * row_width signals) before
+
+-- the same of a text and its tables as one
+abbrev pub AcceptsOn : Ground → List ℕ → (listed patterns sized first due : ℕ) → List ℕ → Parts → Read → Meaning → Type 0
+AcceptsOn g list = Accepts g.text g.places g.lists g.tplaces g.waves g.book g.rows list g.known g.signals
+
+abbrev pub SomeTextOn : Ground → List ℕ → (listed patterns sized first due : ℕ) → List ℕ → Type 0
+SomeTextOn g list = SomeText g.text g.places g.lists g.tplaces g.waves g.book g.rows list g.known g.signals

@@ -5,11 +5,10 @@ ghost use Rattle.meaning.specs.Meaning.{Meaning};
 ghost use Rattle.meaning.specs.Document.{Read};
 ghost use Rattle.texts.specs.declared.Parts.{Parts};
 ghost use Rattle.plays.specs.Plays.{ground_of, arrays};
-ghost use Rattle.windows.specs.Run.{SomeListed, WentListed, SomeText, Accepts, Windows};
+ghost use Rattle.windows.specs.Run.{SomeListed, WentListed, SomeTextOn, AcceptsOn, Windows};
 
-use heads::Known;
 use measures::DEPTH;
-use plays::Frame;
+use plays::{Frame, Ground};
 use rows::Walk;
 
 // The budget of a walk: so many times the size of the run.
@@ -17,16 +16,8 @@ const TIMES: usize = 10;
 
 // The listed pattern of number k: passed, or entered with no table and all signals unassigned.
 fn pattern<'a>(
-    text: &'a [u8],
-    places: &'a [usize],
-    lists: &'a [u16],
-    tplaces: &'a [usize],
-    book: &'a [usize],
-    rows: &'a [u16],
-    waves: &'a [u8],
+    ground: &'a Ground<'a>,
     list: &'a [usize],
-    known: Known,
-    signals: usize,
     patterns: usize,
     k: usize,
     walk: Walk,
@@ -35,18 +26,23 @@ fn pattern<'a>(
     args: &mut [usize],
     buffer: &mut [u8],
 ) -> Walk
-    requires { SomeListed (ground_of text.now places.now lists.now tplaces.now book.now rows.now waves.now known signals) list.now patterns k (arrays values.old feeds.old args.old) walk buffer.old }
-    ensures { WentListed (ground_of text.now places.now lists.now tplaces.now book.now rows.now waves.now known signals) list.now patterns k (arrays values.new feeds.new args.new) walk result buffer.old buffer.new }
+    requires { SomeListed (ground_of ground.now) list.now patterns k (arrays values.old feeds.old args.old) walk buffer.old }
+    ensures { WentListed (ground_of ground.now) list.now patterns k (arrays values.new feeds.new args.new) walk result buffer.old buffer.new }
 {
-    let names = &book[measures::PATTERNS * 2..];
-    let i = words::find(text, words::name_bytes(text, list, k), names, patterns);
-    let m = measures::measure_at(book, measures::PATTERNS + i);
+    let names = &ground.declared.book[measures::PATTERNS * 2..];
+    let i = words::find(
+        ground.declared.text,
+        words::name_bytes(ground.declared.text, list, k),
+        names,
+        patterns,
+    );
+    let m = measures::measure_at(ground.declared.book, measures::PATTERNS + i);
     let w = rows::spend(walk, m.size + 1);
     if m.cycles <= w.pass {
         return rows::past(w, m.cycles);
     }
-    let start = measures::start_at(book, measures::PATTERNS + i);
-    let body = &text[start..];
+    let start = measures::start_at(ground.declared.book, measures::PATTERNS + i);
+    let body = &ground.declared.text[start..];
     let frame = Frame {
         seconds: 0,
         turns: 0,
@@ -55,16 +51,8 @@ fn pattern<'a>(
     };
     pins::leave(values, 0);
     let r = steps::body_of(
-        text,
+        ground,
         body,
-        places,
-        lists,
-        tplaces,
-        book,
-        rows,
-        waves,
-        known,
-        signals,
         frame,
         pins::NONE,
         w,
@@ -78,16 +66,8 @@ fn pattern<'a>(
 
 // The rows that are due from the cycle `first` on, with a mark for unassigned pins, to the front of the buffer; and the visits there.
 pub fn window<'a>(
-    text: &'a [u8],
-    places: &'a [usize],
-    lists: &'a [u16],
-    tplaces: &'a [usize],
-    book: &'a [usize],
-    rows: &'a [u16],
-    waves: &'a [u8],
+    ground: &'a Ground<'a>,
     list: &'a [usize],
-    known: Known,
-    signals: usize,
     listed: usize,
     patterns: usize,
     size: usize,
@@ -96,8 +76,8 @@ pub fn window<'a>(
     mark: u8,
     buffer: &mut [u8],
 ) -> usize
-    requires { SomeText text.now places.now lists.now tplaces.now waves.now book.now rows.now list.now known signals listed patterns size first due buffer.old }
-    ensures { (p : Parts) (d : Read) (m : Meaning) → Accepts text.now places.now lists.now tplaces.now waves.now book.now rows.now list.now known signals listed patterns size first due buffer.old p d m → Windows signals first due mark buffer.old m result buffer.new }
+    requires { SomeTextOn (ground_of ground.now) list.now listed patterns size first due buffer.old }
+    ensures { (p : Parts) (d : Read) (m : Meaning) → AcceptsOn (ground_of ground.now) list.now listed patterns size first due buffer.old p d m → Windows ground.now.signals first due mark buffer.old m result buffer.new }
 {
     let mut values = [0u8; pins::VALUES];
     let mut feeds = [0usize; pins::FEEDS];
@@ -114,16 +94,8 @@ pub fn window<'a>(
     let mut k = 0;
     while k < listed {
         w = pattern(
-            text,
-            places,
-            lists,
-            tplaces,
-            book,
-            rows,
-            waves,
+            ground,
             list,
-            known,
-            signals,
             patterns,
             k,
             w,

@@ -7,7 +7,7 @@ use mathlib.Core.Option.{Option, none, some}
 use mathlib.Core.List.{List, [], ◌∷◌}
 use lib.Dec.{leb}
 use lib.ListN.{length, get_or, take, drop, drop_of_length-le}
-use borrow.Author.Tests.{lt-leb, leb-true, leb-false}
+use borrow.Author.Tests.{le-leb, lt-leb, leb-true, leb-false}
 use Rattle.tokens.specs.Written.{bytes, same}
 use Rattle.tokens.specs.Bytes.{between, digit}
 use Rattle.meaning.specs.Refusals.{bad_number}
@@ -16,7 +16,7 @@ use Rattle.meaning.specs.Names.{value, number, within}
 use Rattle.meaning.specs.Timing.{unit, picoseconds}
 use Rattle.meaning.proofs.Others.{same_eq}
 use Rattle.words.specs.Cursor.{Goes, Checked}
-use Rattle.words.specs.Values.{most, capped}
+use Rattle.words.specs.Values.{most, capped, up_to}
 use Rattle.words.specs.declared.Cursor.{Cursor}
 use Rattle.words.proofs.Words.{cut, rest}
 use Rattle.words.proofs.Flow.{then, given, valued, checked, refused_by}
@@ -70,6 +70,64 @@ pub number_none : (w : List ℕ) → length w ≡ 0 → none ≡ capped (number 
 unfolding number
 number_none [] h = refl
 number_none (b ∷ s) h = absurd (omega arith)
+
+-- ---- numbers up to a largest one
+
+module _ (most : ℕ) where
+  pub up_to_within : (n : ℕ) → n ≤ most → some n ≡ up_to most (some n)
+  unfolding up_to
+  up_to_within n h = rw (le-leb n most h, up_to)
+
+  pub up_to_above : (n : ℕ) → most < n → none ≡ up_to most (some n)
+  unfolding up_to
+  up_to_above n h = rw (lt-leb n most h, up_to)
+
+  pub nothing_up_to : (w : List ℕ) → length w ≡ 0 → none ≡ up_to most (number w)
+  unfolding number up_to
+  nothing_up_to [] h = refl
+  nothing_up_to (b ∷ w) h = absurd (omega arith)
+
+  -- more digits make it no smaller
+  large : (m : ℕ) (s : List ℕ) → most < m → none ≡ up_to most (value m s)
+  unfolding value up_to
+  large m [] h = up_to_above m h
+  large m (b ∷ s) h = by (digit b) (λ k g. large k s g)
+    where
+      by : (z : Bool) → ((k : ℕ) → most < k → none ≡ up_to most (value k s)) → none ≡ up_to most (elim z [ true ↦ value (m * 10 + (b - 48)) s | false ↦ none ])
+      by true ih = ih (m * 10 + (b - 48)) (omega arith)
+      by false ih = refl
+
+  module _ (w : List ℕ) (n i : ℕ) where
+    pub digit_none : i < length w → digit (get_or w i 0) ≡ false → none ≡ up_to most (value n (drop i w))
+    unfolding value up_to
+    digit_none h d = rw (cut w i h) (rw (d, value))
+
+    module _ (m : ℕ) (h : i < length w) (d : digit (get_or w i 0) ≡ true) (e : m ≡ get_or w i 0 - 48) where
+      pub digit_next : value n (drop i w) ≡ value (n * 10 + m) (drop (i + 1) w)
+      unfolding value
+      digit_next = (rw (cut w i h) (rw (d, value))) ∙ ap (λ (x : ℕ). value (n * 10 + x) (drop (i + 1) w)) (sym e)
+
+      pub digit_large : none ≡ up_to most (some (n * 10 + m)) → none ≡ up_to most (value n (drop i w))
+      unfolding up_to
+      digit_large k = by (leb (n * 10 + m) most) refl k
+        where
+          by : (z : Bool) → leb (n * 10 + m) most ≡ z → none ≡ elim z as (λ x. Option ℕ) [ true ↦ some (n * 10 + m) | false ↦ none ]
+              → none ≡ up_to most (value n (drop i w))
+          by true f k = let z : ◌≡◌ {A = ℕ} 0 1 = cc in absurd (omega arith)
+          by false f k = large (n * 10 + m) (drop (i + 1) w) (leb-false (n * 10 + m) most f) ∙ ap (up_to most) (sym digit_next)
+
+    pub digits_end : length w ≤ i → n ≤ most → some n ≡ up_to most (value n (drop i w))
+    unfolding value
+    digits_end h k = up_to_within n k ∙ ap (up_to most) (ap (value n) (sym (drop_of_length-le w h)))
+
+-- what is not above m is kept
+pub up_to_some : (most n m : ℕ) → some m ≡ up_to most (some n) → (m ≡ n) × (n ≤ most)
+unfolding up_to
+up_to_some most n m = by (leb n most) refl
+  where
+    by : (z : Bool) → leb n most ≡ z → some m ≡ elim z as (λ x. Option ℕ) [ true ↦ some n | false ↦ none ] → (m ≡ n) × (n ≤ most)
+    by true f e = (cc, leb-true n most f)
+    by false f e = let z : ◌≡◌ {A = ℕ} 0 1 = cc in absurd (omega arith)
 
 -- ---- times
 

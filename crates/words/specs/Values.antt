@@ -1,5 +1,5 @@
 -- Numbers that the code holds: up to a largest one, above every bound of document 01.
-use Rattle.std.specs.Prelude.{ℕ, ◌+◌, ◌*◌, ◌-◌, min, ◌≡◌, Bool, true, false, Option as Maybe, Some, None}
+use Rattle.std.specs.Prelude.{ℕ, ◌+◌, ◌*◌, ◌-◌, min, ◌≡◌, Bool, true, false, leb, Option as Maybe, Some, None}
 use Rattle.std.proofs.Math.Option.{Option, none, some}
 use Rattle.tokens.specs.Bytes.{digit}
 
@@ -10,6 +10,11 @@ most = 10_000_000_000
 abbrev pub capped : Option ℕ → Option ℕ
 capped none = none
 capped (some n) = some (min most n)
+
+-- a number that is not above m
+unfoldable pub up_to : ℕ → Option ℕ → Option ℕ
+up_to m none = none
+up_to m (some n) = elim (leb n m) [ true ↦ some n | false ↦ none ]
 
 -- a number that is one (right), or none
 abbrev pub told : Bool → ℕ → Option ℕ

@@ -1,8 +1,8 @@
 // Readers of single tokens: a cursor over the text, names, reserved words, numbers and times.
 #![tactic(auto)]
 
-ghost use Rattle.std.specs.Prelude.{◌≡◌, ℕ, ◌+◌, ◌≤◌, ◌<◌, min, List, get_or, length, false, ◌&&◌, not, eqb, ltb};
-ghost use Rattle.std.proofs.Math.Option.{Option};
+ghost use Rattle.std.specs.Prelude.{◌≡◌, ℕ, ◌+◌, ◌*◌, ◌≤◌, ◌<◌, min, List, get_or, length, false, ◌&&◌, not, eqb, ltb};
+ghost use Rattle.std.proofs.Math.Option.{Option, some};
 ghost use Rattle.tokens.specs.Written.{same};
 ghost use Rattle.tokens.specs.Bytes.{wordy, digit};
 ghost use Rattle.tokens.specs.Tokens.{Tok};
@@ -12,7 +12,7 @@ ghost use Rattle.meaning.specs.Names.{reserved as reserved_words, among, is_name
 ghost use Rattle.meaning.specs.Timing.{wave_char, all_chars, unit as unit_of, picoseconds, quoted as quoted_due, counted as counted_of, time_of, signed_quoted};
 ghost use Rattle.meaning.specs.Bounds.{time_most};
 ghost use Rattle.words.specs.Cursor.{span, ahead as ahead_tok, stream, alive, Stands, Goes, Checked, taking};
-ghost use Rattle.words.specs.Values.{most, told, capped, value_of, Longer};
+ghost use Rattle.words.specs.Values.{most, told, capped, up_to, value_of, Longer};
 ghost use Rattle.words.specs.Signs.{sign_of, signed_due, Counts};
 ghost use Rattle.words.specs.Table.{name_of, names};
 ghost use Rattle.words.specs.Packed.{packed, capital, EndsWith, ZerosFrom};
@@ -203,11 +203,11 @@ pub fn word(text: &[u8], c: Cursor) -> Cursor
     expect(text, c, is_word(bytes_of(text, c.at, c.end)))
 }
 
-// Does a byte stand there?
+// Does a byte stand there? `contains` takes twice the instructions on words, which are short.
 pub fn holds(w: &[u8], b: u8) -> bool
     ensures { result ≡ has b w.now }
 {
-    w.contains(&b)
+    w.iter().any(|x| *x == b)
 }
 
 // ---- waveform characters
@@ -510,7 +510,8 @@ pub fn longer(n: u64, b: u8) -> u64
     (n * 10 + u64::from(b.saturating_sub(b'0'))).min(NUMBER_MOST)
 }
 
-// The number that decimal digits stand for, at most the largest that is held.
+// The number that decimal digits stand for, at most the largest that is held: its contract tells a number that is too large from a word that is none, so it goes
+// on behind the largest, where `number_up_to` ends.
 pub fn number(w: &[u8]) -> Option<u64>
     ensures { value_of result ≡ capped (number_of w.now) }
 {
@@ -523,6 +524,31 @@ pub fn number(w: &[u8]) -> Option<u64>
             return None;
         }
         n = longer(n, *b);
+    }
+    Some(n)
+}
+
+// A number with one digit more, if it is at most `most`.
+fn longer_up_to(n: u64, digit: u64, most: u64) -> Option<u64>
+    ensures { value_of result ≡ up_to most (some (n * 10 + digit)) }
+{
+    let m = n.checked_mul(10)?.checked_add(digit)?;
+    if m <= most { Some(m) } else { None }
+}
+
+// The number that decimal digits stand for, if it is at most `most`.
+pub fn number_up_to(word: &[u8], most: u64) -> Option<u64>
+    ensures { value_of result ≡ up_to most (number_of word.now) }
+{
+    if word.is_empty() {
+        return None;
+    }
+    let mut n = 0;
+    for b in word {
+        if !is_digit(*b) {
+            return None;
+        }
+        n = longer_up_to(n, u64::from(b.saturating_sub(b'0')), most)?;
     }
     Some(n)
 }

@@ -1,17 +1,12 @@
-use Prim.Native.Nat.{ℕ, ◌*◌, ◌<◌, ◌-◌}
+use Prim.Native.Nat.{ℕ, ◌*◌, ◌<◌}
 use mathlib.Core.Path.{◌≡◌}
 use mathlib.Core.Bool.{true}
 use mathlib.Core.List.{List}
-use Rattle.meaning.specs.Bounds.{signals_most}
 use Rattle.meaning.specs.Body.{Args, Body}
 use Rattle.measures.specs.Uses.{Uses}
 use Rattle.arguments.specs.Supplied.{Supplied, block_size, fits_at}
 use Rattle.arguments.proofs.fitted.Given as goal
 
-abbrev pub invariant-loop-s : goal.invariant-loop-s
-invariant-loop-s l =
-    (m : ℕ) × (l.s ≡ m * block_size)
-    × ((text : List ℕ) (b : Body) (xs : Args) → Uses b l.row → Supplied text xs l.given l.args → (k : ℕ) → k < l.s → fits_at b xs l.t k ≡ true)
-
-abbrev pub decreases-loop-s : goal.decreases-loop-s
-decreases-loop-s l = signals_most - l.s
+abbrev pub invariant-loop-block : goal.invariant-loop-block
+invariant-loop-block l =
+    (text : List ℕ) (b : Body) (xs : Args) → Uses b l.row → Supplied text xs l.given l.args → (k : ℕ) → k < l.block * block_size → fits_at b xs l.t k ≡ true

@@ -22,9 +22,9 @@ loop-k-preserved c =
     let loop = c.loop-k in
     λ e.
     let p = neither _ _ e in
-    let q = neither _ _ p.0 in
+    let q = neither _ _ p.1 in
     let r = neither _ _ q.0 in
-    idle_more (loop.invariant r.0) (eqb-true _ _ (not-false _ r.1)) (eqb-true _ _ (not-false _ q.1)) (eqb-true _ _ (not-false _ p.1))
+    idle_more (loop.invariant p.0) (eqb-true _ _ (not-false _ r.0)) (eqb-true _ _ (not-false _ r.1)) (eqb-true _ _ (not-false _ q.1))
 
 pub returns : goal.returns
 returns c =

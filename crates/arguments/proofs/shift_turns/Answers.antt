@@ -6,7 +6,7 @@ use mathlib.Core.Bool.{false}
 use borrow.Author.Count.{below_more}
 use Rattle.meaning.specs.Lists.{has}
 use Rattle.meaning.specs.Body.{shifting}
-use Rattle.arguments.proofs.Counted.{not_in_shift, turns_none, turns_more, turns_zero}
+use Rattle.arguments.proofs.Counted.{not_in_shift, turns_none, turns_more}
 use Rattle.arguments.proofs.shift_turns.Goals as goal
 
 pub loop-s-init : goal.loop-s-init
@@ -22,20 +22,11 @@ supply-n-requires c =
 pub bounds-row-s-then-row-s-ne0 : goal.bounds-row-s-then-row-s-ne0
 bounds-row-s-then-row-s-ne0 c = omega (arith, c.requires.0)
 
-pub overflow_cast-u : goal.overflow_cast-u
-overflow_cast-u c = omega (arith, c.type_inv.row c.loop-s.s)
-
-pub returns-then-u-n : goal.returns-then-u-n
-returns-then-u-n c =
+pub returns-then-row-s-ne0 : goal.returns-then-row-s-ne0
+returns-then-row-s-ne0 c =
     let loop = c.loop-s in
     λ text b xs uses sup.
-    turns_more uses sup loop.s (omega arith) c.if-row-s-ne0.true (c.supply-n.ensures text xs sup)
-
-pub returns-else-u-n : goal.returns-else-u-n
-returns-else-u-n c =
-    let loop = c.loop-s in
-    λ text b xs uses sup.
-    turns_zero uses sup loop.s (omega arith) c.if-row-s-ne0.true (c.supply-n.ensures text xs sup) c.if-u-n.false
+    rw c.saturating_sub.ensures (turns_more uses sup loop.s (omega arith) c.if-row-s-ne0.true (c.supply-n.ensures text xs sup))
 
 pub loop-s-preserved : goal.loop-s-preserved
 loop-s-preserved c =

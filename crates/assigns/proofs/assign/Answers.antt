@@ -3,7 +3,7 @@ use mathlib.Core.Path.{ap, ◌∙◌}
 use mathlib.Core.Bool.{not}
 use Prim.Native.Nat.{ℕ}
 use native.Mathlib.Omega.{arith}
-use lib.ListN.{replicate, length-replicate}
+use lib.ListN.{length, replicate, length-replicate}
 use lib.Dec.{eqb}
 use borrow.Author.Tests.{eq-eqb, ne_eqb}
 use Rattle.tokens.specs.Written.{bytes}
@@ -24,7 +24,7 @@ whole c =
     assign_read c.old_name-x.ensures c.refuse_if-b.ensures c.due-d.ensures
     c.data-f.ensures
     c.refuse_if-r.ensures
-    (ap (λ (n : ℕ). not (eqb c.data-f.result.n n)) c.size.ensures)
+    (ap (λ (n : ℕ). not (eqb c.data-f.result.n n)) (ap length c.signals_of.ensures))
 
 pub returns-then-a-ne0 : goal.returns-then-a-ne0
 returns-then-a-ne0 c =
@@ -34,8 +34,8 @@ pub met-requires : goal.met-requires
 met-requires c =
     row_of c.requires.0 c.old_name-x.ensures c.args.given.now (eq-eqb _ _ c.if-a-ne0.false) c.requires.1
 
-pub size-requires : goal.size-requires
-size-requires c =
+pub signals_of-requires : goal.signals_of-requires
+signals_of-requires c =
     let r = row_of c.requires.0 c.old_name-x.ensures c.args.given.now (eq-eqb _ _ c.if-a-ne0.false) c.requires.1 in
     (r.rows, r.below)
 

@@ -1,79 +1,44 @@
 -- What is left to put is put behind what is done: a turn takes the next signal and the next character.
-use mathlib.Core.Path.{refl, sym, ◌∙◌}
-use Prim.Native.Nat.{◌<◌}
+use mathlib.Core.Path.{sym, ap, ap₂, ◌∙◌}
+use mathlib.Core.Logic.{inl, inr}
+use mathlib.Core.List.{List}
+use Prim.Native.Nat.{ℕ}
 use native.Mathlib.Omega.{arith}
-use lib.ListN.{length, length-set}
-use Rattle.signals.specs.Names.{list_at}
-use Rattle.assigns.proofs.Rows.{row_at, row_inside, signal_below, placed_next, placed_end}
-use borrow.Author.Rules.{rules}
+use lib.ListN.{length-set}
+use Rattle.assigns.specs.Given.{placed}
+use Rattle.assigns.proofs.Rows.{tidy_first, placed_next, placed_bare, placed_out}
 use Rattle.assigns.proofs.put.Goals as goal
 
-pub size-n-requires : goal.size-n-requires
-size-n-requires c =
-    let row = c.requires.0 in
-    (row.rows, row.below)
-
-pub loop-j-init : goal.loop-j-init
-loop-j-init c =
-    (c.requires.0.long, refl)
-
-pub overflow_add-s : goal.overflow_add-s
-overflow_add-s c =
-    let below = c.requires.0.below in
-    search rules
-
-pub overflow_add-s-in-loop-j : goal.overflow_add-s-in-loop-j
-overflow_add-s-in-loop-j c =
-    let row = c.requires.0 in
-    let size = c.size-n.ensures in
-    let inside = row_inside row c.loop-j.j (omega arith) in
-    let rows = row.rows in
-    search rules
-
-pub offset_bounds-lists-at : goal.offset_bounds-lists-at
-offset_bounds-lists-at c =
-    let row = c.requires.0 in
-    let size = c.size-n.ensures in
-    let inside = row_inside row c.loop-j.j (omega arith) in
-    let rows = row.rows in
-    search rules
-
-pub bounds-lists-at : goal.bounds-lists-at
-bounds-lists-at c =
-    let size = c.size-n.ensures in
-    row_inside c.requires.0 c.loop-j.j (omega arith)
-
-pub overflow_cast-s : goal.overflow_cast-s
-overflow_cast-s c =
-    let size = c.size-n.ensures in
-    let below = signal_below c.requires.0 c.loop-j.j (omega arith) in
-    search rules
-
-pub bounds-buffer-j : goal.bounds-buffer-j
-bounds-buffer-j c =
-    let size = c.size-n.ensures in
-    omega (arith, c.requires.1)
+pub loop-s-init : goal.loop-s-init
+loop-s-init c =
+    let from = c.into_iter-s-iterator.ensures.into_iter_gives in
+    let row = ap (λ z. z.a.rest.now) from ∙ ap (λ z. z.rest.now) c.zip-s-items.ensures.first ∙ c.iter.ensures.rest ∙ c.signals_of.ensures in
+    let chars = ap (λ z. z.b.rest.now) from ∙ c.zip-s-items.ensures.second.0 in
+    record {
+      long = c.requires.0.long;
+      tidy = rw row c.requires.0.tidy;
+      left = sym (ap₂ (λ (ss cs : List ℕ). placed ss cs c.args.given.now) row chars);
+    }
 
 pub bounds-given-s : goal.bounds-given-s
 bounds-given-s c =
-    let size = c.size-n.ensures in
-    let below = signal_below c.requires.0 c.loop-j.j (omega arith) in
-    omega (arith, c.loop-j.invariant.0)
+    let inv = c.loop-s.invariant in
+    omega (arith, (tidy_first c.in-Some.ensures.steps.0 inv.tidy).0, inv.long)
 
-pub loop-j-preserved : goal.loop-j-preserved
-loop-j-preserved c =
-    let loop = c.loop-j in
-    let size = c.size-n.ensures in
-    let h : loop.j < length (list_at c.args.lists.now c.args.i) = omega arith in
-    let e = row_at c.args.lists.now c.args.i loop.j h in
-    (length-set loop.given _ _ ∙ loop.invariant.0, loop.invariant.1 ∙ rw (sym e) (placed_next _ c.args.buffer.now loop.j loop.given h (omega (arith, c.requires.1))))
-
-pub shape_of-given : goal.shape_of-given
-shape_of-given c =
-    c.loop-j.invariant.0 ∙ sym c.requires.0.long
+pub loop-s-preserved : goal.loop-s-preserved
+loop-s-preserved c =
+    let inv = c.loop-s.invariant in
+    let next = c.in-Some.ensures.steps in
+    record {
+      long = length-set c.loop-s.given _ _ ∙ inv.long;
+      tidy = (tidy_first next.0 inv.tidy).1;
+      left = inv.left ∙ placed_next c.loop-s.given next.0 next.1;
+    }
 
 pub returns : goal.returns
 returns c =
-    let loop = c.loop-j in
-    let size = c.size-n.ensures in
-    sym (loop.invariant.1 ∙ placed_end (list_at c.args.lists.now c.args.i) c.args.buffer.now loop.j loop.given (omega arith))
+    let left = c.loop-s.invariant.left in
+    elim c.in-None.ensures.steps [
+      | inl w ↦ sym (left ∙ placed_bare _ _ _ w.1.0)
+      | inr w ↦ sym (left ∙ placed_out _ _ _ w.1.0)
+    ]

@@ -25,8 +25,8 @@ invariant-statements-loop-cursor l =
     × (length l.args ≡ signals_most * 2)
     × (length l.used ≡ table_size)
     × Grows l.initial.used l.used
-    × ((e : Env) → Describes l.text l.places l.lists l.tplaces l.book l.rows l.known e → Reading l.text e l.own l.d l.initial.cursor l.cursor l.ends l.seen l.measure l.initial.row l.row (Notes l.known.tables e l.initial.used l.used))
+    × ((e : Env) → Describes l.declared.text.now l.declared.places.now l.declared.lists.now l.declared.tplaces.now l.declared.book.now l.declared.rows.now l.declared.known e → Reading l.declared.text.now e l.own l.d l.initial.cursor l.cursor l.ends l.seen l.measure l.initial.row l.row (Notes l.declared.known.tables e l.initial.used l.used))
 
 abbrev pub decreases-statements-loop-cursor : goal.decreases-statements-loop-cursor
 decreases-statements-loop-cursor l =
-    room l.text l.cursor
+    room l.declared.text.now l.cursor

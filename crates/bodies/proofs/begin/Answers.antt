@@ -16,7 +16,7 @@ behind-requires c =
     let s = pre'.0.describes in
     record {
       ready = (s.ready, pre'.2, head'.ensures.0, s.book_long, head'.ensures.1, pre'.4);
-      by_index = (args'.c, _, args'.known.tables, head_is args'.rows.now (head'.ensures.2 pre'.0.env s));
+      by_index = (args'.c, _, args'.declared.now.known.tables, head_is args'.declared.now.rows.now (head'.ensures.2 pre'.0.env s));
     }
 
 pub returns : goal.returns
@@ -24,4 +24,4 @@ returns c =
     let args' = c.args in
     let head' = c.head-h in
     let behind' = c.behind in
-    (λ e s. behind'.ensures.0 e args'.d args'.c args'.known.tables s.names_are (head_is args'.rows.now (head'.ensures.2 e s)), behind'.ensures.1)
+    (λ e s. behind'.ensures.0 e args'.d args'.c args'.declared.now.known.tables s.names_are (head_is args'.declared.now.rows.now (head'.ensures.2 e s)), behind'.ensures.1)

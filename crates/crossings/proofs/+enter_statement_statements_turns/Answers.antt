@@ -369,13 +369,13 @@ statement-returns-in-Uses t c =
           called_step st.holding _ d refl refl (v.told E d.body d.after d.arguments s (called_using st d (shows_supplied st.shows w.1) (w.2 _ _ d.supplied)) runs));
     })
 
-pub statements-loop-known-init : goal.statements-loop-known-init
-statements-loop-known-init t c = record { kept = kept_none; long = long_none; onward = λ E b us s st runs. starts c.requires.0 st }
+pub statements-loop-frame-init : goal.statements-loop-frame-init
+statements-loop-frame-init t c = record { kept = kept_none; long = long_none; onward = λ E b us s st runs. starts c.requires.0 st }
 
 pub statements-statement-r-requires : goal.statements-statement-r-requires
 statements-statement-r-requires t c =
     let stood = c.requires.1 in
-    let inv = c.loop-known.invariant in
+    let inv = c.loop-frame.invariant in
     let o = inv.onward stood.env stood.body stood.rest stood.state stood.standing stood.timed in (
       omega arith,
       (
@@ -395,23 +395,23 @@ statements-statement-r-requires t c =
     )
 
 pub statements-shape_of-values-then-r : goal.statements-shape_of-values-then-r
-statements-shape_of-values-then-r t c = c.statement-r.ensures.kept.values_long ∙ c.loop-known.invariant.kept.values_long
+statements-shape_of-values-then-r t c = c.statement-r.ensures.kept.values_long ∙ c.loop-frame.invariant.kept.values_long
 
 pub statements-shape_of-feeds-then-r : goal.statements-shape_of-feeds-then-r
-statements-shape_of-feeds-then-r t c = c.statement-r.ensures.kept.feeds_long ∙ c.loop-known.invariant.kept.feeds_long
+statements-shape_of-feeds-then-r t c = c.statement-r.ensures.kept.feeds_long ∙ c.loop-frame.invariant.kept.feeds_long
 
 pub statements-shape_of-args-then-r : goal.statements-shape_of-args-then-r
-statements-shape_of-args-then-r t c = c.statement-r.ensures.kept.args_long ∙ c.loop-known.invariant.kept.args_long
+statements-shape_of-args-then-r t c = c.statement-r.ensures.kept.args_long ∙ c.loop-frame.invariant.kept.args_long
 
 pub statements-shape_of-shown-then-r : goal.statements-shape_of-shown-then-r
-statements-shape_of-shown-then-r t c = c.statement-r.ensures.long.pins_long ∙ c.loop-known.invariant.long.pins_long
+statements-shape_of-shown-then-r t c = c.statement-r.ensures.long.pins_long ∙ c.loop-frame.invariant.long.pins_long
 
 pub statements-shape_of-marks-then-r : goal.statements-shape_of-marks-then-r
-statements-shape_of-marks-then-r t c = c.statement-r.ensures.long.marks_long ∙ c.loop-known.invariant.long.marks_long
+statements-shape_of-marks-then-r t c = c.statement-r.ensures.long.marks_long ∙ c.loop-frame.invariant.long.marks_long
 
 pub statements-returns-then-r : goal.statements-returns-then-r
 statements-returns-then-r t c =
-    let inv = c.loop-known.invariant in
+    let inv = c.loop-frame.invariant in
     let step = c.statement-r.ensures in
     record {
       kept = kept_then inv.kept step.kept;
@@ -419,15 +419,15 @@ statements-returns-then-r t c =
       plays = λ E b us s st runs. (let o = inv.onward E b us s st runs in gone o (step.steps E o.rest us o.state o.standing runs) c.if-r.true);
     }
 
-pub statements-loop-known-smaller : goal.statements-loop-known-smaller
-statements-loop-known-smaller t c =
+pub statements-loop-frame-smaller : goal.statements-loop-frame-smaller
+statements-loop-frame-smaller t c =
     let stood = c.requires.1 in
-    let o = c.loop-known.invariant.onward stood.env stood.body stood.rest stood.state stood.standing stood.timed in
+    let o = c.loop-frame.invariant.onward stood.env stood.body stood.rest stood.state stood.standing stood.timed in
     fewer o (c.statement-r.ensures.steps stood.env o.rest stood.rest o.state o.standing stood.timed) c.if-r.false
 
-pub statements-loop-known-preserved : goal.statements-loop-known-preserved
-statements-loop-known-preserved t c =
-    let inv = c.loop-known.invariant in
+pub statements-loop-frame-preserved : goal.statements-loop-frame-preserved
+statements-loop-frame-preserved t c =
+    let inv = c.loop-frame.invariant in
     let step = c.statement-r.ensures in
     record {
       kept = kept_then inv.kept step.kept;
@@ -450,7 +450,7 @@ turns-overflow_add-first t c = omega (arith, c.rows_of-first.ensures)
 pub turns-store-requires : goal.turns-store-requires
 turns-store-requires t c =
     let stood = c.requires.4 in
-    (stood.sized.roomy.few, omega (arith, stood.sized.roomy.values_long), long_ample (long_stored (c.forget.ensures c.args.signals c.args.shown.now)) stood.ample, omega (arith, c.rows_of-first.ensures, c.requires.2))
+    (stood.sized.roomy.few, omega (arith, stood.sized.roomy.values_long), long_ample (long_stored (c.forget.ensures c.args.ground.now.signals c.args.shown.now)) stood.ample, omega (arith, c.rows_of-first.ensures, c.requires.2))
 
 pub turns-statements-a-requires : goal.turns-statements-a-requires
 turns-statements-a-requires t c =
@@ -467,7 +467,7 @@ turns-statements-a-requires t c =
           timed = stood.timed;
           sized = stood.sized;
           fitted = stood.fitted;
-          ample = long_ample (long_then (long_stored (c.forget.ensures c.args.signals c.args.shown.now)) (long_stored c.store.ensures)) c.requires.4.ample;
+          ample = long_ample (long_then (long_stored (c.forget.ensures c.args.ground.now.signals c.args.shown.now)) (long_stored c.store.ensures)) c.requires.4.ample;
         },
       ),
     )
@@ -492,8 +492,8 @@ turns-returns-then-a-n t c =
     let a = c.statements-a.ensures in
     record {
       kept = a.kept;
-      long = long_then (long_stored (c.forget.ensures c.args.signals c.args.shown.now)) (long_then (long_stored c.store.ensures) a.long);
-      plays = λ E b us s st plain runs. turned_once c.args.frame.turns c.args.n c.args.frame.depth b s c.requires.2 c.requires.3 (rw c.rows_of-first.ensures at (c.forget.ensures c.args.signals c.args.shown.now)) (rw c.rows_of-first.ensures at c.store.ensures) (a.plays E b us s st runs) c.requires.1 c.if-a-n.true;
+      long = long_then (long_stored (c.forget.ensures c.args.ground.now.signals c.args.shown.now)) (long_then (long_stored c.store.ensures) a.long);
+      plays = λ E b us s st plain runs. turned_once c.args.frame.turns c.args.n c.args.frame.depth b s c.requires.2 c.requires.3 (rw c.rows_of-first.ensures at (c.forget.ensures c.args.ground.now.signals c.args.shown.now)) (rw c.rows_of-first.ensures at c.store.ensures) (a.plays E b us s st runs) c.requires.1 c.if-a-n.true;
     }
 
 pub turns-overflow_add-first-2 : goal.turns-overflow_add-first-2
@@ -503,12 +503,12 @@ pub turns-same-requires : goal.turns-same-requires
 turns-same-requires t c =
     let stood = c.requires.4 in
     let sized = sized_kept stood.sized c.statements-a.ensures.kept in
-    (sized.roomy.few, omega (arith, sized.roomy.values_long), long_ample c.statements-a.ensures.long (long_ample (long_then (long_stored (c.forget.ensures c.args.signals c.args.shown.now)) (long_stored c.store.ensures)) c.requires.4.ample), omega (arith, c.rows_of-first.ensures, c.requires.2))
+    (sized.roomy.few, omega (arith, sized.roomy.values_long), long_ample c.statements-a.ensures.long (long_ample (long_then (long_stored (c.forget.ensures c.args.ground.now.signals c.args.shown.now)) (long_stored c.store.ensures)) c.requires.4.ample), omega (arith, c.rows_of-first.ensures, c.requires.2))
 
 pub turns-finish-requires : goal.turns-finish-requires
 turns-finish-requires t c =
     let stood = c.requires.4 in
-    (stood.fitted, stood.sized.roomy.few, long_ample c.statements-a.ensures.long (long_ample (long_then (long_stored (c.forget.ensures c.args.signals c.args.shown.now)) (long_stored c.store.ensures)) c.requires.4.ample), omega (arith, c.rows_of-first.ensures, c.requires.2))
+    (stood.fitted, stood.sized.roomy.few, long_ample c.statements-a.ensures.long (long_ample (long_then (long_stored (c.forget.ensures c.args.ground.now.signals c.args.shown.now)) (long_stored c.store.ensures)) c.requires.4.ample), omega (arith, c.rows_of-first.ensures, c.requires.2))
 
 pub turns-shape_of-values-then-same : goal.turns-shape_of-values-then-same
 turns-shape_of-values-then-same t c = c.statements-a.ensures.kept.values_long
@@ -529,20 +529,20 @@ pub turns-returns-then-same : goal.turns-returns-then-same
 turns-returns-then-same t c =
     let a = c.statements-a.ensures in
     let stood = c.requires.4 in
-    let ample = long_ample a.long (long_ample (long_then (long_stored (c.forget.ensures c.args.signals c.args.shown.now)) (long_stored c.store.ensures)) c.requires.4.ample) in
+    let ample = long_ample a.long (long_ample (long_then (long_stored (c.forget.ensures c.args.ground.now.signals c.args.shown.now)) (long_stored c.store.ensures)) c.requires.4.ample) in
     record {
       kept = a.kept;
-      long = long_then (long_stored (c.forget.ensures c.args.signals c.args.shown.now)) (long_then (long_stored c.store.ensures) a.long);
+      long = long_then (long_stored (c.forget.ensures c.args.ground.now.signals c.args.shown.now)) (long_then (long_stored c.store.ensures) a.long);
       plays = λ E b us s st plain runs. (
           let p = a.plays E b us s st runs in
           let sound = (neither _ _ c.if-a-n.false).0 in
-          let row = still_found c.args.frame.turns c.args.n c.args.frame.depth b s c.requires.2 c.requires.3 (rw c.rows_of-first.ensures at (c.forget.ensures c.args.signals c.args.shown.now)) (rw c.rows_of-first.ensures at c.store.ensures) p c.if-a-n.false refl in
+          let row = still_found c.args.frame.turns c.args.n c.args.frame.depth b s c.requires.2 c.requires.3 (rw c.rows_of-first.ensures at (c.forget.ensures c.args.ground.now.signals c.args.shown.now)) (rw c.rows_of-first.ensures at c.store.ensures) p c.if-a-n.false refl in
           let same = turn_same c.args.frame.turns _ b s plain st.shows (p.tells.shows sound) row (sized_kept stood.sized a.kept).roomy ample (omega (arith, c.requires.2)) (rw c.rows_of-first.ensures at (c.same.ensures c.if-same.true)) in
-          turned_steady c.args.frame.turns c.args.n c.args.frame.depth b s c.requires.2 c.requires.3 (rw c.rows_of-first.ensures at (c.forget.ensures c.args.signals c.args.shown.now)) (rw c.rows_of-first.ensures at c.store.ensures) p c.if-a-n.false same c.finish.ensures.0 c.finish.ensures.1 (rw c.rows_of-first.ensures at (c.finish.ensures.2 E.tables runs)));
+          turned_steady c.args.frame.turns c.args.n c.args.frame.depth b s c.requires.2 c.requires.3 (rw c.rows_of-first.ensures at (c.forget.ensures c.args.ground.now.signals c.args.shown.now)) (rw c.rows_of-first.ensures at c.store.ensures) p c.if-a-n.false same c.finish.ensures.0 c.finish.ensures.1 (rw c.rows_of-first.ensures at (c.finish.ensures.2 E.tables runs)));
     }
 
 pub turns-forget-requires-2 : goal.turns-forget-requires-2
-turns-forget-requires-2 t c = ((long_ample c.statements-a.ensures.long (long_ample (long_then (long_stored (c.forget.ensures c.args.signals c.args.shown.now)) (long_stored c.store.ensures)) c.requires.4.ample)).marks_long, omega (arith, c.rows_of-first.ensures, c.requires.2))
+turns-forget-requires-2 t c = ((long_ample c.statements-a.ensures.long (long_ample (long_then (long_stored (c.forget.ensures c.args.ground.now.signals c.args.shown.now)) (long_stored c.store.ensures)) c.requires.4.ample)).marks_long, omega (arith, c.rows_of-first.ensures, c.requires.2))
 
 pub turns-statements-b-requires : goal.turns-statements-b-requires
 turns-statements-b-requires t c =
@@ -561,7 +561,7 @@ turns-statements-b-requires t c =
           timed = stood.timed;
           sized = sized_kept stood.sized a.kept;
           fitted = stood.fitted;
-          ample = long_ample (long_stored (c.forget-2.ensures c.args.signals _)) (long_ample a.long (long_ample (long_then (long_stored (c.forget.ensures c.args.signals c.args.shown.now)) (long_stored c.store.ensures)) c.requires.4.ample));
+          ample = long_ample (long_stored (c.forget-2.ensures c.args.ground.now.signals _)) (long_ample a.long (long_ample (long_then (long_stored (c.forget.ensures c.args.ground.now.signals c.args.shown.now)) (long_stored c.store.ensures)) c.requires.4.ample));
         },
       ),
     )
@@ -587,17 +587,17 @@ turns-returns-then-b-n t c =
     let z = c.statements-b.ensures in
     record {
       kept = kept_then a.kept z.kept;
-      long = long_then (long_then (long_stored (c.forget.ensures c.args.signals c.args.shown.now)) (long_then (long_stored c.store.ensures) a.long)) (long_then (long_stored (c.forget-2.ensures c.args.signals _)) z.long);
+      long = long_then (long_then (long_stored (c.forget.ensures c.args.ground.now.signals c.args.shown.now)) (long_then (long_stored c.store.ensures) a.long)) (long_then (long_stored (c.forget-2.ensures c.args.ground.now.signals _)) z.long);
       plays = λ E b us s st plain runs. (
           let p = a.plays E b us s st runs in
           let q = z.plays E b us _ (turned_standing _ st p (neither _ _ c.if-a-n.false).0) runs in
-          turned_twice c.args.frame.turns c.args.n c.args.frame.depth b s c.requires.2 c.requires.3 (rw c.rows_of-first.ensures at (c.forget.ensures c.args.signals c.args.shown.now)) (rw c.rows_of-first.ensures at c.store.ensures) p c.if-a-n.false (stored_at c.rows_of-first.ensures (c.forget-2.ensures _ _)) q c.if-b-n.true);
+          turned_twice c.args.frame.turns c.args.n c.args.frame.depth b s c.requires.2 c.requires.3 (rw c.rows_of-first.ensures at (c.forget.ensures c.args.ground.now.signals c.args.shown.now)) (rw c.rows_of-first.ensures at c.store.ensures) p c.if-a-n.false (stored_at c.rows_of-first.ensures (c.forget-2.ensures _ _)) q c.if-b-n.true);
     }
 
 pub turns-finish-requires-2 : goal.turns-finish-requires-2
 turns-finish-requires-2 t c =
     let stood = c.requires.4 in
-    (stood.fitted, stood.sized.roomy.few, long_ample c.statements-b.ensures.long (long_ample (long_stored (c.forget-2.ensures c.args.signals _)) (long_ample c.statements-a.ensures.long (long_ample (long_then (long_stored (c.forget.ensures c.args.signals c.args.shown.now)) (long_stored c.store.ensures)) c.requires.4.ample))), omega (arith, c.rows_of-first.ensures, c.requires.2))
+    (stood.fitted, stood.sized.roomy.few, long_ample c.statements-b.ensures.long (long_ample (long_stored (c.forget-2.ensures c.args.ground.now.signals _)) (long_ample c.statements-a.ensures.long (long_ample (long_then (long_stored (c.forget.ensures c.args.ground.now.signals c.args.shown.now)) (long_stored c.store.ensures)) c.requires.4.ample))), omega (arith, c.rows_of-first.ensures, c.requires.2))
 
 pub turns-shape_of-values : goal.turns-shape_of-values
 turns-shape_of-values t c = c.statements-b.ensures.kept.values_long ∙ c.statements-a.ensures.kept.values_long
@@ -620,9 +620,9 @@ turns-returns t c =
     let z = c.statements-b.ensures in
     record {
       kept = kept_then a.kept z.kept;
-      long = long_then (long_then (long_stored (c.forget.ensures c.args.signals c.args.shown.now)) (long_then (long_stored c.store.ensures) a.long)) (long_then (long_stored (c.forget-2.ensures c.args.signals _)) z.long);
+      long = long_then (long_then (long_stored (c.forget.ensures c.args.ground.now.signals c.args.shown.now)) (long_then (long_stored c.store.ensures) a.long)) (long_then (long_stored (c.forget-2.ensures c.args.ground.now.signals _)) z.long);
       plays = λ E b us s st plain runs. (
           let p = a.plays E b us s st runs in
           let q = z.plays E b us _ (turned_standing _ st p (neither _ _ c.if-a-n.false).0) runs in
-          turned_on c.args.frame.turns c.args.n c.args.frame.depth b s c.requires.2 c.requires.3 (rw c.rows_of-first.ensures at (c.forget.ensures c.args.signals c.args.shown.now)) (rw c.rows_of-first.ensures at c.store.ensures) p c.if-a-n.false (stored_at c.rows_of-first.ensures (c.forget-2.ensures _ _)) q c.if-b-n.false plain c.finish-2.ensures.0 c.finish-2.ensures.1 (rw c.rows_of-first.ensures at (c.finish-2.ensures.2 E.tables runs)));
+          turned_on c.args.frame.turns c.args.n c.args.frame.depth b s c.requires.2 c.requires.3 (rw c.rows_of-first.ensures at (c.forget.ensures c.args.ground.now.signals c.args.shown.now)) (rw c.rows_of-first.ensures at c.store.ensures) p c.if-a-n.false (stored_at c.rows_of-first.ensures (c.forget-2.ensures _ _)) q c.if-b-n.false plain c.finish-2.ensures.0 c.finish-2.ensures.1 (rw c.rows_of-first.ensures at (c.finish-2.ensures.2 E.tables runs)));
     }

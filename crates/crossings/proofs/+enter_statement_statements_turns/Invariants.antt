@@ -6,11 +6,11 @@ use Rattle.crossings.specs.Rows.{seen, clock}
 use Rattle.crossings.proofs.Going.{Underway}
 use Rattle.crossings.proofs.+enter_statement_statements_turns.Given as goal
 
-abbrev pub invariant-statements-loop-known : goal.invariant-statements-loop-known
-invariant-statements-loop-known l = Underway (ground_of l.text l.places l.lists l.tplaces l.book l.rows l.waves l.known l.signals) (clock l.firsts l.lasts l.periods) l.frame.depth l.frame.level l.frame.turns l.initial.cursor l.initial.chosen (arrays l.initial.values l.initial.feeds l.initial.args) (seen l.initial.shown l.initial.marks) l.cursor l.chosen (arrays l.values l.feeds l.args) (seen l.shown l.marks)
+abbrev pub invariant-statements-loop-frame : goal.invariant-statements-loop-frame
+invariant-statements-loop-frame l = Underway (ground_of l.ground) (clock l.firsts l.lasts l.periods) l.frame.depth l.frame.level l.frame.turns l.initial.cursor l.initial.chosen (arrays l.initial.values l.initial.feeds l.initial.args) (seen l.initial.shown l.initial.marks) l.cursor l.chosen (arrays l.values l.feeds l.args) (seen l.shown l.marks)
 
-abbrev pub decreases-statements-loop-known : goal.decreases-statements-loop-known
-decreases-statements-loop-known l = left (stream l.text l.cursor)
+abbrev pub decreases-statements-loop-frame : goal.decreases-statements-loop-frame
+decreases-statements-loop-frame l = left (stream l.ground.declared.text.now l.cursor)
 
 abbrev pub decreases-enter : goal.decreases-enter
 decreases-enter l = 4 * l.frame.depth

@@ -18,7 +18,7 @@ use Rattle.crossings.proofs.pattern.Goals as goal
 pub overflow_add-i : goal.overflow_add-i
 overflow_add-i c =
     let n = c.requires.listed_at in
-    omega (arith, (found_at n c.find-i.result (rest c.args.book.now (first_pattern * 2)) c.name_bytes.ensures c.find-i.ensures).0, n.few)
+    omega (arith, (found_at n c.find-i.result (rest c.args.ground.now.declared.book.now (first_pattern * 2)) c.name_bytes.ensures c.find-i.ensures).0, n.few)
 
 pub leave-requires : goal.leave-requires
 leave-requires c = (c.requires.sized.roomy.values_long, omega arith)
@@ -29,19 +29,19 @@ forget-requires c = (c.requires.ample.marks_long, omega arith)
 pub statements-requires : goal.statements-requires
 statements-requires c =
     let n = c.requires.listed_at in
-    let x = found_at n c.find-i.result (rest c.args.book.now (first_pattern * 2)) c.name_bytes.ensures c.find-i.ensures in
+    let x = found_at n c.find-i.result (rest c.args.ground.now.declared.book.now (first_pattern * 2)) c.name_bytes.ensures c.find-i.ensures in
     let at = c.start_at.ensures (omega (arith, x.0, n.few)) in (
       eq-eqb _ 0 c.cursor_at-c.ensures.on,
       rw (c.cursor_at-c.ensures.there, at) (record {
         env = c.requires.env;
         body = c.requires.decl.body;
         rest = n.stands.0;
-        state = record { pins = bare (start c.args.signals).pins; table = none; args = [] };
-        standing = pattern_standing n c.find-i.result x.2 c.requires.sized c.leave.ensures (start c.args.signals) (opening_long c.args.signals);
+        state = record { pins = bare (start c.args.ground.now.signals).pins; table = none; args = [] };
+        standing = pattern_standing n c.find-i.result x.2 c.requires.sized c.leave.ensures (start c.args.ground.now.signals) (opening_long c.args.ground.now.signals);
         timed = c.requires.timed;
         sized = sized_left c.requires.sized c.leave.ensures;
         fitted = c.requires.fitted;
-        ample = long_ample (long_stored (c.forget.ensures c.args.signals c.args.shown.now)) c.requires.ample;
+        ample = long_ample (long_stored (c.forget.ensures c.args.ground.now.signals c.args.shown.now)) c.requires.ample;
       }),
     )
 
@@ -63,17 +63,17 @@ shape_of-marks c = c.statements.ensures.long.marks_long ∙ (c.forget.ensures 0 
 pub returns : goal.returns
 returns c =
     let n = c.requires.listed_at in
-    let x = found_at n c.find-i.result (rest c.args.book.now (first_pattern * 2)) c.name_bytes.ensures c.find-i.ensures in
+    let x = found_at n c.find-i.result (rest c.args.ground.now.declared.book.now (first_pattern * 2)) c.name_bytes.ensures c.find-i.ensures in
     let at = c.start_at.ensures (omega (arith, x.0, n.few)) in
     let p = rw (c.cursor_at-c.ensures.there, at) at c.statements.ensures in
-    let none_yet = (c.forget.ensures c.args.signals c.args.shown.now).here in
+    let none_yet = (c.forget.ensures c.args.ground.now.signals c.args.shown.now).here in
     record {
       sized = sized_kept (sized_left c.requires.sized c.leave.ensures) p.kept;
-      ample = long_ample p.long (long_ample (long_stored (c.forget.ensures c.args.signals c.args.shown.now)) c.requires.ample);
+      ample = long_ample p.long (long_ample (long_stored (c.forget.ensures c.args.ground.now.signals c.args.shown.now)) c.requires.ample);
       fails = λ E ps d m runs s l q. (
-          let y = found_at m c.find-i.result (rest c.args.book.now (first_pattern * 2)) c.name_bytes.ensures c.find-i.ensures in
+          let y = found_at m c.find-i.result (rest c.args.ground.now.declared.book.now (first_pattern * 2)) c.name_bytes.ensures c.find-i.ensures in
           sym (pattern_pair E.tables d.body s none_yet) ∙ (p.plays E d.body m.stands.0 _ (pattern_standing m c.find-i.result y.2 c.requires.sized c.leave.ensures s l) runs).tells.passed.fails q);
       sound = λ E ps d m runs s l q. (
-          let y = found_at m c.find-i.result (rest c.args.book.now (first_pattern * 2)) c.name_bytes.ensures c.find-i.ensures in
+          let y = found_at m c.find-i.result (rest c.args.ground.now.declared.book.now (first_pattern * 2)) c.name_bytes.ensures c.find-i.ensures in
           sym (pattern_pair E.tables d.body s none_yet) ∙ (p.plays E d.body m.stands.0 _ (pattern_standing m c.find-i.result y.2 c.requires.sized c.leave.ensures s l) runs).tells.passed.sound q);
     }

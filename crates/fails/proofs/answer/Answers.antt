@@ -14,14 +14,14 @@ refer-known_labels-requires c = (subst (λ (n : List ℕ). SomePattern c.args.te
 pub judge-v-requires : goal.judge-v-requires
 judge-v-requires c = (c.refer-known_labels.ensures.held, c.refer-known_labels.ensures.room)
 
-pub returns-then-v : goal.returns-then-v
-returns-then-v c = answer_outside _ _ _ _ _ _ _ _ c.bytes_of-name.ensures c.refer-known_labels.ensures (room_is c) c.judge-v.ensures c.if-v.true
+pub returns-in-Some : goal.returns-in-Some
+returns-in-Some c = answer_outside _ _ _ _ _ _ _ _ c.bytes_of-name.ensures c.refer-known_labels.ensures (room_is c) c.judge-v.ensures c.in-Some.is
 
 pub returns-then-v-spare : goal.returns-then-v-spare
-returns-then-v-spare c = answer_full _ _ _ _ _ _ _ _ c.bytes_of-name.ensures c.refer-known_labels.ensures (room_is c) c.judge-v.ensures c.if-v.false c.if-v-spare.true
+returns-then-v-spare c = answer_full _ _ _ _ _ _ _ _ c.bytes_of-name.ensures c.refer-known_labels.ensures (room_is c) c.judge-v.ensures c.in_default.is c.if-v-spare.true
 
 pub write-n-requires : goal.write-n-requires
 write-n-requires c = (c.refer-known_labels.ensures.held, c.refer-known_labels.ensures.room)
 
 pub returns : goal.returns
-returns c = answer_given _ _ _ _ _ _ _ _ c.bytes_of-name.ensures c.refer-known_labels.ensures (room_is c) c.judge-v.ensures c.if-v.false c.if-v-spare.false c.write-n.ensures
+returns c = answer_given _ _ _ _ _ _ _ _ c.bytes_of-name.ensures c.refer-known_labels.ensures (room_is c) c.judge-v.ensures c.in_default.is c.if-v-spare.false c.write-n.ensures

@@ -10,13 +10,13 @@ failing-requires c = c.requires
 pub returns-in_err-failing : goal.returns-in_err-failing
 returns-in_err-failing c =
     let e = err_from_is_err_and c.from_residual.result c.from_residual.ensures.1 in
-    rw (e.1, e.2) (fails_refused _ _ c.args.spare (c.in_err-failing.ensures c.requires.found))
+    rw (e.1, e.2) (fails_refused _ _ c.args.spare (c.in_err-failing.ensures _ c.requires.found))
 
 pub times_listed-t-requires : goal.times_listed-t-requires
 times_listed-t-requires c = record { decls = _; run = _; lists = lists_are c.requires.found }
 
 pub returns-then-t-ne1 : goal.returns-then-t-ne1
-returns-then-t-ne1 c = fails_unlisted c.requires.found (c.in_ok-failing.ensures c.requires.found) _ _ _ _ _ c.in-Sound.ensures (often_at _ c.bytes_of-name.ensures (c.times_listed-t.ensures _ _ (lists_are c.requires.found))) c.if-t-ne1.true
+returns-then-t-ne1 c = fails_unlisted c.requires.found (c.in_ok-failing.ensures _ c.requires.found) _ _ _ _ _ c.in-Ok.ensures (often_at _ c.bytes_of-name.ensures (c.times_listed-t.ensures _ _ (lists_are c.requires.found))) c.if-t-ne1.true
 
 pub answer-requires : goal.answer-requires
 answer-requires c =
@@ -24,11 +24,11 @@ answer-requires c =
       env = _;
       decls = _;
       decl = _;
-      pattern = listed_pattern c.requires.found (c.in_ok-failing.ensures c.requires.found) c.args.report.now c.args.spare c.args.cycles.now c.args.signals.now c.args.letters.now c.in-Sound.ensures (often_at _ c.bytes_of-name.ensures (c.times_listed-t.ensures _ _ (lists_are c.requires.found))) c.if-t-ne1.false;
+      pattern = listed_pattern c.requires.found (c.in_ok-failing.ensures _ c.requires.found) c.args.report.now c.args.spare c.args.cycles.now c.args.signals.now c.args.letters.now c.in-Ok.ensures (often_at _ c.bytes_of-name.ensures (c.times_listed-t.ensures _ _ (lists_are c.requires.found))) c.if-t-ne1.false;
     }
 
-pub returns-in-Refused : goal.returns-in-Refused
-returns-in-Refused c = fails_faulty c.requires.found (c.in_ok-failing.ensures c.requires.found) _ _ _ _ _ c.in-Refused.ensures
+pub returns-in-Err : goal.returns-in-Err
+returns-in-Err c = fails_faulty c.requires.found (c.in_ok-failing.ensures _ c.requires.found) _ _ _ _ _ c.in-Err.ensures
 
-pub returns-else-t-ne1 : goal.returns-else-t-ne1
-returns-else-t-ne1 c = fails_listed c.requires.found (c.in_ok-failing.ensures c.requires.found) _ _ _ _ _ c.in-Sound.ensures (often_at _ c.bytes_of-name.ensures (c.times_listed-t.ensures _ _ (lists_are c.requires.found))) c.if-t-ne1.false c.answer.ensures
+pub returns : goal.returns
+returns c = fails_listed c.requires.found (c.in_ok-failing.ensures _ c.requires.found) _ _ _ _ _ c.in-Ok.ensures (often_at _ c.bytes_of-name.ensures (c.times_listed-t.ensures _ _ (lists_are c.requires.found))) c.if-t-ne1.false c.answer.ensures

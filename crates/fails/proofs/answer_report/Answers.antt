@@ -7,8 +7,8 @@ use Rattle.fails.proofs.Reporting.{fails_refused}
 use borrow.Author.Rules.{rules}
 use Rattle.fails.proofs.answer_report.Goals as goal
 
-pub decide-v-requires : goal.decide-v-requires
-decide-v-requires c = (record { sized = record { all = refl; rows = refl }; unchained = blank_chains; tables = refl; marks = refl; unset = blank_waves }, refl, refl, refl, refl)
+pub decide-requires : goal.decide-requires
+decide-requires c = (record { sized = record { all = refl; rows = refl }; unchained = blank_chains; tables = refl; marks = refl; unset = blank_waves }, refl, refl, refl, refl)
 
 pub returns-in_err-v : goal.returns-in_err-v
 returns-in_err-v c =

@@ -15,9 +15,9 @@ pub judge_record-j-requires : goal.judge_record-j-requires
 judge_record-j-requires c = c.requires
 
 -- src/lib.rt:238:13
-pub returns-then-j : goal.returns-then-j
+pub returns-in-Some : goal.returns-in-Some
 unfolding bytes
-returns-then-j c = judges_refused _ _ _ _ _ c.cursor_at-cursor.ensures c.loop-cursor.invariant c.until.ensures c.loop-cursor-test.true c.judge_record-j.ensures c.if-j.true
+returns-in-Some c = judges_refused _ _ _ _ _ c.cursor_at-cursor.ensures c.loop-cursor.invariant c.until.ensures c.loop-cursor-test.true c.judge_record-j.ensures c.in-Some.is
 
 -- src/lib.rt:222:5
 pub loop-cursor-smaller : goal.loop-cursor-smaller
@@ -25,7 +25,7 @@ loop-cursor-smaller c = less (takes_record _ []) (on _ _ c.until.ensures c.loop-
 
 -- src/lib.rt:222:5
 pub loop-cursor-preserved : goal.loop-cursor-preserved
-loop-cursor-preserved c = kept_more _ _ _ _ _ c.loop-cursor.invariant c.until.ensures c.loop-cursor-test.true c.judge_record-j.ensures c.if-j.false c.take-x.ensures
+loop-cursor-preserved c = kept_more _ _ _ _ _ c.loop-cursor.invariant c.until.ensures c.loop-cursor-test.true c.judge_record-j.ensures c.in_default.is c.take-x.ensures
 
 -- src/lib.rt:199:1
 pub returns : goal.returns

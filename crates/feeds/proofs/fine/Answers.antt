@@ -19,7 +19,7 @@ pub overflow_sub-end : goal.overflow_sub-end
 overflow_sub-end c = omega arith
 
 pub returns-then-n-end : goal.returns-then-n-end
-returns-then-n-end c = fine_some c.if-text-end.false (omega (arith, c.marked.ensures)) c.if-n-end.true c.least.ensures
+returns-then-n-end c = fine_some c.if-text-end.false (omega (arith, c.marked.ensures)) c.if-n-end.true c.min.ensures
 
 pub returns-then-most-n : goal.returns-then-most-n
 returns-then-most-n c = fine_most c.if-text-end.false (omega (arith, c.marked.ensures)) c.if-n-end.false c.if-most-n.true

@@ -24,7 +24,7 @@ overflow_sub-n c = omega (arith, c.marked.ensures)
 pub returns-then-n-width : goal.returns-then-n-width
 returns-then-n-width c =
     let start = c.args in
-    omega (arith, c.least.ensures, times_some start.marks.now start.text.now start.from start.end (omega arith) start.times c.if-times-eq0.false (omega (arith, c.marked.ensures)) c.if-n-width.true)
+    omega (arith, c.min.ensures, times_some start.marks.now start.text.now start.from start.end (omega arith) start.times c.if-times-eq0.false (omega (arith, c.marked.ensures)) c.if-n-width.true)
 
 pub returns-then-most-width : goal.returns-then-most-width
 returns-then-most-width c =

@@ -3,12 +3,6 @@ use native.Mathlib.Omega.{arith}
 use Rattle.feeds.proofs.Front.{front_next, front_here, front_end, unmarked_past}
 use Rattle.feeds.proofs.marked.Goals as goal
 
-pub loop-i-init : goal.loop-i-init
-loop-i-init c = omega arith
-
-pub bounds-text-i : goal.bounds-text-i
-bounds-text-i c = omega arith
-
 pub overflow_cast-b : goal.overflow_cast-b
 overflow_cast-b c = omega (arith, c.type_inv.text c.loop-i.i)
 
@@ -16,32 +10,23 @@ pub returns-then-marks-b : goal.returns-then-marks-b
 returns-then-marks-b c =
     let start = c.args in
     let loop = c.loop-i in
-    omega (arith, loop.invariant.2, front_here start.marks.now start.text.now loop.i start.end (omega arith) (omega arith) (unmarked_past start.marks.now _ c.if-marks-b.true))
-
-pub bounds-marks-b : goal.bounds-marks-b
-bounds-marks-b c = omega arith
+    omega (arith, loop.invariant, front_here start.marks.now start.text.now loop.i start.end (omega arith) (omega arith) (unmarked_past start.marks.now _ c.if-marks-b.true))
 
 pub returns-then-marks-b-ne1 : goal.returns-then-marks-b-ne1
 returns-then-marks-b-ne1 c =
     let start = c.args in
     let loop = c.loop-i in
-    omega (arith, loop.invariant.2, front_here start.marks.now start.text.now loop.i start.end (omega arith) (omega arith) c.if-marks-b-ne1.true)
-
-pub overflow_add-i : goal.overflow_add-i
-overflow_add-i c = omega arith
-
-pub loop-i-smaller : goal.loop-i-smaller
-loop-i-smaller c = omega arith
+    omega (arith, loop.invariant, front_here start.marks.now start.text.now loop.i start.end (omega arith) (omega arith) c.if-marks-b-ne1.true)
 
 pub loop-i-preserved : goal.loop-i-preserved
 loop-i-preserved c =
     let start = c.args in
     let loop = c.loop-i in
     let one = front_next start.marks.now start.text.now loop.i start.end (omega arith) (omega arith) c.if-marks-b-ne1.false in
-    (omega arith, omega arith, omega (arith, loop.invariant.2, one))
+    omega (arith, loop.invariant, one)
 
 pub returns : goal.returns
 returns c =
     let start = c.args in
     let loop = c.loop-i in
-    omega (arith, loop.invariant.2, front_end start.marks.now start.text.now loop.i start.end (omega arith))
+    omega (arith, loop.invariant, front_end start.marks.now start.text.now loop.i start.end (omega arith))

@@ -7,8 +7,8 @@ use Rattle.flats.proofs.Folding.{flat_refused}
 use borrow.Author.Rules.{rules}
 use Rattle.flats.proofs.flatten.Goals as goal
 
-pub decide-v-requires : goal.decide-v-requires
-decide-v-requires c = (record { sized = record { all = refl; rows = refl }; tables = refl; marks = refl; unset = blank_waves; unchained = blank_chains }, refl, refl, refl, refl)
+pub decide-requires : goal.decide-requires
+decide-requires c = (record { sized = record { all = refl; rows = refl }; tables = refl; marks = refl; unset = blank_waves; unchained = blank_chains }, refl, refl, refl, refl)
 
 pub returns-in_err-v : goal.returns-in_err-v
 returns-in_err-v c = rw (handed_on c.from_residual.result _ c.from_residual.ensures.1) (flat_refused c.args.text.now (meaning_refused _ c.in_err-v.ensures))

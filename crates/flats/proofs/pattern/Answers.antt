@@ -30,7 +30,7 @@ pub overflow_add-done : goal.overflow_add-done
 overflow_add-done c = omega (arith, c.requires.there, c.requires.is_meant.few, c.loop-done.invariant.0, c.least-due.ensures)
 
 pub loop-done-smaller : goal.loop-done-smaller
-loop-done-smaller c = omega (arith, c.least-due.ensures, c.loop-done-test.true, some_fit _ (c.args.signals + 2) (length c.args.buffer.now) refl (omega arith) c.requires.room)
+loop-done-smaller c = omega (arith, c.least-due.ensures, c.loop-done-test.true, some_fit _ (c.args.ground.now.signals + 2) (length c.args.buffer.now) refl (omega arith) c.requires.room)
 
 pub loop-done-preserved : goal.loop-done-preserved
 loop-done-preserved c = (omega (arith, c.loop-done.invariant.0, c.least-due.ensures), shows_more c.loop-done.invariant.1 c.window-f.ensures, search rules)

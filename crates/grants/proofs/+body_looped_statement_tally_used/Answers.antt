@@ -270,19 +270,19 @@ statement-returns-in-Uses t c =
     let x = c.behind-in-Uses.ensures in
     record { kept = u.kept; steps = λ E b us st. use_step st p.0 _ _ _ (h.2 E st.holding.describes) _ _ told x (u.added E) }
 
-pub tally-loop-known-init : goal.tally-loop-known-init
-tally-loop-known-init t c = record { kept = kept_none; onward = λ E b us st. going c.requires.0 st }
+pub tally-loop-cursor-init : goal.tally-loop-cursor-init
+tally-loop-cursor-init t c = record { kept = kept_none; onward = λ E b us st. going c.requires.0 st }
 
 pub tally-statement-x-requires : goal.tally-statement-x-requires
 tally-statement-x-requires t c =
     let s = c.requires.1 in
-    let inv = c.loop-known.invariant in
+    let inv = c.loop-cursor.invariant in
     let o = inv.onward s.env s.body s.rest s.standing in
     (omega arith, (o.on, record { env = s.env; body = o.rest; rest = s.rest; standing = o.standing; sized = sized_kept inv.kept s.sized }))
 
 pub tally-returns-then-x : goal.tally-returns-then-x
 tally-returns-then-x t c =
-    let inv = c.loop-known.invariant in
+    let inv = c.loop-cursor.invariant in
     let h = c.statement-x.ensures in
     let e = c.if-x.true in
     record {
@@ -290,15 +290,15 @@ tally-returns-then-x t c =
       gone = λ E b us st. (let o = inv.onward E b us st in all_gone o (h.steps E o.rest us o.standing) e);
     }
 
-pub tally-loop-known-smaller : goal.tally-loop-known-smaller
-tally-loop-known-smaller t c =
+pub tally-loop-cursor-smaller : goal.tally-loop-cursor-smaller
+tally-loop-cursor-smaller t c =
     let s = c.requires.1 in
-    let o = c.loop-known.invariant.onward s.env s.body s.rest s.standing in
+    let o = c.loop-cursor.invariant.onward s.env s.body s.rest s.standing in
     (c.statement-x.ensures.steps s.env o.rest s.rest o.standing).less c.if-x.false
 
-pub tally-loop-known-preserved : goal.tally-loop-known-preserved
-tally-loop-known-preserved t c =
-    let inv = c.loop-known.invariant in
+pub tally-loop-cursor-preserved : goal.tally-loop-cursor-preserved
+tally-loop-cursor-preserved t c =
+    let inv = c.loop-cursor.invariant in
     let h = c.statement-x.ensures in
     let e = c.if-x.false in
     record {

@@ -5,13 +5,13 @@ use Rattle.plays.specs.Plays.{ground_of}
 use Rattle.grants.proofs.Going.{Going}
 use Rattle.grants.proofs.+body_looped_statement_tally_used.Given as goal
 
-abbrev pub invariant-tally-loop-known : goal.invariant-tally-loop-known
-invariant-tally-loop-known l =
-    Going (ground_of l.text l.places l.lists l.tplaces l.book l.rows l.waves l.known l.signals) l.depth l.r l.initial.cursor l.cursor l.initial.marks l.marks l.initial.sums l.sums l.shifts l.twice
+abbrev pub invariant-tally-loop-cursor : goal.invariant-tally-loop-cursor
+invariant-tally-loop-cursor l =
+    Going (ground_of l.ground) l.depth l.r l.initial.cursor l.cursor l.initial.marks l.marks l.initial.sums l.sums l.shifts l.twice
 
-abbrev pub decreases-tally-loop-known : goal.decreases-tally-loop-known
-decreases-tally-loop-known l =
-    left (stream l.text l.cursor)
+abbrev pub decreases-tally-loop-cursor : goal.decreases-tally-loop-cursor
+decreases-tally-loop-cursor l =
+    left (stream l.ground.declared.text.now l.cursor)
 
 abbrev pub decreases-body : goal.decreases-body
 decreases-body l = 4 * l.depth + 3

@@ -13,7 +13,7 @@ use Rattle.grants.proofs.pattern.Goals as goal
 pub overflow_add-i : goal.overflow_add-i
 overflow_add-i c =
     let n = c.requires.listed_at in
-    omega (arith, (found_at n c.find-i.result (rest c.args.book.now (first_pattern * 2)) c.name_bytes.ensures c.find-i.ensures).0, n.few)
+    omega (arith, (found_at n c.find-i.result (rest c.args.ground.now.declared.book.now (first_pattern * 2)) c.name_bytes.ensures c.find-i.ensures).0, n.few)
 
 pub clear-requires : goal.clear-requires
 clear-requires c = omega (arith, c.requires.roomy.sums_long)
@@ -22,7 +22,7 @@ pub tally-x-requires : goal.tally-x-requires
 tally-x-requires c =
     let s = c.requires in
     let n = s.listed_at in
-    let x = found_at n c.find-i.result (rest c.args.book.now (first_pattern * 2)) c.name_bytes.ensures c.find-i.ensures in
+    let x = found_at n c.find-i.result (rest c.args.ground.now.declared.book.now (first_pattern * 2)) c.name_bytes.ensures c.find-i.ensures in
     let at = c.start_at.ensures (omega (arith, x.0, n.few)) in (
       stands_on c.cursor_at-c.ensures,
       record {
@@ -52,7 +52,7 @@ returns-then-x c =
         few = s.roomy.few;
       };
       summed = λ E ps d n u. (
-          let x = found_at n find'.result (rest args'.book.now (first_pattern * 2)) name find'.ensures in
+          let x = found_at n find'.result (rest args'.ground.now.declared.book.now (first_pattern * 2)) name find'.ensures in
           let at = begins (omega (arith, x.0, n.few)) in
           pattern_summed n o.0 o.1 (p.gone E d.body n.stands.0 (pattern_standing n find'.result x.2 there at)) u);
       cleared = λ e. absurd (true≢false (sym e));
@@ -83,11 +83,11 @@ returns c =
         few = s.roomy.few;
       };
       summed = λ E ps d n u. (
-          let x = found_at n find'.result (rest args'.book.now (first_pattern * 2)) name find'.ensures in
+          let x = found_at n find'.result (rest args'.ground.now.declared.book.now (first_pattern * 2)) name find'.ensures in
           let at = begins (omega (arith, x.0, n.few)) in
           pattern_summed n o.0 o.1 (p.gone E d.body n.stands.0 (pattern_standing n find'.result x.2 there at)) u);
       cleared = λ e E ps d n u. (
-          let x = found_at n find'.result (rest args'.book.now (first_pattern * 2)) name find'.ensures in
+          let x = found_at n find'.result (rest args'.ground.now.declared.book.now (first_pattern * 2)) name find'.ensures in
           let at = begins (omega (arith, x.0, n.few)) in
           pattern_cleared n o.0 o.1 (p.gone E d.body n.stands.0 (pattern_standing n find'.result x.2 there at)) u none (alone e));
     }

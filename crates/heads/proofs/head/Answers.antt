@@ -9,19 +9,19 @@ use Rattle.heads.proofs.head.Goals as goal
 use Rattle.heads.proofs.head.Goals.{Else-equal, Else-equal-2, Else-equal-3, Else-equal-4}
 
 -- what each test that failed says of the word
-not_V : (c : Else-equal) → same (ahead c.args.text.now c.args.c).word (bytes "V") ≡ false
+not_V : (c : Else-equal) → same (ahead c.args.declared.now.text.now c.args.c).word (bytes "V") ≡ false
 unfolding bytes
 not_V c = word_told "V" c.bytes_of-w.ensures c.equal.ensures c.if-equal.false
 
-not_C : (c : Else-equal-2) → same (ahead c.args.text.now c.args.c).word (bytes "C") ≡ false
+not_C : (c : Else-equal-2) → same (ahead c.args.declared.now.text.now c.args.c).word (bytes "C") ≡ false
 unfolding bytes
 not_C c = word_told "C" c.bytes_of-w.ensures c.equal-2.ensures c.if-equal-2.false
 
-not_W : (c : Else-equal-3) → same (ahead c.args.text.now c.args.c).word (bytes "W") ≡ false
+not_W : (c : Else-equal-3) → same (ahead c.args.declared.now.text.now c.args.c).word (bytes "W") ≡ false
 unfolding bytes
 not_W c = word_told "W" c.bytes_of-w.ensures c.equal-3.ensures c.if-equal-3.false
 
-not_Loop : (c : Else-equal-4) → same (ahead c.args.text.now c.args.c).word (bytes "Loop") ≡ false
+not_Loop : (c : Else-equal-4) → same (ahead c.args.declared.now.text.now c.args.c).word (bytes "Loop") ≡ false
 unfolding bytes
 not_Loop c = word_told "Loop" c.bytes_of-w.ensures c.equal-4.ensures c.if-equal-4.false
 
@@ -76,7 +76,7 @@ returns-then-equal-4 c = (
 )
 
 pub further-requires : goal.further-requires
-further-requires c = ((_, c.requires.0), c.requires.1, c.requires.2, c.requires.3)
+further-requires c = (c.requires.0, c.requires.1, c.requires.2, c.requires.3)
 
 pub returns : goal.returns
 unfolding bytes
@@ -87,5 +87,5 @@ returns c =
       λ e h.
           other_read h c.args.own c.args.d c.args.seen c.step-behind.ensures (not_V (goal.at.returns c).Else-equal) (not_C (goal.at.returns c).Else-equal-2) (not_W (goal.at.returns c).Else-equal-3) (not_Loop (goal.at.returns c).Else-equal-4)
           c.bytes_of-w.ensures
-          (call.ensures _ e h),
+          (call.ensures e h),
     )

@@ -61,6 +61,8 @@ returns c =
     c.refuse_if-b.ensures
     c.arguments-g.ensures
     c.fitted-f.ensures
+    c.is_none.ensures
     c.refuse_if-cursor.ensures
+    c.unwrap_or.ensures
     tables
     o

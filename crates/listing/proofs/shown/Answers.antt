@@ -5,7 +5,7 @@ use native.Mathlib.Omega.{arith}
 use Rattle.listing.proofs.shown.Goals as goal
 
 pub returns-in-Err : goal.returns-in-Err
-returns-in-Err c = begins_refused c.requires.0 (c.in-Err.ensures c.requires.1.found) c.refused.ensures
+returns-in-Err c = begins_refused c.requires.0 (c.in-Err.ensures _ c.requires.1.found) c.refused.ensures
 
 pub sections-requires : goal.sections-requires
 sections-requires c =
@@ -16,4 +16,4 @@ sections-requires c =
 pub returns : goal.returns
 returns c =
     let found = c.requires.1.found in
-    begins_sections found c.requires.0 (c.in-Ok.ensures found) c.sections.ensures
+    begins_sections found c.requires.0 (c.in-Ok.ensures _ found) c.sections.ensures

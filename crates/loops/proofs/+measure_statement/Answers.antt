@@ -7,15 +7,15 @@ use Rattle.loops.proofs.Stepping.{ends_step, vector_step, assigns_step, chooses_
 use Rattle.loops.proofs.Going.{going, going_on, fewer, gone}
 use Rattle.loops.proofs.+measure_statement.Goals as goal
 
-pub measure-loop-known-init : goal.measure-loop-known-init
-measure-loop-known-init t c =
+pub measure-loop-behind-init : goal.measure-loop-behind-init
+measure-loop-behind-init t c =
     let pre' = c.requires in
     record { args_long = pre'.1; onward = λ E b us st. going pre'.0 c.nothing-sum.ensures st }
 
 pub measure-statement-r-requires : goal.measure-statement-r-requires
 measure-statement-r-requires t c =
     let pre' = c.requires in
-    let loop' = c.loop-known in
+    let loop' = c.loop-behind in
     let stood = pre'.2 in
     let o = loop'.invariant.onward stood.env stood.body stood.rest stood.standing in
     (omega (arith, c.decreases), (o.on, loop'.invariant.args_long, record { env = stood.env; body = o.rest; rest = stood.rest; standing = o.standing }))
@@ -28,7 +28,7 @@ measure-shape_of-args-then-r t c =
 
 pub measure-returns-then-r : goal.measure-returns-then-r
 measure-returns-then-r t c =
-    let loop' = c.loop-known in
+    let loop' = c.loop-behind in
     let statement' = c.statement-r in
     let if1' = c.if-r in (
       statement'.ensures.0,
@@ -37,19 +37,19 @@ measure-returns-then-r t c =
       },
     )
 
-pub measure-loop-known-smaller : goal.measure-loop-known-smaller
-measure-loop-known-smaller t c =
+pub measure-loop-behind-smaller : goal.measure-loop-behind-smaller
+measure-loop-behind-smaller t c =
     let pre' = c.requires in
-    let loop' = c.loop-known in
+    let loop' = c.loop-behind in
     let statement' = c.statement-r in
     let if1' = c.if-r in
     let stood = pre'.2 in
     let o = loop'.invariant.onward stood.env stood.body stood.rest stood.standing in
     fewer o (statement'.ensures.1.steps stood.env o.rest stood.rest o.standing) if1'.false
 
-pub measure-loop-known-preserved : goal.measure-loop-known-preserved
-measure-loop-known-preserved t c =
-    let loop' = c.loop-known in
+pub measure-loop-behind-preserved : goal.measure-loop-behind-preserved
+measure-loop-behind-preserved t c =
+    let loop' = c.loop-behind in
     let statement' = c.statement-r in
     let if1' = c.if-r in
     record {

@@ -1,7 +1,7 @@
 use Prim.Native.Nat.{◌+◌, ◌*◌}
 use Rattle.tokens.specs.Tokens.{left}
 use Rattle.words.specs.Cursor.{stream}
-use Rattle.loops.specs.Held.{tables}
+use Rattle.loops.specs.Held.{tables_of}
 use Rattle.loops.proofs.Going.{Going}
 use Rattle.loops.proofs.+measure_statement.Given as goal
 
@@ -12,9 +12,9 @@ decreases-measure l = 2 * l.depth + 1
 abbrev pub decreases-statement : goal.decreases-statement
 decreases-statement l = 2 * l.depth
 
-abbrev pub invariant-measure-loop-known : goal.invariant-measure-loop-known
-invariant-measure-loop-known l =
-    Going (tables l.text l.places l.lists l.tplaces l.book l.rows l.known l.signals) l.depth l.initial.cursor l.cursor l.sum l.args
+abbrev pub invariant-measure-loop-behind : goal.invariant-measure-loop-behind
+invariant-measure-loop-behind l =
+    Going (tables_of l.ground) l.depth l.initial.cursor l.cursor l.sum l.args
 
-abbrev pub decreases-measure-loop-known : goal.decreases-measure-loop-known
-decreases-measure-loop-known l = left (stream l.text l.cursor)
+abbrev pub decreases-measure-loop-behind : goal.decreases-measure-loop-behind
+decreases-measure-loop-behind l = left (stream l.ground.declared.text.now l.cursor)

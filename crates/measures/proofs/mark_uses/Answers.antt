@@ -11,27 +11,21 @@ use Rattle.measures.proofs.mark_uses.Goals as goal
 use Rattle.measures.proofs.mark_uses.Goals.{then-given-s-eq-MARK, else-given-s-eq-MARK}
 
 pub loop-s-init : goal.loop-s-init
-loop-s-init c = (omega arith, changed_none)
+loop-s-init c = changed_none
 
 pub loop-s-preserved : goal.loop-s-preserved
 loop-s-preserved c =
     let loop = c.loop-s in
-    let x = loop.invariant.1 in
-    let inside : signals_most + loop.s < length loop.row = omega (arith, x.long, c.zeros_from-n.ensures.within, c.requires.0, c.requires.1) in (
-      omega arith,
-      elim c.if-given-s-eq-MARK.branch [
-        | then-given-s-eq-MARK w ↦ rw w.row-is (changed_next x _ (omega arith) _ (omega arith) (rw (eq-eqb _ _ w.if-given-s-eq-MARK.true)))
-        | else-given-s-eq-MARK w ↦ rw w.row-is (changed_same x (signals_most + loop.s) refl inside (rw (ne_eqb _ _ w.if-given-s-eq-MARK.false)))
-      ],
-    )
-
-pub shape_of-row : goal.shape_of-row
-shape_of-row c = c.loop-s.invariant.1.long
+    let x = loop.invariant in
+    let inside : signals_most + loop.s < length loop.row = omega (arith, x.long, c.zeros_from-n.ensures.within, c.requires.0, c.requires.1) in
+    elim c.if-given-s-eq-MARK.branch [
+      | then-given-s-eq-MARK w ↦ rw w.row-is (changed_next x _ (omega arith) _ (omega arith) (rw (eq-eqb _ _ w.if-given-s-eq-MARK.true)))
+      | else-given-s-eq-MARK w ↦ rw w.row-is (changed_same x (signals_most + loop.s) refl inside (rw (ne_eqb _ _ w.if-given-s-eq-MARK.false)))
+    ]
 
 pub returns : goal.returns
 returns c =
     let zeros = c.zeros_from-n.ensures in
     let long = c.requires.0 in
-    let s = c.loop-s.s in
-    let all = changed_rest c.loop-s.invariant.1 signals_most (omega (arith, zeros.within, long)) (λ k n l. shown_none _ n (zeros.none k (omega arith))) in
+    let all = changed_rest c.loop-s.invariant signals_most (omega (arith, zeros.within, long)) (λ k n l. shown_none _ n (zeros.none k (omega arith))) in
     λ p a b g u. uses_shown refl p g u all

@@ -4,4 +4,4 @@ use Rattle.measures.proofs.plus.Goals as goal
 
 pub returns : goal.returns
 returns c =
-    λ a b m n. joined_measures m n c.larger.ensures c.sum.ensures c.sum-2.ensures c.sum-3.ensures
+    λ a b m n. joined_measures m n c.max.ensures c.sum.ensures c.sum-2.ensures c.sum-3.ensures

@@ -3,14 +3,6 @@ use native.Mathlib.Omega.{arith}
 use Rattle.memos.proofs.Marking.{bit_shifted, bit_few}
 use Rattle.memos.proofs.bit_of.Goals as goal
 
-pub overflow_cast-result : goal.overflow_cast-result
-overflow_cast-result c =
-    omega arith
-
-pub overflow_shl-result : goal.overflow_shl-result
-overflow_shl-result c =
-    omega arith
-
 pub returns : goal.returns
 returns c =
     let e = bit_shifted c.args.t c.requires in

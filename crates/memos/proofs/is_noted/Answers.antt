@@ -3,4 +3,4 @@ use Rattle.memos.proofs.Rows.{notes_all}
 use Rattle.memos.proofs.is_noted.Goals as goal
 
 pub returns : goal.returns
-returns c = notes_all _ _ _ c.number.ensures c.number-2.ensures c.number-3.ensures c.number-4.ensures
+returns c = notes_all _ _ _ c.from.ensures c.from-2.ensures c.from-3.ensures c.from-4.ensures

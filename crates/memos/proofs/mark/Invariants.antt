@@ -1,4 +1,4 @@
-use Prim.Native.Nat.{◌-◌, ◌*◌, ◌≤◌}
+use Prim.Native.Nat.{◌*◌}
 use lib.ListN.{get_or}
 use Rattle.meaning.specs.Bounds.{signals_most}
 use Rattle.memos.specs.Tracks.{shown_marks}
@@ -7,8 +7,4 @@ use Rattle.memos.proofs.mark.Given as goal
 
 abbrev pub invariant-loop-s : goal.invariant-loop-s
 invariant-loop-s l =
-    (l.s ≤ l.signals) × Joined (l.level * signals_most) l.s (λ i. shown_marks (get_or l.given i 0) l.table) l.initial.memo l.memo
-
-abbrev pub decreases-loop-s : goal.decreases-loop-s
-decreases-loop-s l =
-    l.signals - l.s
+    Joined (l.level * signals_most) l.s (λ i. shown_marks (get_or l.given i 0) l.table) l.initial.memo l.memo

@@ -11,14 +11,6 @@ pub returns-then-rows-eq0 : goal.returns-then-rows-eq0
 returns-then-rows-eq0 c =
     (0, refl, omega arith)
 
-pub overflow_mul-result : goal.overflow_mul-result
-overflow_mul-result c =
-    omega (arith, row_within (c.args.long - tracks_length) (c.args.at % 65_536 * 9 + c.args.table % 9) (pos_of_ne-zero c.if-rows-eq0.false))
-
-pub overflow_add-result : goal.overflow_add-result
-overflow_add-result c =
-    omega (arith, row_within (c.args.long - tracks_length) (c.args.at % 65_536 * 9 + c.args.table % 9) (pos_of_ne-zero c.if-rows-eq0.false))
-
 pub returns : goal.returns
 returns c =
     (_, refl, omega (arith, row_within (c.args.long - tracks_length) (c.args.at % 65_536 * 9 + c.args.table % 9) (pos_of_ne-zero c.if-rows-eq0.false), c.requires))

@@ -1,20 +1,6 @@
 -- Five numbers are stored.
-use native.Mathlib.Omega.{arith}
-use lib.ListN.{length-set}
 use Rattle.memos.proofs.Rows.{note_written}
 use Rattle.memos.proofs.note.Goals as goal
-
-pub bounds-memo-o-2 : goal.bounds-memo-o-2
-bounds-memo-o-2 c = rw length-set (omega arith)
-
-pub bounds-memo-o-3 : goal.bounds-memo-o-3
-bounds-memo-o-3 c = rw (length-set, length-set) (omega arith)
-
-pub bounds-memo-o-4 : goal.bounds-memo-o-4
-bounds-memo-o-4 c = rw (length-set, length-set, length-set) (omega arith)
-
-pub bounds-memo-o-5 : goal.bounds-memo-o-5
-bounds-memo-o-5 c = rw (length-set, length-set, length-set, length-set) (omega arith)
 
 pub returns : goal.returns
 returns c =

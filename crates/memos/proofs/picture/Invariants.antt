@@ -1,11 +1,7 @@
-use Prim.Native.Nat.{◌-◌, ◌+◌, ◌≤◌}
+use Prim.Native.Nat.{◌+◌}
 use Rattle.memos.specs.Memo.{picture_size, Writes, Pictures, pins_of}
 use Rattle.memos.proofs.picture.Given as goal
 
 abbrev pub invariant-loop-s : goal.invariant-loop-s
 invariant-loop-s l =
-    (l.s ≤ l.signals) × Writes l.initial.memo l.memo l.o (l.o + picture_size) × Pictures l.memo l.o l.s l.table (pins_of l.values)
-
-abbrev pub decreases-loop-s : goal.decreases-loop-s
-decreases-loop-s l =
-    l.signals - l.s
+    Writes l.initial.memo l.memo l.o (l.o + picture_size) × Pictures l.memo l.o l.s l.table (pins_of l.values)

@@ -2,20 +2,12 @@
 use Prim.Native.Nat.{◌*◌}
 use native.Mathlib.Omega.{arith}
 use Rattle.meaning.specs.Bounds.{signals_most}
-use Rattle.memos.proofs.Rows.{room_short, row_kept, row_written, traces_from}
+use Rattle.memos.proofs.Rows.{row_kept, row_written, traces_from}
 use Rattle.memos.proofs.remember.Goals as goal
 
 pub returns-then-memo-table : goal.returns-then-memo-table
 returns-then-memo-table c =
     row_kept
-
-pub memo_row-o-requires : goal.memo_row-o-requires
-memo_row-o-requires c =
-    (room_short c.args.memo.now c.args.table c.args.behind c.if-memo-table.false).0
-
-pub overflow_add-o : goal.overflow_add-o
-overflow_add-o c =
-    omega (arith, c.memo_row-o.ensures.2)
 
 pub returns-then-memo-o : goal.returns-then-memo-o
 returns-then-memo-o c =
@@ -28,38 +20,6 @@ returns-then-not-is_short c =
 pub returns-then-not-is_near : goal.returns-then-not-is_near
 returns-then-not-is_near c =
     row_kept
-
-pub note-requires : goal.note-requires
-note-requires c =
-    (omega (arith, c.if-memo-o.false), c.is_short.ensures c.if-not-is_short.false)
-
-pub overflow_add-o-2 : goal.overflow_add-o-2
-overflow_add-o-2 c =
-    omega (arith, c.memo_row-o.ensures.2)
-
-pub point-requires : goal.point-requires
-point-requires c =
-    (omega (arith, c.if-memo-o.false, c.note.ensures.0.long), c.is_near.ensures c.if-not-is_near.false)
-
-pub overflow_add-o-3 : goal.overflow_add-o-3
-overflow_add-o-3 c =
-    omega (arith, c.memo_row-o.ensures.2)
-
-pub overflow_mul-level : goal.overflow_mul-level
-overflow_mul-level c =
-    omega (arith, c.requires.0)
-
-pub trace-requires : goal.trace-requires
-trace-requires c =
-    ((room_short c.args.memo.now c.args.table c.args.behind c.if-memo-table.false).1, omega (arith, c.if-memo-o.false, c.note.ensures.0.long, c.point.ensures.0.long), omega (arith, c.requires.1), omega (arith, c.requires.0, c.requires.1, c.memo_row-o.ensures.1))
-
-pub overflow_add-o-4 : goal.overflow_add-o-4
-overflow_add-o-4 c =
-    omega (arith, c.memo_row-o.ensures.2)
-
-pub picture-requires : goal.picture-requires
-picture-requires c =
-    ((room_short c.args.memo.now c.args.table c.args.behind c.if-memo-table.false).2, omega (arith, c.if-memo-o.false, c.note.ensures.0.long, c.point.ensures.0.long, c.trace.ensures.0.long), omega (arith, c.requires.1), c.requires.2)
 
 pub returns : goal.returns
 returns c =

@@ -1,12 +1,7 @@
-use Prim.Native.Nat.{◌-◌}
 use mathlib.Core.Path.{◌≡◌}
 use mathlib.Core.Bool.{false}
-use Rattle.timing.specs.Marks.{table_size}
 use Rattle.noted.specs.Noted.{Covered}
 use Rattle.noted.proofs.covered.Given as goal
 
 abbrev pub invariant-loop-i : goal.invariant-loop-i
 invariant-loop-i l = l.missing ≡ false → Covered l.used l.waves l.k l.i
-
-abbrev pub decreases-loop-i : goal.decreases-loop-i
-decreases-loop-i l = table_size - l.i

@@ -1,10 +1,7 @@
-use Prim.Native.Nat.{ℕ, ◌-◌, ◌<◌}
+use Prim.Native.Nat.{ℕ, ◌<◌}
 use Rattle.timing.specs.Marks.{table_size}
 use Rattle.noted.specs.Noted.{Covered}
 use Rattle.noted.proofs.fine.Given as goal
 
 abbrev pub invariant-loop-k : goal.invariant-loop-k
 invariant-loop-k l = (j : ℕ) → j < l.k → Covered l.used l.waves j table_size
-
-abbrev pub decreases-loop-k : goal.decreases-loop-k
-decreases-loop-k l = l.tables - l.k

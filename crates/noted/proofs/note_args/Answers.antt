@@ -6,26 +6,23 @@ use Rattle.noted.proofs.note_args.Goals as goal
 use Rattle.noted.proofs.note_args.Goals.{then-given-s-ne0, else-given-s-ne0}
 
 pub loop-s-init : goal.loop-s-init
-loop-s-init c = (omega arith, args_none)
+loop-s-init c = args_none
 
 pub note_data-requires : goal.note_data-requires
 note_data-requires c =
     let pre' = c.requires in
-    (omega (arith, c.loop-s.invariant.1.grows.long), omega (arith, c.zeros_from-n.ensures.within, pre'.0))
+    (omega (arith, c.loop-s.invariant.grows.long), omega (arith, c.zeros_from-n.ensures.within, pre'.0))
 
 pub loop-s-preserved : goal.loop-s-preserved
 loop-s-preserved c =
-    let x = c.loop-s.invariant.1 in
+    let x = c.loop-s.invariant in
     elim c.if-given-s-ne0.branch [
-      | then-given-s-ne0 w ↦ (omega arith, rw w.used-is (args_next x w.note_data.ensures.0 w.note_data.ensures.1))
-      | else-given-s-ne0 w ↦ (omega arith, rw w.used-is (args_kept x w.if-given-s-ne0.false))
+      | then-given-s-ne0 w ↦ rw w.used-is (args_next x w.note_data.ensures.0 w.note_data.ensures.1)
+      | else-given-s-ne0 w ↦ rw w.used-is (args_kept x w.if-given-s-ne0.false)
     ]
-
-pub shape_of-used : goal.shape_of-used
-shape_of-used c = c.loop-s.invariant.1.grows.long
 
 pub returns : goal.returns
 returns c =
-    let y = c.loop-s.invariant.1 in
+    let y = c.loop-s.invariant in
     let zeros = c.zeros_from-n.ensures in
     (y.grows, args_all (args_rest y (λ i l. zeros.none i (omega arith)) signals_most) (omega arith))

@@ -4,16 +4,10 @@ use Rattle.pins.proofs.Advancing.{least_none, least_fed, least_other, least_all,
 use Rattle.pins.proofs.ahead.Goals as goal
 
 pub loop-s-init : goal.loop-s-init
-loop-s-init c = (omega arith, least_none (omega arith))
+loop-s-init c = least_none (omega arith)
 
 pub returns-then-k-eq0 : goal.returns-then-k-eq0
 returns-then-k-eq0 c = ahead_none
-
-pub overflow_sub-s : goal.overflow_sub-s
-overflow_sub-s c = omega arith
-
-pub bounds-given-s : goal.bounds-given-s
-bounds-given-s c = omega arith
 
 pub feed_at-requires : goal.feed_at-requires
 feed_at-requires c = omega arith
@@ -21,17 +15,11 @@ feed_at-requires c = omega arith
 pub having-k-requires : goal.having-k-requires
 having-k-requires c = (let pre = c.requires in (pre.4, pre.5, omega arith))
 
-pub loop-s-smaller-then-given-s-eq-MARK : goal.loop-s-smaller-then-given-s-eq-MARK
-loop-s-smaller-then-given-s-eq-MARK c = omega arith
-
 pub loop-s-preserved-then-given-s-eq-MARK : goal.loop-s-preserved-then-given-s-eq-MARK
-loop-s-preserved-then-given-s-eq-MARK c = (omega arith, least_fed c.loop-s.invariant.1 (omega arith) c.feed_at.ensures c.having-k.ensures)
-
-pub loop-s-smaller : goal.loop-s-smaller
-loop-s-smaller c = omega arith
+loop-s-preserved-then-given-s-eq-MARK c = least_fed c.loop-s.invariant (omega arith) c.feed_at.ensures c.having-k.ensures
 
 pub loop-s-preserved : goal.loop-s-preserved
-loop-s-preserved c = (omega arith, least_other c.loop-s.invariant.1 (omega arith) c.if-given-s-eq-MARK.false)
+loop-s-preserved c = least_other c.loop-s.invariant (omega arith) c.if-given-s-eq-MARK.false
 
 pub returns : goal.returns
-returns c = least_all c.loop-s.invariant.1 (omega arith)
+returns c = least_all c.loop-s.invariant (omega arith)

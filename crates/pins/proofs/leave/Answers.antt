@@ -1,41 +1,42 @@
--- Each turn takes the next signal.
+-- The row of the level gets what stands in front, and that is cleared.
 use native.Mathlib.Omega.{arith}
-use lib.ListN.{length-set}
-use Rattle.pins.proofs.Rows.{leaving_none, leaving_next, leaving_all}
+use Prim.Native.Nat.{ℕ}
+use mathlib.Core.Path.{sym, ap, ◌∙◌}
+use lib.ListN.{replicate, length-take}
+use lib.Seq.{length-take-le}
+use Rattle.meaning.specs.Bounds.{signals_most}
+use Rattle.pins.proofs.Rows.{left}
 use Rattle.pins.proofs.leave.Goals as goal
 
-pub overflow_add-at : goal.overflow_add-at
-overflow_add-at c = omega arith
+pub slice_bounds-copy_from_slice-end-2 : goal.slice_bounds-copy_from_slice-end-2
+slice_bounds-copy_from_slice-end-2 c =
+    sym (length-take-le signals_most c.split_at_mut-pins.result.1.now (omega (arith, c.split_at_mut-pins.ensures.back_len, c.requires.0, c.requires.1)))
 
-pub overflow_mul-at : goal.overflow_mul-at
-overflow_mul-at c = omega arith
+pub slice_bounds-copy_from_slice-end-4 : goal.slice_bounds-copy_from_slice-end-4
+slice_bounds-copy_from_slice-end-4 c =
+    sym (length-take-le signals_most c.split_at_mut-pins.result.0.now (omega (arith, c.split_at_mut-pins.ensures.front_len)))
 
-pub loop-s-init : goal.loop-s-init
-loop-s-init c = (omega arith, leaving_none)
+pub copy_from_slice-requires : goal.copy_from_slice-requires
+copy_from_slice-requires c =
+    let parts = c.split_at_mut-pins in
+    omega (
+      arith,
+      length-take signals_most parts.result.0.now,
+      length-take signals_most parts.result.1.now,
+      parts.ensures.front_len,
+      parts.ensures.back_len,
+      c.requires.0,
+      c.requires.1,
+    )
 
-pub bounds-values-s : goal.bounds-values-s
-bounds-values-s c = omega arith
-
-pub overflow_add-values : goal.overflow_add-values
-overflow_add-values c = omega arith
-
-pub bounds-values-at : goal.bounds-values-at
-bounds-values-at c = omega arith
-
-pub bounds-values-s-in-loop-s : goal.bounds-values-s-in-loop-s
-bounds-values-s-in-loop-s c = simp length-set (omega (arith, c.loop-s.invariant.1.long))
-
-pub overflow_add-s : goal.overflow_add-s
-overflow_add-s c = omega arith
-
-pub loop-s-smaller : goal.loop-s-smaller
-loop-s-smaller c = omega arith
-
-pub loop-s-preserved : goal.loop-s-preserved
-loop-s-preserved c = (omega arith, leaving_next c.loop-s.invariant.1 (omega arith) (omega (arith, c.loop-s.invariant.1.long)))
-
-pub shape_of-values : goal.shape_of-values
-shape_of-values c = c.loop-s.invariant.1.long
+pub slice_bounds-fill-end-2 : goal.slice_bounds-fill-end-2
+slice_bounds-fill-end-2 c =
+    sym (length-take-le signals_most c.split_at_mut-pins.result.0.now (omega (arith, c.split_at_mut-pins.ensures.front_len)))
 
 pub returns : goal.returns
-returns c = leaving_all (omega arith) c.loop-s.invariant.1
+returns c =
+    let parts = c.split_at_mut-pins.ensures in
+    let all = length-take-le signals_most c.split_at_mut-pins.result.0.now (omega (arith, parts.front_len)) in
+    left _ _ _ c.args.level parts.front parts.back (omega (arith, c.requires.0, c.requires.1)) c.copy_from_slice.new.self c.fill.new.self
+    c.copy_from_slice.ensures.after
+    (c.fill.ensures.after (λ y e. e) ∙ ap (λ (n : ℕ). replicate n 0) all)

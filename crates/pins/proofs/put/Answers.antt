@@ -11,12 +11,12 @@ pub loop-s-init : goal.loop-s-init
 loop-s-init c = (omega arith, put_none)
 
 pub loop-s-smaller-then-idle : goal.loop-s-smaller-then-idle
-loop-s-smaller-then-idle c = omega (arith, c.least-s.ensures)
+loop-s-smaller-then-idle c = omega (arith, c.min-s.ensures)
 
 pub loop-s-preserved-then-idle : goal.loop-s-preserved-then-idle
 loop-s-preserved-then-idle c = (
-  omega (arith, c.least-s.ensures),
-  put_idle c.loop-s.invariant.1 (c.idle.ensures c.if-idle.true) (omega arith) (omega arith) c.least-s.ensures,
+  omega (arith, c.min-s.ensures),
+  put_idle c.loop-s.invariant.1 (c.idle.ensures c.if-idle.true) (omega arith) (omega arith) c.min-s.ensures,
 )
 
 pub feed_at-requires : goal.feed_at-requires

@@ -5,29 +5,24 @@ use Rattle.pins.proofs.skip.Goals as goal
 use Rattle.pins.proofs.skip.Goals.{then-given-s-eq-MARK, else-given-s-eq-MARK}
 
 pub loop-s-init : goal.loop-s-init
-loop-s-init c = (omega arith, skipped_none)
+loop-s-init c = skipped_none
 
 pub feed_at-requires : goal.feed_at-requires
-feed_at-requires c = omega (arith, c.loop-s.invariant.1.long)
+feed_at-requires c = omega (arith, c.loop-s.invariant.long)
 
 pub put_feed-requires : goal.put_feed-requires
-put_feed-requires c = omega (arith, c.loop-s.invariant.1.long)
+put_feed-requires c = omega (arith, c.loop-s.invariant.long)
 
 pub loop-s-preserved : goal.loop-s-preserved
 loop-s-preserved c =
-    let x = c.loop-s.invariant.1 in (
-      omega arith,
-      elim c.if-given-s-eq-MARK.branch [
-        | then-given-s-eq-MARK w ↦
-            rw w.feeds-is (skipped_mark x (omega arith) w.if-given-s-eq-MARK.true w.feed_at.ensures w.skip-f.ensures w.put_feed.ensures)
-        | else-given-s-eq-MARK w ↦ rw w.feeds-is (skipped_other x (omega arith) w.if-given-s-eq-MARK.false)
-      ],
-    )
-
-pub shape_of-feeds : goal.shape_of-feeds
-shape_of-feeds c = c.loop-s.invariant.1.long
+    let x = c.loop-s.invariant in
+    elim c.if-given-s-eq-MARK.branch [
+      | then-given-s-eq-MARK w ↦
+          rw w.feeds-is (skipped_mark x (omega arith) w.if-given-s-eq-MARK.true w.feed_at.ensures w.skip-f.ensures w.put_feed.ensures)
+      | else-given-s-eq-MARK w ↦ rw w.feeds-is (skipped_other x (omega arith) w.if-given-s-eq-MARK.false)
+    ]
 
 pub returns : goal.returns
 returns c =
-    let x = c.loop-s.invariant.1 in
+    let x = c.loop-s.invariant in
     (skipped_others x, record { shows = λ a s table g p h. skipped_shows x (omega arith) g p h })

@@ -25,8 +25,8 @@ use Rattle.plays.proofs.Recalling.{recalled_told, recalled_tracked, invoked_usin
 use Rattle.plays.proofs.Entering.{kind_macro, kind_procedure, kept_below, kept_returned, sized_left, macro_standing, procedure_standing, macro_told, procedure_told, served_fed, part_within, part_begins}
 use Rattle.plays.proofs.+body_of_looped_needed_turns_play_body_statement_statements_used_uses.Goals as goal
 
-pub body_of-overflow_sub-text : goal.body_of-overflow_sub-text
-body_of-overflow_sub-text t c =
+pub body_of-overflow_sub-ground : goal.body_of-overflow_sub-ground
+body_of-overflow_sub-ground t c =
     let pre' = c.requires in
     omega (arith, pre'.0)
 
@@ -307,8 +307,8 @@ play_body-body_of-requires t c =
     let at = start-at'.ensures (omega (arith, u.declared)) in
     let within = begins_within _ _ _ _ _ u.holds in (
       omega (arith, u.some_more),
-      rw (part_begins args'.text.now start-at'.result _ at within) (
-        part_within args'.text.now start-at'.result _ at within,
+      rw (part_begins args'.ground.now.declared.text.now start-at'.result _ at within) (
+        part_within args'.ground.now.declared.text.now start-at'.result _ at within,
         record {
           env = used.env;
           body = used.body;
@@ -326,7 +326,7 @@ play_body-returns-then-i-lt-PROCEDURES t c =
     let u = c.requires.0.use' in
     let roomy = c.requires.0.sized.roomy in
     let at = c.start_at-start.ensures (omega (arith, u.declared)) in
-    let p = rw (part_begins c.args.text.now c.start_at-start.result _ at (begins_within _ _ _ _ _ u.holds)) at c.body_of.ensures in
+    let p = rw (part_begins c.args.ground.now.declared.text.now c.start_at-start.result _ at (begins_within _ _ _ _ _ u.holds)) at c.body_of.ensures in
     record {
       kept = kept_below p.kept;
       own = λ s h. p.kept.arguments _ s h (omega arith);
@@ -356,8 +356,8 @@ play_body-body_of-r-requires t c =
     let at = start-at'.ensures (omega (arith, u.declared)) in
     let within = begins_within _ _ _ _ _ u.holds in (
       omega (arith, u.some_more),
-      rw (part_begins args'.text.now start-at'.result _ at within) (
-        part_within args'.text.now start-at'.result _ at within,
+      rw (part_begins args'.ground.now.declared.text.now start-at'.result _ at within) (
+        part_within args'.ground.now.declared.text.now start-at'.result _ at within,
         record {
           env = used.env;
           body = used.body;
@@ -390,7 +390,7 @@ play_body-returns t c =
     let u = c.requires.0.use' in
     let at = c.start_at-start.ensures (omega (arith, u.declared)) in
     let l = c.leave.ensures in
-    let p = rw (part_begins c.args.text.now c.start_at-start.result _ at (begins_within _ _ _ _ _ u.holds)) at c.body_of-r.ensures in
+    let p = rw (part_begins c.args.ground.now.declared.text.now c.start_at-start.result _ at (begins_within _ _ _ _ _ u.holds)) at c.body_of-r.ensures in
     let w = c.fresh.ensures in
     let back = c.come_back.ensures in
     record {
@@ -408,8 +408,8 @@ play_body-returns t c =
           (rw (kind_procedure _ c.if-i-lt-PROCEDURES.false) at (told.sound e))));
     }
 
-pub statement-recall-f-requires : goal.statement-recall-f-requires
-statement-recall-f-requires t c =
+pub statement-recall-requires : goal.statement-recall-requires
+statement-recall-requires t c =
     let sized = c.requires.1.sized in
     (sized.waves_long, sized.roomy.few, roomy_values sized.roomy.few sized.roomy.values_long refl)
 
@@ -419,21 +419,20 @@ statement-overflow_sub-frame t c = omega (arith, c.requires.1.standing.fits.leve
 pub statement-repeated-requires : goal.statement-repeated-requires
 statement-repeated-requires t c =
     let roomy = c.requires.1.sized.roomy in
-    let f = c.recall-f.ensures.finds in
-    (nest_fits _, roomy.few, roomy_values roomy.few roomy.values_long refl, omega (arith, (f.row c.if-f.true).1), f.room c.if-f.true)
+    let f = c.in-Some.ensures.finds in
+    (nest_fits _, roomy.few, roomy_values roomy.few roomy.values_long refl, omega (arith, f.row.1), f.room)
 
-pub statement-returns-then-f : goal.statement-returns-then-f
-statement-returns-then-f t c =
+pub statement-returns-in-Some : goal.statement-returns-in-Some
+statement-returns-in-Some t c =
     let start = c.requires in
     let depth = c.args.frame.depth in
-    let f = rw c.use_at-u.ensures at c.recall-f.ensures in
-    let taken = c.if-f.true in
+    let f = rw c.use_at-u.ensures at c.in-Some.ensures in
     let v = c.repeated.ensures in
     let q = v.2 in
     let sized = start.1.sized in
     let roomy = sized.roomy in
     let wide = roomy_values roomy.few roomy.values_long refl in
-    let row = recalled_row f.finds taken q in
+    let row = recalled_row f.finds q in
     let on = eq-eqb _ 0 q.pointed.on in
     record {
       kept = kept_passed sized sized.args_long q.restores.long (λ i h. q.restores.rows i (omega (arith, roomy.few)));
@@ -443,7 +442,7 @@ statement-returns-then-f t c =
           let u = reused st on behind in
           let held = reused_holds st on behind in
           let o = m.remembers.each row.0 _ _ _ _ _ _ _ row.1 in
-          let granted = f.granted taken E.tables (_, _, _, st.holding.held) in
+          let granted = f.granted E.tables (_, _, _, st.holding.held) in
           reused_step st on behind c.repeated.result _ _ refl v.1
           (rw v.0 (recalled_told _ _ u.way u.body u.rest us o held st.shows wide granted q.restores.long q.restores.put q.restores.kept))
           (λ e. tracking_joined (λ some room. (recalled_tracked _ _ u.way u.body u.rest us o held st.shows wide granted, v.4 some))));
@@ -685,8 +684,8 @@ statement-returns-in-Uses t c =
           v.2.learnt E d.body d.after d.arguments s (called_invoking st.holding d st.shows) m);
     }
 
-pub statements-loop-known-init : goal.statements-loop-known-init
-statements-loop-known-init t c =
+pub statements-loop-frame-init : goal.statements-loop-frame-init
+statements-loop-frame-init t c =
     let start = c.requires in
     record {
       kept = kept_none;
@@ -701,7 +700,7 @@ statements-loop-known-init t c =
 pub statements-statement-r-requires : goal.statements-statement-r-requires
 statements-statement-r-requires t c =
     let pre' = c.requires in
-    let loop' = c.loop-known in
+    let loop' = c.loop-frame in
     let stood = pre'.1 in
     let inv = loop'.invariant in
     let o = inv.resumes stood.env stood.body stood.rest stood.state stood.standing pre'.2 in (
@@ -722,7 +721,7 @@ statements-statement-r-requires t c =
 
 pub statements-returns-then-r : goal.statements-returns-then-r
 statements-returns-then-r t c =
-    let inv = c.loop-known.invariant in
+    let inv = c.loop-frame.invariant in
     let step = c.statement-r.ensures in
     record {
       kept = kept_then inv.kept step.kept;
@@ -738,10 +737,10 @@ statements-returns-then-r t c =
           let o = inv.onward E b us s st m in gone_tracked inv.memo_long o (step.steps E o.rest us o.state o.standing (inv.learnt E b us s st m)) c.if-r.true e);
     }
 
-pub statements-loop-known-smaller : goal.statements-loop-known-smaller
-statements-loop-known-smaller t c =
+pub statements-loop-frame-smaller : goal.statements-loop-frame-smaller
+statements-loop-frame-smaller t c =
     let pre' = c.requires in
-    let loop' = c.loop-known in
+    let loop' = c.loop-frame in
     let statement' = c.statement-r in
     let if1' = c.if-r in
     let stood = pre'.1 in
@@ -749,9 +748,9 @@ statements-loop-known-smaller t c =
     let heads = loop'.invariant.heads stood.env stood.body stood.rest stood.state stood.standing pre'.2 in
     resumed_less o (statement'.ensures.moves stood.env o.rest stood.rest _ (resumed_standing o _ stood.standing.holding) heads) if1'.false
 
-pub statements-loop-known-preserved : goal.statements-loop-known-preserved
-statements-loop-known-preserved t c =
-    let inv = c.loop-known.invariant in
+pub statements-loop-frame-preserved : goal.statements-loop-frame-preserved
+statements-loop-frame-preserved t c =
+    let inv = c.loop-frame.invariant in
     let step = c.statement-r.ensures in
     let left' = c.if-r.false in
     record {
@@ -893,7 +892,7 @@ uses-overflow_sub-frame t c = omega (arith, c.requires.0.invoking.fits.levels, c
 
 pub uses-mark_passed-requires : goal.uses-mark_passed-requires
 uses-mark_passed-requires t c =
-    let q = c.pass-p.ensures c.args.places.now c.args.lists.now c.args.tplaces.now c.args.book.now c.args.rows.now c.args.known in
+    let q = c.pass-p.ensures in
     (nest_fits _, c.requires.0.sized.roomy.few, q.room c.if-p.true)
 
 pub uses-returns-then-p : goal.uses-returns-then-p
@@ -902,7 +901,7 @@ uses-returns-then-p t c =
     let depth = c.args.frame.depth in
     let sized = start.0.sized in
     let few = sized.roomy.few in
-    let q = c.pass-p.ensures c.args.places.now c.args.lists.now c.args.tplaces.now c.args.book.now c.args.rows.now c.args.known in
+    let q = c.pass-p.ensures in
     let taken = c.if-p.true in
     let w = c.mark_passed.ensures in
     rw c.goes_on.ensures (
@@ -927,7 +926,7 @@ pub uses-used-r-requires : goal.uses-used-r-requires
 uses-used-r-requires t c =
     let start = c.requires in
     let s = start.0 in
-    let q = c.pass-p.ensures c.args.places.now c.args.lists.now c.args.tplaces.now c.args.book.now c.args.rows.now c.args.known in (
+    let q = c.pass-p.ensures in (
       omega arith,
       (
         record {
@@ -948,7 +947,7 @@ uses-used-r-requires t c =
 pub uses-returns : goal.uses-returns
 uses-returns t c =
     let sized = c.requires.0.sized in
-    let q = c.pass-p.ensures c.args.places.now c.args.lists.now c.args.tplaces.now c.args.book.now c.args.rows.now c.args.known in
+    let q = c.pass-p.ensures in
     let same = q.untouched c.if-p.false in
     let v = c.used-r.ensures in (
       refl,

@@ -8,7 +8,7 @@ use Rattle.plays.proofs.Passing.{room, stays, passes_macro, passes_procedure}
 use Rattle.plays.proofs.pass.Goals as goal
 
 pub returns-then-marks-i : goal.returns-then-marks-i
-returns-then-marks-i c = λ places lists tplaces book rows known. stays
+returns-then-marks-i c = stays
 
 pub bounds-marks-i : goal.bounds-marks-i
 bounds-marks-i c =
@@ -16,7 +16,7 @@ bounds-marks-i c =
     (room args'.marks.now args'.sums.now args'.i c.if-marks-i.false).0
 
 pub returns-then-not-usable : goal.returns-then-not-usable
-returns-then-not-usable c = λ places lists tplaces book rows known. stays
+returns-then-not-usable c = stays
 
 pub asks-requires : goal.asks-requires
 asks-requires c =
@@ -26,7 +26,7 @@ asks-requires c =
     ((room args'.marks.now args'.sums.now args'.i if1'.false).1, pre'.0, pre'.1, pre'.3, pre'.4, omega (arith, pre'.5), length-replicate {A = ℕ} signals_most 0)
 
 pub returns-then-not-asks : goal.returns-then-not-asks
-returns-then-not-asks c = λ places lists tplaces book rows known. stays
+returns-then-not-asks c = stays
 
 pub table_behind-requires : goal.table_behind-requires
 table_behind-requires c =
@@ -44,8 +44,7 @@ returns-then-i-lt-PROCEDURES c =
     let if4' = c.if-not-asks in
     let settle' = c.settle in
     let Known-is = sym usable'.ensures ∙ if2'.false in
-    λ places lists tplaces book rows known.
-    passes_macro Known-is pre'.1 pre'.5 (room c.args.marks.now c.args.sums.now c.args.i c.if-marks-i.false).1 if3'.true (asks'.ensures.1 if4'.false) settle'.ensures c.table_behind.ensures
+    passes_macro Known-is pre'.1 pre'.5 (room c.args.marks.now c.args.sums.now c.args.i c.if-marks-i.false).1 if3'.true (asks'.ensures.1 if4'.false) settle'.ensures c.table_behind.ensures.0
 
 pub asks-done-requires : goal.asks-done-requires
 asks-done-requires c =
@@ -62,4 +61,4 @@ returns c =
     let if3' = c.if-i-lt-PROCEDURES in
     let asks2' = c.asks-done in
     let Known-is = sym usable'.ensures ∙ if2'.false in
-    λ places lists tplaces book rows known. passes_procedure Known-is pre'.1 pre'.5 (room c.args.marks.now c.args.sums.now c.args.i c.if-marks-i.false).1 if3'.false pre'.2 asks2'.ensures.1
+    passes_procedure Known-is pre'.1 pre'.5 (room c.args.marks.now c.args.sums.now c.args.i c.if-marks-i.false).1 if3'.false pre'.2 asks2'.ensures.1

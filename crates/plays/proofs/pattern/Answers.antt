@@ -17,7 +17,7 @@ overflow_add-i c =
     let args' = c.args in
     let name-bytes' = c.name_bytes in
     let n = pre'.0.listed_at in
-    omega (arith, (found_at n c.find-i.result (rest args'.book.now (first_pattern * 2)) name-bytes'.ensures c.find-i.ensures).0, n.few)
+    omega (arith, (found_at n c.find-i.result (rest args'.ground.now.declared.book.now (first_pattern * 2)) name-bytes'.ensures c.find-i.ensures).0, n.few)
 
 pub slice_bounds-body-count : goal.slice_bounds-body-count
 slice_bounds-body-count c =
@@ -26,7 +26,7 @@ slice_bounds-body-count c =
     let name-bytes' = c.name_bytes in
     let find' = c.find-i in
     let n = pre'.0.listed_at in
-    let x = found_at n find'.result (rest args'.book.now (first_pattern * 2)) name-bytes'.ensures find'.ensures in
+    let x = found_at n find'.result (rest args'.ground.now.declared.book.now (first_pattern * 2)) name-bytes'.ensures find'.ensures in
     omega (arith, c.start_at-start.ensures (omega (arith, x.0, n.few)), pattern_within n find'.result x.2)
 
 pub slice_bounds-body-start : goal.slice_bounds-body-start
@@ -36,7 +36,7 @@ slice_bounds-body-start c =
     let name-bytes' = c.name_bytes in
     let find' = c.find-i in
     let n = pre'.0.listed_at in
-    let x = found_at n find'.result (rest args'.book.now (first_pattern * 2)) name-bytes'.ensures find'.ensures in
+    let x = found_at n find'.result (rest args'.ground.now.declared.book.now (first_pattern * 2)) name-bytes'.ensures find'.ensures in
     omega (arith, c.start_at-start.ensures (omega (arith, x.0, n.few)), pattern_within n find'.result x.2)
 
 pub body_of-requires : goal.body_of-requires
@@ -49,17 +49,17 @@ body_of-requires c =
     let leave' = c.leave in
     let pre' = pre' in
     let n = pre'.0.listed_at in
-    let x = found_at n find'.result (rest args'.book.now (first_pattern * 2)) name-bytes'.ensures find'.ensures in
+    let x = found_at n find'.result (rest args'.ground.now.declared.book.now (first_pattern * 2)) name-bytes'.ensures find'.ensures in
     let at = start-at'.ensures (omega (arith, x.0, n.few)) in
     let within = pattern_within n find'.result x.2 in
-    rw (part_begins args'.text.now start-at'.result _ at within) (
-      part_within args'.text.now start-at'.result _ at within,
+    rw (part_begins args'.ground.now.declared.text.now start-at'.result _ at within) (
+      part_within args'.ground.now.declared.text.now start-at'.result _ at within,
       record {
         env = pre'.0.env;
         body = pre'.0.decl.body;
         rest = n.stands.0;
-        state = record { pins = bare (start args'.signals).pins; table = none; args = [] };
-        standing = pattern_standing n find'.result x.2 pre'.0.sized leave'.ensures (start args'.signals) (opening_long args'.signals);
+        state = record { pins = bare (start args'.ground.now.signals).pins; table = none; args = [] };
+        standing = pattern_standing n find'.result x.2 pre'.0.sized leave'.ensures (start args'.ground.now.signals) (opening_long args'.ground.now.signals);
         sized = sized_left pre'.0.sized leave'.ensures;
       },
       pre'.1,
@@ -77,22 +77,22 @@ returns c =
     let pre' = pre' in
     let n = pre'.0.listed_at in
     let l = leave'.ensures in
-    let x = found_at n find'.result (rest args'.book.now (first_pattern * 2)) name-bytes'.ensures find'.ensures in
+    let x = found_at n find'.result (rest args'.ground.now.declared.book.now (first_pattern * 2)) name-bytes'.ensures find'.ensures in
     let at = start-at'.ensures (omega (arith, x.0, n.few)) in
-    let b = rw (part_begins args'.text.now start-at'.result _ at (pattern_within n find'.result x.2)) at body-of'.ensures in
+    let b = rw (part_begins args'.ground.now.declared.text.now start-at'.result _ at (pattern_within n find'.result x.2)) at body-of'.ensures in
     record {
       sized = sized_kept (sized_left pre'.0.sized l) b.kept;
       fails = λ E ps d m u s h. (
-          let e = (found_at m find'.result (rest args'.book.now (first_pattern * 2)) name-bytes'.ensures find'.ensures).2 in
+          let e = (found_at m find'.result (rest args'.ground.now.declared.book.now (first_pattern * 2)) name-bytes'.ensures find'.ensures).2 in
           listed_fails m s (b.plays E d.body m.stands.0 _ (pattern_standing m find'.result e pre'.0.sized l s h) u tt));
       sound = λ E ps d m u s h. (
-          let e = (found_at m find'.result (rest args'.book.now (first_pattern * 2)) name-bytes'.ensures find'.ensures).2 in
+          let e = (found_at m find'.result (rest args'.ground.now.declared.book.now (first_pattern * 2)) name-bytes'.ensures find'.ensures).2 in
           listed_sound m s (b.plays E d.body m.stands.0 _ (pattern_standing m find'.result e pre'.0.sized l s h) u tt));
       memo_long = b.memo_long;
       heads = λ E ps d m u. (
-          let e = (found_at m find'.result (rest args'.book.now (first_pattern * 2)) name-bytes'.ensures find'.ensures).2 in
-          b.heads E d.body m.stands.0 _ (pattern_standing m find'.result e pre'.0.sized l (start args'.signals) (opening_long args'.signals)) u);
+          let e = (found_at m find'.result (rest args'.ground.now.declared.book.now (first_pattern * 2)) name-bytes'.ensures find'.ensures).2 in
+          b.heads E d.body m.stands.0 _ (pattern_standing m find'.result e pre'.0.sized l (start args'.ground.now.signals) (opening_long args'.ground.now.signals)) u);
       learnt = λ E ps d m u. (
-          let e = (found_at m find'.result (rest args'.book.now (first_pattern * 2)) name-bytes'.ensures find'.ensures).2 in
-          b.learnt E d.body m.stands.0 _ (pattern_standing m find'.result e pre'.0.sized l (start args'.signals) (opening_long args'.signals)) u tt);
+          let e = (found_at m find'.result (rest args'.ground.now.declared.book.now (first_pattern * 2)) name-bytes'.ensures find'.ensures).2 in
+          b.learnt E d.body m.stands.0 _ (pattern_standing m find'.result e pre'.0.sized l (start args'.ground.now.signals) (opening_long args'.ground.now.signals)) u tt);
     }

@@ -7,15 +7,15 @@ use Rattle.references.proofs.Stepping.{ends_step, vector_step, vector_few, assig
 use Rattle.references.proofs.Going.{going, going_on, fewer, ended}
 use Rattle.references.proofs.+fill_statement.Goals as goal
 
-pub fill-loop-known-init : goal.fill-loop-known-init
-fill-loop-known-init t c =
+pub fill-loop-r-init : goal.fill-loop-r-init
+fill-loop-r-init t c =
     let pre' = c.requires in
     record { args_long = pre'.1; table_long = refl; onward = λ E b us st. going pre'.0 st }
 
 pub fill-statement-r-requires : goal.fill-statement-r-requires
 fill-statement-r-requires t c =
     let pre' = c.requires in
-    let loop' = c.loop-known in
+    let loop' = c.loop-r in
     let stood = pre'.4 in
     let o = loop'.invariant.onward stood.env stood.body stood.rest stood.standing in (
       omega (arith, c.decreases),
@@ -34,11 +34,11 @@ fill-shape_of-args-then-r t c =
     c.statement-r.ensures.0 ∙ sym pre'.1
 
 pub fill-shape_of-table-then-r : goal.fill-shape_of-table-then-r
-fill-shape_of-table-then-r t c = c.statement-r.ensures.1 ∙ c.loop-known.invariant.table_long
+fill-shape_of-table-then-r t c = c.statement-r.ensures.1 ∙ c.loop-r.invariant.table_long
 
 pub fill-returns-then-r : goal.fill-returns-then-r
 fill-returns-then-r t c =
-    let loop' = c.loop-known in
+    let loop' = c.loop-r in
     let statement' = c.statement-r in (
       statement'.ensures.0,
       statement'.ensures.1 ∙ loop'.invariant.table_long,
@@ -47,17 +47,17 @@ fill-returns-then-r t c =
       },
     )
 
-pub fill-loop-known-smaller : goal.fill-loop-known-smaller
-fill-loop-known-smaller t c =
+pub fill-loop-r-smaller : goal.fill-loop-r-smaller
+fill-loop-r-smaller t c =
     let pre' = c.requires in
-    let loop' = c.loop-known in
+    let loop' = c.loop-r in
     let stood = pre'.4 in
     let o = loop'.invariant.onward stood.env stood.body stood.rest stood.standing in
     fewer o (c.statement-r.ensures.2.steps stood.env o.rest stood.rest o.standing) c.if-r.false
 
-pub fill-loop-known-preserved : goal.fill-loop-known-preserved
-fill-loop-known-preserved t c =
-    let loop' = c.loop-known in
+pub fill-loop-r-preserved : goal.fill-loop-r-preserved
+fill-loop-r-preserved t c =
+    let loop' = c.loop-r in
     let statement' = c.statement-r in
     let if1' = c.if-r in
     record {

@@ -26,7 +26,7 @@ pub loop-at-preserved : goal.loop-at-preserved
 loop-at-preserved c =
     let inv = c.loop-at.invariant in
     let room-less = fewer (on _ _ c.until.ensures c.loop-at-test.true) c.offset-o.ensures in
-    (one_more_lem inv.0 c.until.ensures c.loop-at-test.true c.offset-o.ensures c.first_outside-first.ensures, omega (arith, inv.1, room-less))
+    (one_more_lem inv.0 c.until.ensures c.loop-at-test.true c.offset-o.ensures c.first_outside-outside.ensures, omega (arith, inv.1, room-less))
 
 pub returns : goal.returns
 unfolding bytes

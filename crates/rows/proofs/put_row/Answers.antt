@@ -10,60 +10,34 @@ use Rattle.rows.proofs.put_row.Goals.{then-b-eq0, else-b-eq0, then-table-lt-TABL
 use Rattle.rows.proofs.put_row.Goals as goal
 
 pub loop-s-init : goal.loop-s-init
-loop-s-init c = (omega arith, showed_none)
-
-pub bounds-values-s : goal.bounds-values-s
-bounds-values-s c = omega arith
+loop-s-init c = showed_none
 
 pub bounds-part-s : goal.bounds-part-s
 unfolding row_width
-bounds-part-s c = omega (arith, showed_length c.loop-s.invariant.1)
-
-pub bounds-part-s-else-b-eq0 : goal.bounds-part-s-else-b-eq0
-unfolding row_width
-bounds-part-s-else-b-eq0 c = omega (arith, showed_length c.loop-s.invariant.1)
-
-pub overflow_add-s : goal.overflow_add-s
-overflow_add-s c = omega arith
-
-pub loop-s-smaller : goal.loop-s-smaller
-loop-s-smaller c = omega arith
+bounds-part-s c = omega (arith, showed_length c.loop-s.invariant)
 
 pub loop-s-preserved : goal.loop-s-preserved
 loop-s-preserved c =
-    let x = c.loop-s.invariant.1 in
-    let inside : c.loop-s.s < length c.args.values.now = omega arith in (
-      omega arith,
-      elim c.if-b-eq0.branch [
-        | then-b-eq0 w ↦ rw w.part-is (showed_more x inside _ (sym (shown_none _ _ w.if-b-eq0.true)))
-        | else-b-eq0 w ↦ rw w.part-is (showed_more x inside _ (sym (shown_char _ _ w.if-b-eq0.false)))
-      ],
-    )
-
-pub overflow_cast-digit : goal.overflow_cast-digit
-overflow_cast-digit c = omega arith
-
-pub overflow_add-digit : goal.overflow_add-digit
-overflow_add-digit c = omega arith
+    let x = c.loop-s.invariant in
+    let inside : c.loop-s.s < length c.args.values.now = omega arith in
+    showed_more x inside c.if-b-eq0.part
+    (elim c.if-b-eq0.branch [
+      | then-b-eq0 w ↦ w.part-is ∙ sym (shown_none _ _ w.if-b-eq0.true)
+      | else-b-eq0 w ↦ w.part-is ∙ sym (shown_char _ _ w.if-b-eq0.false)
+    ])
 
 pub bounds-part-signals : goal.bounds-part-signals
 unfolding row_width
-bounds-part-signals c = omega (arith, showed_length c.loop-s.invariant.1)
-
-pub overflow_add-part : goal.overflow_add-part
-overflow_add-part c = omega arith
+bounds-part-signals c = omega (arith, showed_length c.loop-s.invariant)
 
 pub bounds-part-signals-2 : goal.bounds-part-signals-2
 unfolding row_width
-bounds-part-signals-2 c = simp length-set (omega (arith, showed_length c.loop-s.invariant.1))
-
-pub shape_of-part : goal.shape_of-part
-shape_of-part c = simp length-set (showed_length c.loop-s.invariant.1)
+bounds-part-signals-2 c = simp length-set (omega (arith, showed_length c.loop-s.invariant))
 
 pub returns : goal.returns
 returns c =
     let n = c.args.signals in
-    let x = showed_all c.loop-s.invariant.1 n (omega arith) in
+    let x = showed_all c.loop-s.invariant n (omega arith) in
     let digit : c.if-table-lt-TABLES.digit ≡ digit_of (table_of c.args.table) =
     elim c.if-table-lt-TABLES.branch [
       | then-table-lt-TABLES w ↦ w.digit-is ∙ sym (digit_some _ w.if-table-lt-TABLES.true)

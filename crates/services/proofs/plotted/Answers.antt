@@ -30,16 +30,16 @@ serve-s-requires c =
       asked_len_bound = (list_few at.asked.now c.too_many.ensures c.if-too_many.false, counts_roomy at.asked.now at.counts.now at.spare c.within-roomy.ensures c.if-roomy-spare.false);
     }
 
-pub returns-then-s-ne0 : goal.returns-then-s-ne0
-returns-then-s-ne0 c =
+pub returns-in-Some : goal.returns-in-Some
+returns-in-Some c =
     let at = c.args in
     plots_stopped
     (chart_called at.asked.now at.times.now at.letters.now at.counts.now at.spare c.in_ok-judge.ensures.1 c.too_many.ensures c.if-too_many.false c.within-roomy.ensures c.if-roomy-spare.false)
-    c.serve-s.ensures c.if-s-ne0.true
+    c.serve-s.ensures c.in-Some.is
 
 pub returns : goal.returns
 returns c =
     let at = c.args in
     plots_drawn
     (chart_called at.asked.now at.times.now at.letters.now at.counts.now at.spare c.in_ok-judge.ensures.1 c.too_many.ensures c.if-too_many.false c.within-roomy.ensures c.if-roomy-spare.false)
-    c.serve-s.ensures c.if-s-ne0.false
+    c.serve-s.ensures c.in_default.is

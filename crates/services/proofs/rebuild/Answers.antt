@@ -6,8 +6,8 @@ use Rattle.verdicts.proofs.Found.{meaning_refused}
 use borrow.Author.Rules.{rules}
 use Rattle.services.proofs.rebuild.Goals as goal
 
-pub decide-v-requires : goal.decide-v-requires
-decide-v-requires c = (record { sized = record { all = refl; rows = refl }; unchained = blank_chains; tables = refl; marks = refl; unset = blank_waves }, refl, refl, refl, refl)
+pub decide-requires : goal.decide-requires
+decide-requires c = (record { sized = record { all = refl; rows = refl }; unchained = blank_chains; tables = refl; marks = refl; unset = blank_waves }, refl, refl, refl, refl)
 
 pub returns-in_err-v : goal.returns-in_err-v
 returns-in_err-v c = rw (handed_on c.from_residual.result _ c.from_residual.ensures.1) (meaning_refused _ c.in_err-v.ensures)

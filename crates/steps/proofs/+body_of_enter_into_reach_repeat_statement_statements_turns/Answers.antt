@@ -27,8 +27,8 @@ use Rattle.steps.proofs.Entering.{used_small, used_few, used_size, used_cycles, 
 use Rattle.steps.proofs.+body_of_enter_into_reach_repeat_statement_statements_turns.Goals as goal
 use Rattle.steps.proofs.+body_of_enter_into_reach_repeat_statement_statements_turns.Goals.{reach-Joined-j-gt0, reach-then-j-gt0, reach-else-j-gt0}
 
-pub body_of-overflow_sub-text : goal.body_of-overflow_sub-text
-body_of-overflow_sub-text t c =
+pub body_of-overflow_sub-ground : goal.body_of-overflow_sub-ground
+body_of-overflow_sub-ground t c =
     let pre' = c.requires in
     omega (arith, pre'.0)
 
@@ -182,8 +182,8 @@ into-body_of-requires t c =
     let within = begins_within _ _ _ _ _ u.holds in (
       omega (arith, c.decreases, u.some_more),
       (
-        part_within args'.text.now start-at'.result _ at within,
-        rw (part_begins args'.text.now start-at'.result _ at within) (record {
+        part_within args'.ground.now.declared.text.now start-at'.result _ at within,
+        rw (part_begins args'.ground.now.declared.text.now start-at'.result _ at within) (record {
           env = stood.env;
           body = stood.body;
           rest = stood.rest;
@@ -205,7 +205,7 @@ into-returns-then-i-lt-PROCEDURES t c =
     let body-of' = c.body_of in
     let u = pre'.into.use' in
     let at = start-at'.ensures (omega (arith, u.declared)) in
-    let p = rw (part_begins args'.text.now start-at'.result _ at (begins_within _ _ _ _ _ u.holds)) at body-of'.ensures in
+    let p = rw (part_begins args'.ground.now.declared.text.now start-at'.result _ at (begins_within _ _ _ _ _ u.holds)) at body-of'.ensures in
     let kind = kind_macro _ if1'.true in
     record {
       kept = kept_below p.kept;
@@ -231,8 +231,8 @@ into-body_of-r-requires t c =
     let within = begins_within _ _ _ _ _ u.holds in (
       omega (arith, c.decreases, u.some_more),
       (
-        part_within args'.text.now start-at'.result _ at within,
-        rw (part_begins args'.text.now start-at'.result _ at within) (record {
+        part_within args'.ground.now.declared.text.now start-at'.result _ at within,
+        rw (part_begins args'.ground.now.declared.text.now start-at'.result _ at within) (record {
           env = stood.env;
           body = stood.body;
           rest = stood.rest;
@@ -266,7 +266,7 @@ into-returns t c =
     let u = pre'.into.use' in
     let at = start-at'.ensures (omega (arith, u.declared)) in
     let l = leave'.ensures in
-    let p = rw (part_begins args'.text.now start-at'.result _ at (begins_within _ _ _ _ _ u.holds)) at body-of2'.ensures in
+    let p = rw (part_begins args'.ground.now.declared.text.now start-at'.result _ at (begins_within _ _ _ _ _ u.holds)) at body-of2'.ensures in
     let kind = kind_procedure _ if1'.false in
     record {
       kept = kept_returned _ l p.kept come-back'.ensures;
@@ -276,7 +276,7 @@ into-returns t c =
 
 -- where the turns begin: with the first, or behind it
 reach-begun : (t : ℕ) (c : reach-Joined-j-gt0 t)
-    → Begun (ground_of c.args.text.now c.args.places.now c.args.lists.now c.args.tplaces.now c.args.book.now c.args.rows.now c.args.waves.now c.args.known c.args.signals) (stream c.args.text.now c.args.c)
+    → Begun (ground_of c.args.ground.now) (stream c.args.ground.now.declared.text.now c.args.c)
     (c.args.frame.depth - 1) c.args.frame.level c.args.table c.args.frame.turns c.args.n c.measure-m.result.measure.cycles (arrays c.args.values.now c.args.feeds.now c.measure-m.new.args) (spent c.args.walk (c.measure-m.result.measure.size + 1))
     c.if-j-gt0.chosen (arrays c.if-j-gt0.values c.if-j-gt0.feeds c.if-j-gt0.args)
 reach-begun t c =
@@ -684,15 +684,15 @@ statement-returns-in-Uses t c =
           (v.tells E d.body d.after d.arguments s (called_use d used (called_measured d st pre'.0 m is) ready)));
     })
 
-pub statements-loop-known-init : goal.statements-loop-known-init
-statements-loop-known-init t c =
+pub statements-loop-frame-init : goal.statements-loop-frame-init
+statements-loop-frame-init t c =
     let pre' = c.requires in
     record { kept = kept_none; long = refl; going = pre'.1.going; onward = λ E b us s st ready. starts pre'.0 st ready }
 
 pub statements-statement-r-requires : goal.statements-statement-r-requires
 statements-statement-r-requires t c =
     let pre' = c.requires in
-    let loop' = c.loop-known in
+    let loop' = c.loop-frame in
     let stood = pre'.1 in
     let inv = loop'.invariant in
     let o = inv.onward stood.env stood.body stood.rest stood.state stood.standing stood.ready in (
@@ -714,7 +714,7 @@ statements-statement-r-requires t c =
 
 pub statements-returns-then-r-over : goal.statements-returns-then-r-over
 statements-returns-then-r-over t c =
-    let loop' = c.loop-known in
+    let loop' = c.loop-frame in
     let statement' = c.statement-r in
     let over' = c.over in
     let inv = loop'.invariant in
@@ -726,10 +726,10 @@ statements-returns-then-r-over t c =
           gone o (step.steps E o.rest us o.state o.standing o.ready) (rw over'.ensures at c.if-r-over.true));
     }
 
-pub statements-loop-known-smaller : goal.statements-loop-known-smaller
-statements-loop-known-smaller t c =
+pub statements-loop-frame-smaller : goal.statements-loop-frame-smaller
+statements-loop-frame-smaller t c =
     let pre' = c.requires in
-    let loop' = c.loop-known in
+    let loop' = c.loop-frame in
     let statement' = c.statement-r in
     let over' = c.over in
     let if1' = c.if-r-over in
@@ -737,10 +737,10 @@ statements-loop-known-smaller t c =
     let o = loop'.invariant.onward stood.env stood.body stood.rest stood.state stood.standing stood.ready in
     fewer o (statement'.ensures.steps stood.env o.rest stood.rest o.state o.standing o.ready) (rw over'.ensures at if1'.false)
 
-pub statements-loop-known-preserved : goal.statements-loop-known-preserved
-statements-loop-known-preserved t c =
+pub statements-loop-frame-preserved : goal.statements-loop-frame-preserved
+statements-loop-frame-preserved t c =
     let pre' = c.requires in
-    let loop' = c.loop-known in
+    let loop' = c.loop-frame in
     let statement' = c.statement-r in
     let over' = c.over in
     let if1' = c.if-r-over in

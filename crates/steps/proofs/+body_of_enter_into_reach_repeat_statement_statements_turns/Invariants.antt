@@ -31,19 +31,19 @@ decreases-statements l = 6 * l.frame.depth + 4
 abbrev pub decreases-turns : goal.decreases-turns
 decreases-turns l = 6 * l.frame.depth
 
-abbrev pub invariant-statements-loop-known : goal.invariant-statements-loop-known
-invariant-statements-loop-known l =
-    Underway (ground_of l.text l.places l.lists l.tplaces l.book l.rows l.waves l.known l.signals) l.frame.depth l.frame.level l.frame.turns l.initial.cursor l.initial.chosen (arrays l.initial.values l.initial.feeds l.initial.args) l.initial.w l.initial.buffer
+abbrev pub invariant-statements-loop-frame : goal.invariant-statements-loop-frame
+invariant-statements-loop-frame l =
+    Underway (ground_of l.ground) l.frame.depth l.frame.level l.frame.turns l.initial.cursor l.initial.chosen (arrays l.initial.values l.initial.feeds l.initial.args) l.initial.w l.initial.buffer
     l.cursor l.chosen (arrays l.values l.feeds l.args) l.w l.buffer
 
-abbrev pub decreases-statements-loop-known : goal.decreases-statements-loop-known
-decreases-statements-loop-known l =
-    left (stream l.text l.cursor)
+abbrev pub decreases-statements-loop-frame : goal.decreases-statements-loop-frame
+decreases-statements-loop-frame l =
+    left (stream l.ground.declared.text.now l.cursor)
 
 abbrev pub invariant-turns-loop-i : goal.invariant-turns-loop-i
 invariant-turns-loop-i l =
     (l.i ≤ l.n)
-    × Repeats (ground_of l.text l.places l.lists l.tplaces l.book l.rows l.waves l.known l.signals) (stream l.text l.c) l.inner.depth l.inner.level l.inner.turns l.n l.initial.chosen (arrays l.initial.values l.initial.feeds l.initial.args) l.initial.w l.initial.buffer
+    × Repeats (ground_of l.ground) (stream l.ground.declared.text.now l.c) l.inner.depth l.inner.level l.inner.turns l.n l.initial.chosen (arrays l.initial.values l.initial.feeds l.initial.args) l.initial.w l.initial.buffer
     l.i l.chosen (arrays l.values l.feeds l.args) l.w l.buffer l.cursor
 
 abbrev pub decreases-turns-loop-i : goal.decreases-turns-loop-i

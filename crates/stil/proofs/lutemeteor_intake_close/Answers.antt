@@ -1,4 +1,5 @@
 -- `lutemeteor_intake_close` meets its contract: too short a state, or one call of the intake between two codes.
+use mathlib.Core.Path.{◌∙◌}
 use Rattle.stil.proofs.Carrying.{carries_none, carries_all}
 use Rattle.stil.proofs.lutemeteor_intake_close.Goals as goal
 
@@ -11,4 +12,4 @@ pub returns : goal.returns
 returns c =
     let args = c.args in
     carries_all _ args.state.now args.store.now c.if-state-lt-STATE.false
-    c.progress_of-p.ensures (c.close-answer.ensures.value, c.close-answer.ensures.store_after) c.put_progress.ensures
+    c.progress_of-p.ensures (c.at_close-answer.ensures ∙ c.close.ensures.value, c.close.ensures.store_after) c.put_progress.ensures

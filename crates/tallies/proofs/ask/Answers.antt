@@ -1,5 +1,4 @@
 -- Whether it may fail, and the table before it where it shows something under that.
-use native.Mathlib.Omega.{arith}
 use mathlib.Core.Path.{sym, ◌∙◌}
 use Rattle.tallies.proofs.Stored.{flag_is}
 use Rattle.tallies.proofs.Grown.{more_then}
@@ -7,23 +6,11 @@ use Rattle.tallies.proofs.Others.{other_sum}
 use Rattle.tallies.proofs.Asking.{tabled_later}
 use Rattle.tallies.proofs.ask.Goals as goal
 
-pub byte-requires : goal.byte-requires
-byte-requires c = omega (arith, c.ask_good.ensures.0.only.long)
-
-pub ask_table-requires : goal.ask_table-requires
-ask_table-requires c = (omega (arith, c.ask_good.ensures.0.only.long), omega (arith, c.ask_good.ensures.0.only.long), c.requires.2)
-
-pub shape_of-sums-then-byte-ne0 : goal.shape_of-sums-then-byte-ne0
-shape_of-sums-then-byte-ne0 c = (more_then c.ask_good.ensures.0 c.ask_table.ensures.0).only.long
-
 pub returns-then-byte-ne0 : goal.returns-then-byte-ne0
 returns-then-byte-ne0 c =
     let g = c.ask_good.ensures in
     let t = c.ask_table.ensures in
     (more_then g.0 t.0, record { good = λ b. g.1 ((t.0.kept 0).good b); tabled = λ e. tabled_later g.0.table_is (other_sum g.0.only _ c.requires.2) t.1 })
-
-pub shape_of-sums-else-byte-ne0 : goal.shape_of-sums-else-byte-ne0
-shape_of-sums-else-byte-ne0 c = c.ask_good.ensures.0.only.long
 
 pub returns-else-byte-ne0 : goal.returns-else-byte-ne0
 returns-else-byte-ne0 c =

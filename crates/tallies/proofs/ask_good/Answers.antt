@@ -5,9 +5,6 @@ use Rattle.tallies.proofs.Stored.{flag_off}
 use Rattle.tallies.proofs.Grown.{more_none}
 use Rattle.tallies.proofs.ask_good.Goals as goal
 
-pub shape_of-sums-then-byte-ne0 : goal.shape_of-sums-then-byte-ne0
-shape_of-sums-then-byte-ne0 c = c.spoil.ensures.0.only.long
-
 pub returns-then-byte-ne0 : goal.returns-then-byte-ne0
 returns-then-byte-ne0 c = (c.spoil.ensures.0, λ b. absurd (true≢false (sym c.spoil.ensures.1 ∙ b)))
 

@@ -1,5 +1,4 @@
 -- By the table in force: none yet, one that is not fine for the body, or one that is.
-use native.Mathlib.Omega.{arith}
 use mathlib.Core.Path.{sym, ◌∙◌}
 use mathlib.Core.Bool.{true≢false}
 use Rattle.tallies.proofs.Grown.{fine_read, more_none, more_then}
@@ -7,33 +6,15 @@ use Rattle.tallies.proofs.Others.{other_sum}
 use Rattle.tallies.proofs.Asking.{tabled_before, tabled_by}
 use Rattle.tallies.proofs.ask_table.Goals as goal
 
-pub narrow-requires : goal.narrow-requires
-narrow-requires c = (omega (arith, c.need_table-t.ensures.0.only.long), omega (arith, c.need_table-t.ensures.0.only.long), c.requires.2)
-
-pub shape_of-sums-then-t-ge-TABLES : goal.shape_of-sums-then-t-ge-TABLES
-shape_of-sums-then-t-ge-TABLES c = (more_then c.need_table-t.ensures.0 c.narrow.ensures.0).only.long
-
 pub returns-then-t-ge-TABLES : goal.returns-then-t-ge-TABLES
 returns-then-t-ge-TABLES c =
     let t = c.need_table-t.ensures in
     (more_then t.0 c.narrow.ensures.0, tabled_before t.1 c.narrow.ensures.0 c.if-t-ge-TABLES.true (λ j e. sym ((other_sum t.0.only _ c.requires.2).fine j) ∙ c.narrow.ensures.1 j e))
 
-pub byte-requires : goal.byte-requires
-byte-requires c = omega (arith, c.need_table-t.ensures.0.only.long, c.need_table-t.ensures.1.slot)
-
-pub spoil-requires : goal.spoil-requires
-spoil-requires c = omega (arith, c.need_table-t.ensures.0.only.long)
-
-pub shape_of-sums-then-byte-eq0 : goal.shape_of-sums-then-byte-eq0
-shape_of-sums-then-byte-eq0 c = (more_then c.need_table-t.ensures.0 c.spoil.ensures.0).only.long
-
 pub returns-then-byte-eq0 : goal.returns-then-byte-eq0
 returns-then-byte-eq0 c =
     let t = c.need_table-t.ensures in
     (more_then t.0 c.spoil.ensures.0, tabled_by t.1 c.spoil.ensures.0 c.if-t-ge-TABLES.false (λ b. absurd (true≢false (sym c.spoil.ensures.1 ∙ b))))
-
-pub shape_of-sums-else-byte-eq0 : goal.shape_of-sums-else-byte-eq0
-shape_of-sums-else-byte-eq0 c = c.need_table-t.ensures.0.only.long
 
 pub returns-else-byte-eq0 : goal.returns-else-byte-eq0
 returns-else-byte-eq0 c =

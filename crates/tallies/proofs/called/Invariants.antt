@@ -1,9 +1,5 @@
-use Prim.Native.Nat.{◌-◌, ◌≤◌}
 use Rattle.tallies.proofs.Calling.{Calling}
 use Rattle.tallies.proofs.called.Given as goal
 
 abbrev pub invariant-loop-s : goal.invariant-loop-s
-invariant-loop-s l = (l.s ≤ l.signals) × Calling l.text l.waves l.given l.args l.to l.from l.s l.initial.sums l.sums
-
-abbrev pub decreases-loop-s : goal.decreases-loop-s
-decreases-loop-s l = l.signals - l.s
+invariant-loop-s l = Calling l.text l.waves l.given l.args l.to l.from l.s l.initial.sums l.sums

@@ -1,9 +1,5 @@
-use Prim.Native.Nat.{◌-◌, ◌≤◌}
 use Rattle.tallies.proofs.Showing.{Cycling}
 use Rattle.tallies.proofs.cycle.Given as goal
 
 abbrev pub invariant-loop-s : goal.invariant-loop-s
-invariant-loop-s l = (l.s ≤ l.signals) × Cycling l.waves l.r l.t l.s l.initial.sums l.sums
-
-abbrev pub decreases-loop-s : goal.decreases-loop-s
-decreases-loop-s l = l.signals - l.s
+invariant-loop-s l = Cycling l.waves l.r l.t l.s l.initial.sums l.sums

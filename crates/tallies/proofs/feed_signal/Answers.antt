@@ -8,8 +8,5 @@ use Rattle.tallies.proofs.feed_signal.Goals as goal
 pub returns-then-given-s-eq0 : goal.returns-then-given-s-eq0
 returns-then-given-s-eq0 c = (more_none, λ xs u. fed_none u c.args.s (omega arith) c.if-given-s-eq0.true)
 
-pub shape_of-sums : goal.shape_of-sums
-shape_of-sums c = c.feed.ensures.0.only.long
-
 pub returns : goal.returns
 returns c = (c.feed.ensures.0, λ xs u. let a = u.each _ (argument_some u c.args.s (omega arith) c.if-given-s-eq0.false) in c.feed.ensures.1 _ a.at)

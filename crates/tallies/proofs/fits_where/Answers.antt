@@ -1,19 +1,11 @@
--- Each turn takes the next table, then the one in force.
-use native.Mathlib.Omega.{arith}
+-- Under each table, and then under the one in force.
 use mathlib.Core.Path.{sym}
 use mathlib.Core.Bool.{true≢false}
-use borrow.Author.Count.{below_more}
 use Rattle.tallies.proofs.Fitting.{fits_all}
 use Rattle.tallies.proofs.fits_where.Goals as goal
 
-pub loop-t-init : goal.loop-t-init
-loop-t-init c = (omega arith, λ tabs m k h. absurd (omega arith))
-
-pub returns-then-not-fits_slot : goal.returns-then-not-fits_slot
-returns-then-not-fits_slot c = λ e. absurd (true≢false (sym e))
-
-pub loop-t-preserved : goal.loop-t-preserved
-loop-t-preserved c = (omega arith, λ tabs m. below_more _ _ (c.loop-t.invariant.1 tabs m) (c.fits_slot.ensures c.if-not-fits_slot.false tabs m))
+pub returns-then-not-fits_tables : goal.returns-then-not-fits_tables
+returns-then-not-fits_tables c = λ e. absurd (true≢false (sym e))
 
 pub returns : goal.returns
-returns c = λ e tabs m. fits_all (λ k h. c.loop-t.invariant.1 tabs m k (omega arith)) (c.fits_slot-2.ensures e tabs m)
+returns c = λ e tabs m. fits_all (c.fits_tables.ensures c.if-not-fits_tables.false tabs m) (c.fits_slot.ensures e tabs m)

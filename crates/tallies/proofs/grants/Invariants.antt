@@ -1,4 +1,4 @@
-use Prim.Native.Nat.{ℕ, ◌-◌, ◌≤◌, ◌<◌}
+use Prim.Native.Nat.{ℕ, ◌<◌}
 use mathlib.Core.Path.{◌≡◌}
 use mathlib.Core.Bool.{false}
 use mathlib.Core.Option.{none}
@@ -6,7 +6,4 @@ use Rattle.tallies.specs.Rows.{sum_at}
 use Rattle.tallies.proofs.grants.Given as goal
 
 abbrev pub invariant-loop-s : goal.invariant-loop-s
-invariant-loop-s l = (l.s ≤ l.signals) × ((i : ℕ) → i < l.s → (sum_at l.sums l.r).under i none ≡ false)
-
-abbrev pub decreases-loop-s : goal.decreases-loop-s
-decreases-loop-s l = l.signals - l.s
+invariant-loop-s l = ((i : ℕ) → i < l.s → (sum_at l.sums l.r).under i none ≡ false)

@@ -5,9 +5,6 @@ use Rattle.tallies.proofs.Grown.{more_marked, more_none}
 use Rattle.tallies.proofs.Asking.{needed_one}
 use Rattle.tallies.proofs.need_table.Goals as goal
 
-pub shape_of-sums-then-t-eq-TABLES : goal.shape_of-sums-then-t-eq-TABLES
-shape_of-sums-then-t-eq-TABLES c = c.store.ensures.only.long
-
 pub returns-then-t-eq-TABLES : goal.returns-then-t-eq-TABLES
 returns-then-t-eq-TABLES c =
     let t = c.in_force-t.ensures in (

@@ -1,36 +1,27 @@
 -- By what the row leaves: nothing, its argument's last character, or a character.
-use native.Mathlib.Omega.{arith}
-use mathlib.Core.Path.{sym}
-use mathlib.Core.Bool.{true≢false}
 use Rattle.tallies.proofs.Entering.{left_nothing, left_last, left_char}
 use Rattle.tallies.proofs.on_signal.Goals as goal
 
-pub returns-then-not-fits_pin : goal.returns-then-not-fits_pin
-returns-then-not-fits_pin c = λ e. absurd (true≢false (sym e))
-
 pub returns-then-u-eq0 : goal.returns-then-u-eq0
 returns-then-u-eq0 c =
-    let a = c.args in
-    λ e xs u. record {
-      shown = c.fits_pin.ensures c.if-not-fits_pin.false;
-      fed = (c.signal_fits-o.ensures xs u e).1;
-      pin_is = left_nothing a.sums.now a.r a.s (omega arith) c.byte-u.ensures _ _ c.if-u-eq0.true;
+    λ xs u. record {
+      shown = c.fits_where.ensures c.if-not-fits_where.false;
+      fed = (c.in_ok-last.ensures xs u).1;
+      pin_is = left_nothing _ _ _ c.if-u-eq0.true;
     }
 
 pub returns-then-u-eq-MARK : goal.returns-then-u-eq-MARK
 returns-then-u-eq-MARK c =
-    let a = c.args in
-    λ e xs u. let f = c.signal_fits-o.ensures xs u e in record {
-      shown = c.fits_pin.ensures c.if-not-fits_pin.false;
+    λ xs u. let f = c.in_ok-last.ensures xs u in record {
+      shown = c.fits_where.ensures c.if-not-fits_where.false;
       fed = f.1;
-      pin_is = left_last a.sums.now a.r a.s (omega arith) c.byte-u.ensures _ _ c.if-u-eq-MARK.true f.0;
+      pin_is = left_last _ _ _ c.if-u-eq-MARK.true f.0;
     }
 
 pub returns : goal.returns
 returns c =
-    let a = c.args in
-    λ e xs u. record {
-      shown = c.fits_pin.ensures c.if-not-fits_pin.false;
-      fed = (c.signal_fits-o.ensures xs u e).1;
-      pin_is = left_char a.sums.now a.r a.s (omega arith) c.byte-u.ensures _ _ c.if-u-eq0.false c.if-u-eq-MARK.false;
+    λ xs u. record {
+      shown = c.fits_where.ensures c.if-not-fits_where.false;
+      fed = (c.in_ok-last.ensures xs u).1;
+      pin_is = left_char _ _ _ c.if-u-eq0.false c.if-u-eq-MARK.false;
     }

@@ -2,9 +2,6 @@
 use Rattle.tallies.proofs.Entering.{retabled_one, retabled_none}
 use Rattle.tallies.proofs.retable.Goals as goal
 
-pub shape_of-sums-then-k-lt-TABLES : goal.shape_of-sums-then-k-lt-TABLES
-shape_of-sums-then-k-lt-TABLES c = c.store.ensures.only.long
-
 pub returns-then-k-lt-TABLES : goal.returns-then-k-lt-TABLES
 returns-then-k-lt-TABLES c = retabled_one c.args.sums.now c.args.to c.args.from c.byte-k.ensures c.if-k-lt-TABLES.true c.store.ensures
 

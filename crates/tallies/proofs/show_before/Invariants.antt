@@ -1,7 +1,5 @@
-use Prim.Native.Nat.{◌-◌, ◌≤◌}
 use mathlib.Core.Path.{◌≡◌}
 use mathlib.Core.Bool.{true}
-use Rattle.meaning.specs.Bounds.{tables_most}
 use Rattle.meaning.specs.Timing.{Tables}
 use Rattle.meaning.specs.Meaning.{has_wave, table_at}
 use Rattle.tallies.specs.Rows.{Marked}
@@ -9,7 +7,4 @@ use Rattle.tallies.proofs.Narrowed.{Narrowed}
 use Rattle.tallies.proofs.show_before.Given as goal
 
 abbrev pub invariant-loop-k : goal.invariant-loop-k
-invariant-loop-k l = (l.k ≤ tables_most) × Narrowed (λ j. (tabs : Tables) → Marked l.waves tabs → has_wave l.s l.x (table_at tabs j) ≡ true) l.r l.k l.initial.sums l.sums
-
-abbrev pub decreases-loop-k : goal.decreases-loop-k
-decreases-loop-k l = tables_most - l.k
+invariant-loop-k l = Narrowed (λ j. (tabs : Tables) → Marked l.waves tabs → has_wave l.s l.x (table_at tabs j) ≡ true) l.r l.k l.initial.sums l.sums

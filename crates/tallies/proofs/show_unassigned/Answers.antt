@@ -5,9 +5,6 @@ use mathlib.Core.Bool.{true≢false}
 use Rattle.tallies.proofs.Grown.{under_off, more_none}
 use Rattle.tallies.proofs.show_unassigned.Goals as goal
 
-pub shape_of-sums-then-byte-ne0 : goal.shape_of-sums-then-byte-ne0
-shape_of-sums-then-byte-ne0 c = c.need_table.ensures.0.only.long
-
 pub returns-then-byte-ne0 : goal.returns-then-byte-ne0
 returns-then-byte-ne0 c = (c.need_table.ensures.0, λ e q. c.need_table.ensures.1.needs q)
 

@@ -1,27 +1,13 @@
 -- Under each table, and then under the one in force where its slot is marked.
-use native.Mathlib.Omega.{arith}
-use mathlib.Core.Path.{◌∙◌}
 use Rattle.tallies.proofs.Grown.{more_then}
 use Rattle.tallies.proofs.Showing.{shown_all_lem, shown_tables}
 use Rattle.tallies.proofs.show_where.Goals as goal
-
-pub byte-requires : goal.byte-requires
-byte-requires c = omega (arith, c.show_tables.ensures.0.only.long)
-
-pub show_in_force-requires : goal.show_in_force-requires
-show_in_force-requires c = omega (arith, c.show_tables.ensures.0.only.long)
-
-pub shape_of-sums-then-byte-ne0 : goal.shape_of-sums-then-byte-ne0
-shape_of-sums-then-byte-ne0 c = c.show_in_force.ensures.0.only.long ∙ c.show_tables.ensures.0.only.long
 
 pub returns-then-byte-ne0 : goal.returns-then-byte-ne0
 returns-then-byte-ne0 c =
     let y = c.show_tables.ensures in
     let z = c.show_in_force.ensures in
     (more_then y.0 z.0, shown_all_lem c.requires.2 c.requires.3 y.0 y.1 z.0 z.1)
-
-pub shape_of-sums-else-byte-ne0 : goal.shape_of-sums-else-byte-ne0
-shape_of-sums-else-byte-ne0 c = c.show_tables.ensures.0.only.long
 
 pub returns-else-byte-ne0 : goal.returns-else-byte-ne0
 returns-else-byte-ne0 c =

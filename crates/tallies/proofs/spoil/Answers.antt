@@ -4,8 +4,5 @@ use Rattle.tallies.proofs.Stored.{flag_set}
 use Rattle.tallies.proofs.Grown.{more_marked}
 use Rattle.tallies.proofs.spoil.Goals as goal
 
-pub shape_of-sums : goal.shape_of-sums
-shape_of-sums c = c.store.ensures.only.long
-
 pub returns : goal.returns
 returns c = (more_marked c.store.ensures (λ q l u e. omega arith) (omega arith), flag_set c.store.ensures (λ e. omega arith))

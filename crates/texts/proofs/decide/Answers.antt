@@ -4,8 +4,8 @@ use Rattle.tokens.proofs.Results.{handed_on}
 use Rattle.texts.proofs.Deciding.{held, decides, notes_sound}
 use Rattle.texts.proofs.decide.Goals as goal
 
-pub measured-total-requires : goal.measured-total-requires
-measured-total-requires c =
+pub measured-requires : goal.measured-requires
+measured-requires c =
     let document' = c.document-parts in
     let pre' = c.requires in (
       document'.auto.book ∙ pre'.1,

@@ -7,8 +7,8 @@ use Rattle.texts.specs.Texts.{counts_of}
 use Rattle.texts.proofs.Deciding.{counted, answered_given, answered_refused}
 use Rattle.texts.proofs.decided.Goals as goal
 
-pub decide-v-requires : goal.decide-v-requires
-decide-v-requires c = (record { sized = record { all = refl; rows = refl }; unchained = blank_chains; tables = refl; marks = refl; unset = blank_waves }, refl, refl, refl, refl)
+pub decide-requires : goal.decide-requires
+decide-requires c = (record { sized = record { all = refl; rows = refl }; unchained = blank_chains; tables = refl; marks = refl; unset = blank_waves }, refl, refl, refl, refl)
 
 pub returns-in_err-v : goal.returns-in_err-v
 returns-in_err-v c = rw (handed_on c.from_residual.result _ c.from_residual.ensures.1) (answered_refused _ c.in_err-v.ensures)

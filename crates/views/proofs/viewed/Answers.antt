@@ -7,8 +7,8 @@ use Rattle.verdicts.proofs.Found.{meaning_refused}
 use Rattle.views.proofs.Viewing.{view_refused}
 use Rattle.views.proofs.viewed.Goals as goal
 
-pub decide-v-requires : goal.decide-v-requires
-decide-v-requires c = (record { sized = record { all = refl; rows = refl }; unchained = blank_chains; tables = refl; marks = refl; unset = blank_waves }, refl, refl, refl, refl)
+pub decide-requires : goal.decide-requires
+decide-requires c = (record { sized = record { all = refl; rows = refl }; unchained = blank_chains; tables = refl; marks = refl; unset = blank_waves }, refl, refl, refl, refl)
 
 pub returns-in_err-v : goal.returns-in_err-v
 returns-in_err-v c =

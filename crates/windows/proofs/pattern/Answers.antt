@@ -24,15 +24,14 @@ use Rattle.windows.proofs.pattern.Goals.{After-find-i, After-measure_at-m}
 abbrev Listing : After-find-i → Env → Decls → Decl → Type 0
 Listing c E ps d =
     ListedAt
-    (ground_of c.args.text.now c.args.places.now c.args.lists.now c.args.tplaces.now c.args.book.now c.args.rows.now c.args.waves.now
-    c.args.known c.args.signals) c.args.list.now c.args.patterns c.args.k E ps d
+    (ground_of c.args.ground.now) c.args.list.now c.args.patterns c.args.k E ps d
 
 -- its number was found
 found : (c : After-find-i) {E : Env} {ps : Decls} {d : Decl} → Listing c E ps d
     → (c.find-i.result < c.args.patterns)
     × (t : Tok)
-    × Entry c.args.text.now c.args.book.now (first_pattern + c.find-i.result) (t, d)
-found c n = found_at n c.find-i.result (rest c.args.book.now (first_pattern * 2)) c.name_bytes.ensures c.find-i.ensures
+    × Entry c.args.ground.now.declared.text.now c.args.ground.now.declared.book.now (first_pattern + c.find-i.result) (t, d)
+found c n = found_at n c.find-i.result (rest c.args.ground.now.declared.book.now (first_pattern * 2)) c.name_bytes.ensures c.find-i.ensures
 
 -- its entry is in the book
 in_book : (c : After-find-i) → first_pattern + c.find-i.result < entries
@@ -41,11 +40,10 @@ in_book c = let n = c.requires.listed_at in omega (arith, (found c n).0, n.few)
 -- and its measure, for what follows it
 measured : (c : After-measure_at-m) {E : Env} {ps : Decls} {d : Decl}
     → ListedAt
-    (ground_of c.args.text.now c.args.places.now c.args.lists.now c.args.tplaces.now c.args.book.now c.args.rows.now c.args.waves.now
-    c.args.known c.args.signals) c.args.list.now c.args.patterns c.args.k E ps d → Measures d.body c.measure_at-m.result
+    (ground_of c.args.ground.now) c.args.list.now c.args.patterns c.args.k E ps d → Measures d.body c.measure_at-m.result
 measured c n =
     rw c.measure_at-m.ensures
-    (found_at n c.find-i.result (rest c.args.book.now (first_pattern * 2)) c.name_bytes.ensures c.find-i.ensures).2.measured
+    (found_at n c.find-i.result (rest c.args.ground.now.declared.book.now (first_pattern * 2)) c.name_bytes.ensures c.find-i.ensures).2.measured
 
 pub overflow_add-i : goal.overflow_add-i
 overflow_add-i c = omega (arith, in_book (goal.at.overflow_add-i c).After-find-i)
@@ -103,8 +101,8 @@ body_of-r-requires c =
     let pre = c.requires in
     let n = pre.listed_at in
     let left = c.leave.ensures in (
-      part_within args.text.now c.start_at-start.result _ starts within,
-      rw (c.spend-w.ensures, part_begins args.text.now c.start_at-start.result _ starts within) (record {
+      part_within args.ground.now.declared.text.now c.start_at-start.result _ starts within,
+      rw (c.spend-w.ensures, part_begins args.ground.now.declared.text.now c.start_at-start.result _ starts within) (record {
         env = pre.env;
         body = pre.decl.body;
         rest = n.stands.0;
@@ -125,7 +123,7 @@ returns c =
     let args = c.args in
     let pre = c.requires in
     let left = c.leave.ensures in
-    let went = rw (c.spend-w.ensures, part_begins args.text.now c.start_at-start.result _ starts within)
+    let went = rw (c.spend-w.ensures, part_begins args.ground.now.declared.text.now c.start_at-start.result _ starts within)
     at c.body_of-r.ensures in
     record {
       sized = sized_kept (sized_left pre.sized left) went.kept;

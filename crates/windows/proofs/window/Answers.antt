@@ -30,8 +30,8 @@ pattern-w-requires c =
       env = h.runs.tabled.parts.env;
       decls = c.requires.read.patterns;
       decl = _;
-      state = opening c.args.signals;
-      long = opening_long c.args.signals;
+      state = opening c.args.ground.now.signals;
+      long = opening_long c.args.ground.now.signals;
       listed_at = listed_next h b taken;
       ready = next_ready (upcoming h b taken);
       sized = inv.arrays_sized;
@@ -50,9 +50,9 @@ loop-k-preserved c =
 
 -- behind the loop all is gone through, whichever way it was left
 gone : (c : Left-loop-k) (p : Parts) (d : Read) (m : Meaning)
-    → Accepts c.args.text.now c.args.places.now c.args.lists.now c.args.tplaces.now c.args.waves.now c.args.book.now c.args.rows.now
-    c.args.list.now c.args.known c.args.signals c.args.listed c.args.patterns c.args.size c.args.first c.args.due c.args.buffer.now p d m
-    → Went c.args.signals (play 0 m.run (opening c.args.signals)).1 (visits 0 m.run c.args.first)
+    → Accepts c.args.ground.now.declared.text.now c.args.ground.now.declared.places.now c.args.ground.now.declared.lists.now c.args.ground.now.declared.tplaces.now c.args.ground.now.waves.now c.args.ground.now.declared.book.now c.args.ground.now.declared.rows.now
+    c.args.list.now c.args.ground.now.declared.known c.args.ground.now.signals c.args.listed c.args.patterns c.args.size c.args.first c.args.due c.args.buffer.now p d m
+    → Went c.args.ground.now.signals (play 0 m.run (opening c.args.ground.now.signals)).1 (visits 0 m.run c.args.first)
     (outset (c.args.size * 10) c.args.first c.args.due c.args.mark) c.loop-k-test.w c.args.buffer.now c.loop-k-test.buffer
 gone c p d m h =
     let left = c.loop-k.invariant.left p d m h in

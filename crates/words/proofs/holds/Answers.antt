@@ -1,10 +1,13 @@
-use mathlib.Core.Path.{◌≡◌, ◌∙◌}
-use Rattle.std.specs.List.{list_any}
-use Rattle.std.proofs.Common.{rules, nat_eq}
+use mathlib.Core.Path.{◌∙◌}
+use lib.Dec.{eqb}
+use Rattle.std.proofs.Common.{rules}
+use Rattle.std.proofs.lemmas.Iterator.{YieldsList-from_slice}
+use Rattle.std.proofs.lemmas.Iterator.Search.{any_from_yields_List}
 use Rattle.meaning.proofs.Lists.{has_any}
 use Rattle.words.proofs.holds.Goals as goal
 
 pub returns : goal.returns
 returns c =
-    let told : c.contains.result ≡ list_any (λ y. nat_eq y c.args.b) c.args.w.now = search rules in
-    told ∙ has_any c.args.b c.args.w.now
+    let w = c.args.w.now in
+    let b = c.args.b in
+    any_from_yields_List (λ x. eqb x b) _ _ _ c.any.ensures.ran (YieldsList-from_slice w cc) (λ x r q k. search rules) ∙ has_any b w
