@@ -1,13 +1,14 @@
 -- What a spot tells of its signal and character, and so of a signal's entries.
-use Prim.Native.Nat.{ℕ, suc, ◌+◌, ◌-◌, ◌<◌}
+use Prim.Native.Nat.{ℕ, zero, suc, ◌+◌, ◌-◌, ◌<◌}
 use native.Mathlib.Omega.{arith}
 use mathlib.Core.Path.{◌≡◌, refl, ap, ◌∙◌}
-use mathlib.Core.Bool.{Bool, true, false, not, ◌&&◌}
+use mathlib.Core.Bool.{Bool, true, false, ◌&&◌}
 use mathlib.Core.Option.{none}
 use mathlib.Core.List.{List, [], ◌∷◌}
 use lib.ListN.{length, get_or, drop}
 use lib.Dec.{eqb}
-use borrow.Author.Tests.{eqb-true, eqb-false, eq-eqb, ne_eqb}
+use borrow.Author.Tests.{eqb-true, eqb-false}
+use Rattle.std.specs.Prelude.{Some}
 use Rattle.std.specs.List.{list_all}
 use Rattle.meaning.specs.Timing.{Event, Wave}
 use Rattle.meaning.specs.Services.{wave_of}
@@ -15,14 +16,19 @@ use Rattle.words.proofs.Words.{cut}
 use Rattle.waves.specs.Waves.{EntryAt}
 use Rattle.waves.proofs.Entries.{entry_found}
 use Rattle.folded.specs.Flat.{Entries, entries_of}
-use Rattle.spots.specs.Spots.{bytes_most, spot_at, Spots}
+use Rattle.spots.specs.Spots.{bytes_most, spot_at, sight_of, Spots}
+
+-- the place that a spot tells
+seen : (spot : ℕ) → (spot ≡ 0 → ⊥) → sight_of spot ≡ Some (spot - 1)
+seen zero n = absurd (n refl)
+seen (suc place) n = let e : place ≡ suc place - 1 = omega arith in ap Some e
 
 module _ {text spots : List ℕ} {ws : List Wave} (chars : List ℕ) (s i : ℕ) (a : Spots text spots ws) (h : i < length chars) (q : get_or chars i 0 < bytes_most) where
   -- no waveform
   pub spot_none : spot_at spots s (get_or chars i 0) ≡ 0 → entries_of s ws (drop i chars) ≡ entries_of s ws (drop (i + 1) chars)
   unfolding entries_of
   spot_none e =
-      let n : wave_of s (get_or chars i 0) ws ≡ none = (a.each s (get_or chars i 0) q).no (ap not (eq-eqb _ 0 e)) in
+      let n : wave_of s (get_or chars i 0) ws ≡ none = (a.each s (get_or chars i 0) q).no (ap sight_of e) in
       rw (cut chars i h) (rw (n, entries_of))
 
   -- one, with its entry
@@ -30,7 +36,7 @@ module _ {text spots : List ℕ} {ws : List Wave} (chars : List ℕ) (s i : ℕ)
       → (es : List Event) × EntryAt text (spot_at spots s (get_or chars i 0) - 1) (get_or chars i 0) es × (entries_of s ws (drop i chars) ≡ (get_or chars i 0, es) ∷ entries_of s ws (drop (i + 1) chars))
   unfolding entries_of
   spot_some e =
-      let f = (a.each s (get_or chars i 0) q).yes (ap not (ne_eqb _ 0 e)) in
+      let f = (a.each s (get_or chars i 0) q).yes _ (seen _ e) in
       (_, entry_found f f.wave, rw (cut chars i h) (rw (f.wave, entries_of)))
 
 module _ {text spots : List ℕ} {ws : List Wave} (s : ℕ) (a : Spots text spots ws) where
