@@ -6,34 +6,12 @@ use mathlib.Core.Bool.{Bool, true, false, true≢false}
 use mathlib.Core.List.{List}
 use lib.Dec.{ltb}
 use lib.ListN.{get_or}
-use borrow.Author.Count.{below_none, below_more}
 use borrow.Author.Tests.{eq-eqb, ltb-true, ltb-false}
 use Rattle.meaning.specs.Bounds.{signals_most}
 use Rattle.meaning.specs.Body.{Args, Body}
 use Rattle.measures.specs.Uses.{Uses}
 use Rattle.arguments.specs.Supplied.{Supplied, block_size, Idle, BlockFits, fits_at}
 use Rattle.arguments.proofs.Counted.{fits_unused}
-
-module _ {row given : List ℕ} {from : ℕ} where
-  pub idle_none : Idle row given from 0
-  idle_none = record { unused = below_none _; unshifted = below_none _; ungiven = below_none _ }
-
-  pub idle_more : {n : ℕ} → Idle row given from n → get_or row (from + n) 0 ≡ 0 → get_or row (signals_most + (from + n)) 0 ≡ 0 → get_or given (from + n) 0 ≡ 0
-      → Idle row given from (n + 1)
-  idle_more {n} i u s g =
-      record {
-        unused = below_more (λ (k : ℕ). get_or row (from + k) 0 ≡ 0) n i.unused u;
-        unshifted = below_more (λ (k : ℕ). get_or row (signals_most + (from + k)) 0 ≡ 0) n i.unshifted s;
-        ungiven = below_more (λ (k : ℕ). get_or given (from + k) 0 ≡ 0) n i.ungiven g;
-      }
-
-  pub idle_less : {n m : ℕ} → Idle row given from n → m ≤ n → Idle row given from m
-  idle_less i h =
-      record {
-        unused = λ k l. i.unused k (omega arith);
-        unshifted = λ k l. i.unshifted k (omega arith);
-        ungiven = λ k l. i.ungiven k (omega arith);
-      }
 
 module _ {b : Body} {xs : Args} (t from : ℕ) where
   pub block_each : ((k : ℕ) → k < block_size → fits_at b xs t (from + k) ≡ true) → BlockFits b xs t from true

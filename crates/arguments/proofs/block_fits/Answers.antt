@@ -8,24 +8,10 @@ use Rattle.arguments.specs.Supplied.{fits_at}
 use Rattle.arguments.proofs.Blocks.{block_idle, block_each, block_not}
 use Rattle.arguments.proofs.block_fits.Goals as goal
 
-pub idle-requires : goal.idle-requires
-idle-requires c =
-    (c.requires.0, c.requires.1, c.requires.3)
-
 pub returns-then-idle : goal.returns-then-idle
 returns-then-idle c =
     let none = c.idle.ensures c.if-idle.true in
     λ text b xs uses sup. block_idle c.args.t c.args.from uses sup c.requires.3 none
-
-pub loop-k-init : goal.loop-k-init
-loop-k-init c = λ text b xs uses sup i l. absurd (omega arith)
-
-pub overflow_add-from : goal.overflow_add-from
-overflow_add-from c = omega (arith, c.requires.3)
-
-pub fitting-requires : goal.fitting-requires
-fitting-requires c =
-    (c.requires.0, c.requires.1, c.requires.2, omega (arith, c.requires.3))
 
 pub returns-then-not-fitting : goal.returns-then-not-fitting
 returns-then-not-fitting c =

@@ -8,15 +8,6 @@ use Rattle.arguments.proofs.Counted.{fits_not, fits_so}
 use Rattle.arguments.proofs.Blocks.{blocks_more}
 use Rattle.arguments.proofs.fitted.Goals as goal
 
-pub turns-t-requires : goal.turns-t-requires
-turns-t-requires c = c.requires
-
-pub loop-block-init : goal.loop-block-init
-loop-block-init c = λ text b xs uses sup k l. absurd (omega arith)
-
-pub block_fits-requires : goal.block_fits-requires
-block_fits-requires c = (c.requires.0, c.requires.1, c.requires.2, omega arith)
-
 pub returns-then-not-block_fits : goal.returns-then-not-block_fits
 returns-then-not-block_fits c =
     let turns = c.turns-t in

@@ -1,13 +1,9 @@
 -- A name suits where its list is one signal, and that has `#` in the body.
-use native.Mathlib.Omega.{arith}
 use mathlib.Core.Path.{sym, ap, ◌∙◌}
 use mathlib.Core.List.{◌++◌}
 use lib.ListN.{length}
 use Rattle.meaning.specs.Body.{outside, shifting}
-use Rattle.meaning.specs.Bounds.{signals_most}
-use Rattle.sets.proofs.Tidy.{TidyBelow}
 use Rattle.signals.specs.Names.{list_at}
-use Rattle.assigns.proofs.Rows.{tidy_below}
 use Rattle.arguments.proofs.Named.{single, not_one, one_inside}
 use Rattle.arguments.proofs.suits.Goals as goal
 
@@ -16,11 +12,6 @@ returns-then-signals-ne1 c =
     λ b uses.
     not_one (list_at c.args.lists.now c.args.i) (outside b ++ shifting b)
     (λ e. c.if-signals-ne1.true (ap length c.signals_of-signals.ensures ∙ e))
-
-pub needed-requires : goal.needed-requires
-needed-requires c =
-    let tidy : TidyBelow signals_most c.signals_of-signals.result.now = rw c.signals_of-signals.ensures c.requires.2 in
-    (c.requires.3, tidy_below tidy 0 (omega arith))
 
 pub returns : goal.returns
 returns c =

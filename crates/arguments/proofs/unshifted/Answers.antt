@@ -10,9 +10,6 @@ use Rattle.tokens.proofs.Bools.{neither}
 use Rattle.meaning.specs.Bounds.{signals_most}
 use Rattle.arguments.proofs.unshifted.Goals as goal
 
-pub loop-mark-init : goal.loop-mark-init
-loop-mark-init c = λ e k l. absurd (omega arith)
-
 pub loop-mark-preserved : goal.loop-mark-preserved
 loop-mark-preserved c =
     let loop = c.loop-mark in
