@@ -50,7 +50,7 @@ pub fn usable(mark: u8, t: usize) -> bool
     (mark == SUMMED) | ((mark == SHIFTED) & (t != 0))
 }
 
-// ---- a byte of a row
+// ---- a byte of a row: a row goes by its number in the buffer of all, since one is read while another is written
 
 fn byte(sums: &[u8], r: usize, p: usize) -> u8
     requires { (r * row_size + row_size ≤ length sums.now) × (p < row_size) }
