@@ -50,7 +50,7 @@ pub fn usable(mark: u8, t: usize) -> bool
     (mark == SUMMED) | ((mark == SHIFTED) & (t != 0))
 }
 
-// ---- a byte of a row
+// ---- a byte of a row: a row goes by its number in the buffer of all, since one is read while another is written
 
 fn byte(sums: &[u8], r: usize, p: usize) -> u8
     requires { (r * row_size + row_size ≤ length sums.now) × (p < row_size) }
@@ -534,29 +534,18 @@ fn fits_slot(row: &[u8], p: usize, waves: &[u8], t: usize, s: usize, x: u8) -> b
     fits(waves, t, s, x)
 }
 
-// Can it under each table whose slot the row marks, from a place on? Mostly none is marked, which one look tells.
-fn fits_tables(row: &[u8], place: usize, waves: &[u8], s: usize, x: u8) -> bool
-    requires { (length row.now ≡ row_size) × (place + slots ≤ row_size) × (length waves.now ≡ tables_most * table_size) × (s < signals_most) }
-    ensures { result ≡ true → (tabs : Tables) → Marked waves.now tabs → (k : ℕ) → k < tables_most → flag_in row.now (place + k) ≡ true → ok_at tabs (table_of k) s x ≡ true }
-{
-    if !any_marked(&row[place..place + timing::TABLES]) {
-        return true;
-    }
-    for t in 0..timing::TABLES {
-        if !fits_slot(row, place + t, waves, t, s, x) {
-            return false;
-        }
-    }
-    true
-}
-
-// Can it wherever the row shows what stood on the signal before, or its argument? `place` is where the slots of that stand.
+// Can it wherever the row shows what stood on the signal before, or its argument? `place` is where the slots of that stand. Mostly no table's is marked, which one look
+// tells.
 fn fits_where(row: &[u8], place: usize, waves: &[u8], s: usize, x: u8, table: usize) -> bool
     requires { (length row.now ≡ row_size) × (place + slots ≤ row_size) × (length waves.now ≡ tables_most * table_size) × (s < signals_most) }
     ensures { result ≡ true → (tabs : Tables) → Marked waves.now tabs → FitsWhere tabs place s x (table_of table) row.now }
 {
-    if !fits_tables(row, place, waves, s, x) {
-        return false;
+    if any_marked(&row[place..place + timing::TABLES]) {
+        for t in 0..timing::TABLES {
+            if !fits_slot(row, place + t, waves, t, s, x) {
+                return false;
+            }
+        }
     }
     fits_slot(row, place + timing::TABLES, waves, table, s, x)
 }
