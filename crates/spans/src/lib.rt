@@ -9,15 +9,15 @@ ghost use Rattle.meaning.specs.Reader.{ok, until as until_of};
 ghost use Rattle.meaning.specs.Timing.{Event, Wave, Tables, waveforms as waveforms_of, table as table_of, timing as timing_of};
 ghost use Rattle.meaning.specs.Document.{Read, document};
 ghost use Rattle.meaning.specs.Meaning.{table_at};
-ghost use Rattle.signals.specs.Names.{names_of};
 ghost use Rattle.timing.specs.Watch.{Watched};
 ghost use Rattle.waves.specs.Waves.{EntryAt};
 ghost use Rattle.spots.specs.Answers.{Answers, Behind};
-ghost use Rattle.spots.specs.Spots.{spots_most, spot_at, watch_of, sight_of, Spots, Listed};
+ghost use Rattle.spots.specs.Spots.{spots_most, spot_at, watch_of, sight_of, names_in, Spots, Listed};
 ghost use Rattle.meaning.specs.Edges.{Category, belongs, first_time, last_time, before as before_of, follows, events_of, period_at};
 ghost use Rattle.spans.specs.Spans.{char_first, chars_wide, inside as inside_of, table_wide, times_most, slots_most, slot_of, coded as coded_of, Sized, Spans};
 ghost use Rattle.spans.specs.Parts.{times_below, Timely, Fit, Spanning, Spanned, Put, Filled, Clear, Upto, owners_most, Held};
 
+use spots::Scope;
 use words::Cursor;
 
 // Characters that have times: from the first digit to the last letter.
@@ -290,94 +290,80 @@ fn table_times(text: &[u8], spots: &[usize], j: usize, firsts: &mut [u32], lasts
 
 // The waveforms of table j, read up to their closing brace.
 fn waveforms<'a>(
-    text: &'a [u8],
+    scope: Scope<'a>,
     c: Cursor,
-    places: &'a [usize],
-    lists: &[u16],
-    names: usize,
     j: usize,
     firsts: &mut [u32],
     lasts: &mut [u32],
 ) -> Cursor
-    requires firsts_len { (length firsts.old ≡ times_most) × (length lasts.old ≡ times_most) × (j < tables_most) × Listed lists.now names }
-    requires answers { (ws : List Wave) × (us : Toks) × Answers text.now c (until_of "}" (waveforms_of (names_of text.now places.now lists.now names)) []) ws us }
-    ensures { (ws : List Wave) (us : Toks) → Answers text.now c (until_of "}" (waveforms_of (names_of text.now places.now lists.now names)) []) ws us → Clear j firsts.old → Clear j lasts.old → Behind text.now result us × (Upto first_time j ws table_wide firsts.old firsts.new × Upto last_time j ws table_wide lasts.old lasts.new) }
+    requires firsts_len { (length firsts.old ≡ times_most) × (length lasts.old ≡ times_most) × (j < tables_most) × Listed scope.lists.now scope.names }
+    requires answers { (ws : List Wave) × (us : Toks) × Answers scope.text.now c (until_of "}" (waveforms_of (names_in scope)) []) ws us }
+    ensures { (ws : List Wave) (us : Toks) → Answers scope.entry.text.now c (until_of "}" (waveforms_of (names_in scope.entry)) []) ws us → Clear j firsts.old → Clear j lasts.old → Behind scope.entry.text.now result us × (Upto first_time j ws table_wide firsts.old firsts.new × Upto last_time j ws table_wide lasts.old lasts.new) }
 {
     let mut spots = [0usize; spots::SPOTS];
-    let cursor = spots::table_spots(text, c, places, lists, names, &mut spots);
-    table_times(text, &spots, j, firsts, lasts);
+    let cursor = spots::table_spots(scope, c, &mut spots);
+    table_times(scope.text, &spots, j, firsts, lasts);
     cursor
 }
 
 // Table j, from `WaveformTable` to its last brace.
 fn table<'a>(
-    text: &'a [u8],
+    scope: Scope<'a>,
     c: Cursor,
-    places: &'a [usize],
-    lists: &[u16],
-    names: usize,
     j: usize,
     firsts: &mut [u32],
     lasts: &mut [u32],
     periods: &mut [u64],
 ) -> Cursor
-    requires sized { Sized firsts.old lasts.old periods.old × Listed lists.now names }
-    requires held { (tabs : Tables) × (it : Tables) × (us : Toks) × Held j tabs firsts.old lasts.old periods.old × Answers text.now c (table_of (names_of text.now places.now lists.now names) tabs) it us }
-    ensures { (tabs it : Tables) (us : Toks) → Held j tabs firsts.old lasts.old periods.old → Answers text.now c (table_of (names_of text.now places.now lists.now names) tabs) it us → Behind text.now result us × Held (j + 1) it firsts.new lasts.new periods.new }
+    requires sized { Sized firsts.old lasts.old periods.old × Listed scope.lists.now scope.names }
+    requires held { (tabs : Tables) × (it : Tables) × (us : Toks) × Held j tabs firsts.old lasts.old periods.old × Answers scope.text.now c (table_of (names_in scope) tabs) it us }
+    ensures { (tabs it : Tables) (us : Toks) → Held j tabs firsts.old lasts.old periods.old → Answers scope.entry.text.now c (table_of (names_in scope.entry) tabs) it us → Behind scope.entry.text.now result us × Held (j + 1) it firsts.new lasts.new periods.new }
 {
-    let a = words::due(text, c, b"WaveformTable");
-    let d = words::name(text, a);
-    let h = spots::head(text, d);
-    let e = waveforms(text, h.cursor, places, lists, names, j, firsts, lasts);
+    let a = words::due(scope.text, c, b"WaveformTable");
+    let d = words::name(scope.text, a);
+    let h = spots::head(scope.text, d);
+    let e = waveforms(scope, h.cursor, j, firsts, lasts);
     periods[j] = h.n;
-    words::due(text, e, b"}")
+    words::due(scope.text, e, b"}")
 }
 
 // Further tables, up to the last brace of Timing.
 fn others<'a>(
-    text: &'a [u8],
+    scope: Scope<'a>,
     c: Cursor,
-    places: &'a [usize],
-    lists: &[u16],
-    names: usize,
     firsts: &mut [u32],
     lasts: &mut [u32],
     periods: &mut [u64],
 )
-    requires sized { Sized firsts.old lasts.old periods.old × Listed lists.now names }
-    requires held { (tabs : Tables) × (it : Tables) × (us : Toks) × Held 1 tabs firsts.old lasts.old periods.old × Answers text.now c (until_of "}" (table_of (names_of text.now places.now lists.now names)) tabs) it us }
-    ensures { (tabs it : Tables) (us : Toks) → Held 1 tabs firsts.old lasts.old periods.old → Answers text.now c (until_of "}" (table_of (names_of text.now places.now lists.now names)) tabs) it us → Spans it firsts.new lasts.new periods.new }
+    requires sized { Sized firsts.old lasts.old periods.old × Listed scope.lists.now scope.names }
+    requires held { (tabs : Tables) × (it : Tables) × (us : Toks) × Held 1 tabs firsts.old lasts.old periods.old × Answers scope.text.now c (until_of "}" (table_of (names_in scope)) tabs) it us }
+    ensures { (tabs it : Tables) (us : Toks) → Held 1 tabs firsts.old lasts.old periods.old → Answers scope.entry.text.now c (until_of "}" (table_of (names_in scope.entry)) tabs) it us → Spans it firsts.new lasts.new periods.new }
 {
     let mut cursor = c;
     let mut j = 1;
-    while words::until(text, cursor, b"}") {
-        cursor = table(
-            text, cursor, places, lists, names, j, firsts, lasts, periods,
-        );
+    while words::until(scope.text, cursor, b"}") {
+        cursor = table(scope, cursor, j, firsts, lasts, periods);
         j += 1;
     }
 }
 
 // The times of all tables, from the cursor that stands at Timing, over the names of signals and groups.
 pub fn fill<'a>(
-    text: &'a [u8],
+    scope: Scope<'a>,
     c: Cursor,
-    places: &'a [usize],
-    lists: &[u16],
-    names: usize,
     firsts: &mut [u32],
     lasts: &mut [u32],
     periods: &mut [u64],
 )
-    requires sized { Sized firsts.old lasts.old periods.old × Listed lists.now names }
+    requires sized { Sized firsts.old lasts.old periods.old × Listed scope.lists.now scope.names }
     requires by_index { (i : ℕ) → (get_or firsts.old i 0 ≡ 0) × (get_or lasts.old i 0 ≡ 0) × (get_or periods.old i 0 ≡ 0) }
-    requires answers { (it : Tables) × (us : Toks) × Answers text.now c (timing_of (names_of text.now places.now lists.now names)) it us }
-    ensures { (it : Tables) (us : Toks) → Answers text.now c (timing_of (names_of text.now places.now lists.now names)) it us → Spans it firsts.new lasts.new periods.new }
+    requires answers { (it : Tables) × (us : Toks) × Answers scope.text.now c (timing_of (names_in scope)) it us }
+    ensures { (it : Tables) (us : Toks) → Answers scope.entry.text.now c (timing_of (names_in scope.entry)) it us → Spans it firsts.new lasts.new periods.new }
 {
-    let a = words::due(text, c, b"Timing");
-    let b = words::due(text, a, b"{");
-    let d = table(text, b, places, lists, names, 0, firsts, lasts, periods);
-    others(text, d, places, lists, names, firsts, lasts, periods);
+    let a = words::due(scope.text, c, b"Timing");
+    let b = words::due(scope.text, a, b"{");
+    let d = table(scope, b, 0, firsts, lasts, periods);
+    others(scope, d, firsts, lasts, periods);
 }
 
 // The times of a text that was read, accepted or not.
@@ -391,7 +377,11 @@ pub fn of_text(text: &[u8], firsts: &mut [u32], lasts: &mut [u32], periods: &mut
     let mut lists = [0u16; signals::LISTS];
     let c = spots::opening(text);
     let f = signals::front(text, c, &mut places, &mut lists);
-    fill(
-        text, f.cursor, &places, &lists, f.names, firsts, lasts, periods,
-    );
+    let scope = Scope {
+        text,
+        places: &places,
+        lists: &lists,
+        names: f.names,
+    };
+    fill(scope, f.cursor, firsts, lasts, periods);
 }

@@ -1,5 +1,5 @@
 -- Spots: stored one by one, and those of an entry more.
-use Prim.Native.Nat.{ℕ, zero, suc, ◌+◌, ◌-◌, ◌*◌, ◌≤◌, ◌<◌, min}
+use Prim.Native.Nat.{ℕ, zero, suc, ◌+◌, ◌*◌, ◌≤◌, ◌<◌, min}
 use native.Mathlib.Omega.{arith}
 use mathlib.Core.Path.{◌≡◌, refl, sym, ap, ◌∙◌}
 use Rattle.std.proofs.Common.{None, Some}
@@ -20,7 +20,7 @@ use Rattle.meaning.specs.Services.{wave_of}
 use Rattle.words.proofs.Words.{zeros}
 use Rattle.timing.specs.Watch.{chars_events, Watched}
 use Rattle.timing.specs.Marks.{Below}
-use Rattle.timing.proofs.Watching.{watched_more}
+use Rattle.timing.proofs.Watching.{watched_more, watched_none}
 use Rattle.timing.proofs.Marking.{has_taken}
 use Rattle.spots.specs.Spots.{bytes_most, spots_most, spot_at, watch_of, sight_of, Spots, Stored}
 
@@ -139,10 +139,7 @@ taken_there s b sigs cs (x ∷ ws) {es} t p q w =
     by false f e g w u h t ih = ih (rest u t) w
 
 spots_none : (text spots : List ℕ) → ((i : ℕ) → get_or spots i 0 ≡ 0) → Spots text spots []
-unfolding wave_of
-spots_none text spots z = record {
-  each = λ s b q. rw (z (s * bytes_most + b)) (record { no = λ k. refl; yes = λ k. absurd (let z : ◌≡◌ {A = ℕ} 0 1 = cc in omega arith) });
-}
+spots_none text spots z = record { each = λ s b q. rw (z (s * bytes_most + b)) (watched_none text (watch_of s b)) }
 
 -- spots before any entry is read
 pub blank_spots : (text : List ℕ) → Spots text (replicate spots_most 0) []

@@ -3,13 +3,15 @@ use Rattle.std.specs.Prelude.{ℕ, zero, suc, ◌+◌, ◌*◌, ◌<◌, ◌≡�
 use Rattle.tokens.specs.Tokens.{Tok}
 use Rattle.meaning.specs.Bounds.{signals_most}
 use Rattle.meaning.specs.Lists.{has}
+use Rattle.meaning.specs.Signals.{Names}
 use Rattle.meaning.specs.Timing.{Wave}
 use Rattle.meaning.specs.Meaning.{firsts}
 use Rattle.words.specs.Table.{names}
-use Rattle.signals.specs.Names.{names_most, row_length, list_at}
+use Rattle.signals.specs.Names.{names_most, row_length, list_at, names_of}
 use Rattle.timing.specs.Watch.{Watched}
 use Rattle.timing.specs.declared.Watch.{Watch}
 use Rattle.timing.specs.Marks.{Below}
+use Rattle.spots.specs.declared.Scope.{Scope}
 
 -- bytes that a character can be
 abbrev pub bytes_most : ℕ
@@ -42,6 +44,10 @@ pub record Stored (before sigs w : List ℕ) (v : ℕ) (after : List ℕ) : Type
 pub record Listed (lists : List ℕ) (names : ℕ) : Type 0 where
   pub sized : length lists ≡ names_most * row_length
   pub below : (i : ℕ) → i < names → Below (list_at lists i)
+
+-- the names that waveforms are read with
+abbrev pub names_in : Scope → Names
+names_in s = names_of s.text.now s.places.now s.lists.now s.names
 
 -- the signals of a text, of which the code has the names
 abbrev pub signals_in : List ℕ → List ℕ → ℕ → List Tok

@@ -7,11 +7,10 @@ ghost use Rattle.meaning.specs.Bounds.{entry_most, signals_most};
 ghost use Rattle.meaning.specs.Reader.{Reader, until as until_of};
 ghost use Rattle.meaning.specs.Timing.{Events, Wave, Tables, event as event_of, entry as entry_of, waveforms as waveforms_of};
 ghost use Rattle.sets.specs.Sets.{list_of};
-ghost use Rattle.signals.specs.Names.{names_of};
 ghost use Rattle.timing.specs.Marks.{Below};
 ghost use Rattle.timing.specs.Parts.{head_then};
 ghost use Rattle.spots.specs.Answers.{Answers, Behind, Opens};
-ghost use Rattle.spots.specs.Spots.{spots_most, Spots, Stored, Listed};
+ghost use Rattle.spots.specs.Spots.{spots_most, names_in, Spots, Stored, Listed};
 
 use sets::Set;
 use words::Cursor;
@@ -20,6 +19,15 @@ use words::Cursor;
 pub const BYTES: usize = 256;
 
 pub const SPOTS: usize = sets::MOST * BYTES;
+
+// What waveforms are read in: a text, and its signals and groups by the places of their names, each with its signals.
+#[derive(Clone, Copy)]
+pub struct Scope<'a> {
+    pub text: &'a [u8],
+    pub places: &'a [usize],
+    pub lists: &'a [u16],
+    pub names: usize,
+}
 
 // Further events of an entry, up to its closing brace.
 fn events(text: &[u8], c: Cursor) -> Cursor
@@ -82,42 +90,28 @@ fn entries_spots(text: &[u8], c: Cursor, set: Set, spots: &mut [usize]) -> Curso
 }
 
 // Those of a name: a signal, or a group for each of its signals.
-fn name_spots<'a>(
-    text: &'a [u8],
-    c: Cursor,
-    places: &'a [usize],
-    lists: &[u16],
-    names: usize,
-    spots: &mut [usize],
-) -> Cursor
-    requires spots_len { (length spots.old ≡ spots_most) × Listed lists.now names }
-    requires spots { (ws : List Wave) × (a : List Wave) × (us : Toks) × Spots text.now spots.old ws × Answers text.now c (waveforms_of (names_of text.now places.now lists.now names) ws) a us }
-    ensures { (ws a : List Wave) (us : Toks) → Spots text.now spots.old ws → Answers text.now c (waveforms_of (names_of text.now places.now lists.now names) ws) a us → Behind text.now result us × Spots text.now spots.new a }
+fn name_spots<'a>(scope: Scope<'a>, c: Cursor, spots: &mut [usize]) -> Cursor
+    requires spots_len { (length spots.old ≡ spots_most) × Listed scope.lists.now scope.names }
+    requires spots { (ws : List Wave) × (a : List Wave) × (us : Toks) × Spots scope.text.now spots.old ws × Answers scope.text.now c (waveforms_of (names_in scope) ws) a us }
+    ensures { (ws a : List Wave) (us : Toks) → Spots scope.entry.text.now spots.old ws → Answers scope.entry.text.now c (waveforms_of (names_in scope.entry) ws) a us → Behind scope.entry.text.now result us × Spots scope.entry.text.now spots.new a }
 {
-    let old = words::old_name(text, c, places, names);
-    let d = words::due(text, old.cursor, b"{");
-    let set = signals::set_at(lists, old.number);
-    entries_spots(text, d, set, spots)
+    let old = words::old_name(scope.text, c, scope.places, scope.names);
+    let d = words::due(scope.text, old.cursor, b"{");
+    let set = signals::set_at(scope.lists, old.number);
+    entries_spots(scope.text, d, set, spots)
 }
 
 // Those of a whole table, up to the closing brace of its Waveforms.
-pub fn table_spots<'a>(
-    text: &'a [u8],
-    c: Cursor,
-    places: &'a [usize],
-    lists: &[u16],
-    names: usize,
-    spots: &mut [usize],
-) -> Cursor
-    requires spots_len { (length spots.old ≡ spots_most) × Listed lists.now names }
-    requires spots { (ws : List Wave) × (a : List Wave) × (us : Toks) × Spots text.now spots.old ws × Answers text.now c (until_of "}" (waveforms_of (names_of text.now places.now lists.now names)) ws) a us }
-    ensures { (ws a : List Wave) (us : Toks) → Spots text.now spots.old ws → Answers text.now c (until_of "}" (waveforms_of (names_of text.now places.now lists.now names)) ws) a us → Behind text.now result us × Spots text.now spots.new a }
+pub fn table_spots<'a>(scope: Scope<'a>, c: Cursor, spots: &mut [usize]) -> Cursor
+    requires spots_len { (length spots.old ≡ spots_most) × Listed scope.lists.now scope.names }
+    requires spots { (ws : List Wave) × (a : List Wave) × (us : Toks) × Spots scope.text.now spots.old ws × Answers scope.text.now c (until_of "}" (waveforms_of (names_in scope)) ws) a us }
+    ensures { (ws a : List Wave) (us : Toks) → Spots scope.entry.text.now spots.old ws → Answers scope.entry.text.now c (until_of "}" (waveforms_of (names_in scope.entry)) ws) a us → Behind scope.entry.text.now result us × Spots scope.entry.text.now spots.new a }
 {
     let mut cursor = c;
-    while words::until(text, cursor, b"}") {
-        cursor = name_spots(text, cursor, places, lists, names, spots);
+    while words::until(scope.text, cursor, b"}") {
+        cursor = name_spots(scope, cursor, spots);
     }
-    words::due(text, cursor, b"}")
+    words::due(scope.text, cursor, b"}")
 }
 
 // What stands between a table's name and its waveforms; its period.

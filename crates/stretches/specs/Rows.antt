@@ -5,6 +5,7 @@ use Rattle.meaning.specs.Meaning.{firsts}
 use Rattle.words.specs.Table.{names}
 use Rattle.folded.specs.Flat.{Row}
 use Rattle.folded.specs.Same.{words_of}
+use Rattle.stretches.specs.declared.Names.{Names}
 
 -- the row of some bytes, over n signals
 abbrev pub row_in : ℕ → List ℕ → Row
@@ -18,6 +19,13 @@ rows_in n buffer r (suc k) = row_in n (take (n + 2) (drop (r * (n + 2)) buffer))
 -- the words of the first so many names of a table
 abbrev pub words_in : List ℕ → List ℕ → ℕ → List (List ℕ)
 words_in text places count = words_of (firsts (names text places count))
+
+-- those of a text's signals, and of its tables
+abbrev pub signal_words : Names → List (List ℕ)
+signal_words n = words_in n.text.now n.places.now n.signals
+
+abbrev pub table_words : Names → List (List ℕ)
+table_words n = words_in n.text.now n.tplaces.now n.tables
 
 -- NAME=CHARACTER; of a pin that has a value
 unfoldable pub value_bytes : List ℕ → ℕ → List ℕ

@@ -10,7 +10,7 @@ ghost use Rattle.folded.specs.Flat.{loses as loses_of, same_row, chooses, repeat
 ghost use Rattle.folded.specs.Layout.{name_at, vector_put, line_put};
 ghost use Rattle.folded.specs.Walk.{opened, closed, flushed};
 ghost use Rattle.pens.specs.Pens.{Writes};
-ghost use Rattle.stretches.specs.Rows.{row_in, rows_in, words_in, value_bytes};
+ghost use Rattle.stretches.specs.Rows.{row_in, rows_in, words_in, signal_words, table_words, value_bytes};
 ghost use Rattle.stretches.specs.Folding.{in_force, Taking, Follows, Takes, Opens, Ends};
 
 use pens::Pen;
@@ -32,6 +32,16 @@ pub struct Folding {
     pub times: usize,
 }
 
+// A text's signals and tables by the places of their names, and how many there are.
+#[derive(Clone, Copy)]
+pub struct Names<'a> {
+    pub text: &'a [u8],
+    pub places: &'a [usize],
+    pub tplaces: &'a [usize],
+    pub tables: usize,
+    pub signals: usize,
+}
+
 // ---- rows
 
 // Does some pin go from assigned to unassigned?
@@ -48,11 +58,7 @@ fn table_of(row: &[u8], signals: usize) -> usize
     requires { signals < length row.now }
     ensures { result ≡ get_or row.now signals 0 - 48 }
 {
-    let digit = row[signals];
-    if digit < ZERO {
-        return 0;
-    }
-    (digit - ZERO) as usize
+    row[signals].saturating_sub(ZERO) as usize
 }
 
 // Do two rows show the same?
@@ -138,29 +144,34 @@ fn choose<'a>(
 }
 
 // The row in hand: its table if that is not in force, then its V or Loop.
-fn flush<'a>(
-    page: &mut [u8],
-    f: Folding,
-    text: &'a [u8],
-    places: &'a [usize],
-    tplaces: &'a [usize],
-    tables: usize,
-    signals: usize,
-    hand: &[u8],
-) -> Pen
-    requires { signals < length hand.now }
-    ensures { Writes page.old f.pen (laid (flushed (words_in text.now places.now signals) (words_in text.now tplaces.now tables) (in_force f.table) (row_in signals hand.now) f.times [])) page.new result }
+fn flush<'a>(page: &mut [u8], f: Folding, names: Names<'a>, hand: &[u8]) -> Pen
+    requires { names.signals < length hand.now }
+    ensures { Writes page.old f.pen (laid (flushed (signal_words names.entry) (table_words names.entry) (in_force f.table) (row_in names.entry.signals hand.now) f.times [])) page.new result }
 {
     let pen = f.pen;
     if pen.at.is_none() {
         return pen;
     }
-    let table = table_of(hand, signals);
+    let table = table_of(hand, names.signals);
     if f.table == Some(table) {
-        return repeat(page, pen, text, places, f.times, &hand[..signals]);
+        return repeat(
+            page,
+            pen,
+            names.text,
+            names.places,
+            f.times,
+            &hand[..names.signals],
+        );
     }
-    let p = choose(page, pen, text, tplaces, tables, table);
-    repeat(page, p, text, places, f.times, &hand[..signals])
+    let p = choose(page, pen, names.text, names.tplaces, names.tables, table);
+    repeat(
+        page,
+        p,
+        names.text,
+        names.places,
+        f.times,
+        &hand[..names.signals],
+    )
 }
 
 // ---- Patterns
@@ -196,22 +207,12 @@ fn part(page: &mut [u8], pen: Pen, i: usize) -> Pen
 }
 
 // Another row than the one in hand, which is written; where a pin loses its value a Pattern begins.
-fn next<'a>(
-    page: &mut [u8],
-    f: Folding,
-    text: &'a [u8],
-    places: &'a [usize],
-    tplaces: &'a [usize],
-    tables: usize,
-    signals: usize,
-    hand: &[u8],
-    row: &[u8],
-) -> Folding
-    requires { Taking signals f 1 hand.now × (length row.now ≡ signals + 2) × (1 ≤ f.times) × (same_row (row_in signals hand.now) (row_in signals row.now) ≡ false) }
-    ensures { Follows (words_in text.now places.now signals) (words_in text.now tplaces.now tables) page.old f (row_in signals hand.now) (row_in signals row.now) page.new result }
+fn next<'a>(page: &mut [u8], f: Folding, names: Names<'a>, hand: &[u8], row: &[u8]) -> Folding
+    requires { Taking names.signals f 1 hand.now × (length row.now ≡ names.signals + 2) × (1 ≤ f.times) × (same_row (row_in names.signals hand.now) (row_in names.signals row.now) ≡ false) }
+    ensures { Follows (signal_words names.entry) (table_words names.entry) page.old f (row_in names.entry.signals hand.now) (row_in names.entry.signals row.now) page.new result }
 {
-    let p = flush(page, f, text, places, tplaces, tables, signals, hand);
-    if loses(&hand[..signals], &row[..signals]) {
+    let p = flush(page, f, names, hand);
+    if loses(&hand[..names.signals], &row[..names.signals]) {
         let i = f.pattern + 1;
         let q = part(page, p, i);
         return Folding {
@@ -221,7 +222,7 @@ fn next<'a>(
             times: 1,
         };
     }
-    let table = table_of(hand, signals);
+    let table = table_of(hand, names.signals);
     Folding {
         pen: p,
         pattern: f.pattern,
@@ -231,48 +232,28 @@ fn next<'a>(
 }
 
 // One row: the first, the same once more, or another.
-fn step<'a>(
-    page: &mut [u8],
-    f: Folding,
-    text: &'a [u8],
-    places: &'a [usize],
-    tplaces: &'a [usize],
-    tables: usize,
-    signals: usize,
-    hand: &[u8],
-    row: &[u8],
-) -> Folding
-    requires { Taking signals f 1 hand.now × (length row.now ≡ signals + 2) }
-    ensures { Follows (words_in text.now places.now signals) (words_in text.now tplaces.now tables) page.old f (row_in signals hand.now) (row_in signals row.now) page.new result }
+fn step<'a>(page: &mut [u8], f: Folding, names: Names<'a>, hand: &[u8], row: &[u8]) -> Folding
+    requires { Taking names.signals f 1 hand.now × (length row.now ≡ names.signals + 2) }
+    ensures { Follows (signal_words names.entry) (table_words names.entry) page.old f (row_in names.entry.signals hand.now) (row_in names.entry.signals row.now) page.new result }
 {
     if f.times == 0 {
         return Folding { times: 1, ..f };
     }
-    if same_row(hand, row, signals) {
+    if same_row(hand, row, names.signals) {
         return Folding {
             times: f.times + 1,
             ..f
         };
     }
-    next(page, f, text, places, tplaces, tables, signals, hand, row)
+    next(page, f, names, hand, row)
 }
 
 // One row, and then it is in hand.
-fn turn<'a>(
-    page: &mut [u8],
-    f: Folding,
-    text: &'a [u8],
-    places: &'a [usize],
-    tplaces: &'a [usize],
-    tables: usize,
-    signals: usize,
-    hand: &mut [u8],
-    row: &[u8],
-) -> Folding
-    requires { Taking signals f 1 hand.old × (length row.now ≡ signals + 2) }
-    ensures { Takes (words_in text.now places.now signals) (words_in text.now tplaces.now tables) signals page.old f hand.old (row_in signals row.now ∷ []) page.new result hand.new }
+fn turn<'a>(page: &mut [u8], f: Folding, names: Names<'a>, hand: &mut [u8], row: &[u8]) -> Folding
+    requires { Taking names.signals f 1 hand.old × (length row.now ≡ names.signals + 2) }
+    ensures { Takes (signal_words names.entry) (table_words names.entry) names.entry.signals page.old f hand.old (row_in names.entry.signals row.now ∷ []) page.new result hand.new }
 {
-    let g = step(page, f, text, places, tplaces, tables, signals, hand, row);
+    let g = step(page, f, names, hand, row);
     if 1 < g.times {
         return g;
     }
@@ -284,55 +265,32 @@ fn turn<'a>(
 pub fn rows<'a>(
     page: &mut [u8],
     f: Folding,
-    text: &'a [u8],
-    places: &'a [usize],
-    tplaces: &'a [usize],
-    tables: usize,
-    signals: usize,
+    names: Names<'a>,
     hand: &mut [u8],
     buffer: &[u8],
     count: usize,
 ) -> Folding
-    requires { Taking signals f count hand.old × (count * (signals + 2) ≤ length buffer.now) }
-    ensures { Takes (words_in text.now places.now signals) (words_in text.now tplaces.now tables) signals page.old f hand.old (rows_in signals buffer.now 0 count) page.new result hand.new }
+    requires { Taking names.signals f count hand.old × (count * (names.signals + 2) ≤ length buffer.now) }
+    ensures { Takes (signal_words names.entry) (table_words names.entry) names.entry.signals page.old f hand.old (rows_in names.entry.signals buffer.now 0 count) page.new result hand.new }
 {
     let mut g = f;
     for r in 0..count {
-        let at = r * (signals + TAIL);
-        let end = at + (signals + TAIL);
-        g = turn(
-            page,
-            g,
-            text,
-            places,
-            tplaces,
-            tables,
-            signals,
-            hand,
-            &buffer[at..end],
-        );
+        let at = r * (names.signals + TAIL);
+        let end = at + (names.signals + TAIL);
+        g = turn(page, g, names, hand, &buffer[at..end]);
     }
     g
 }
 
 // The last row, and the Pattern's end.
-pub fn finish<'a>(
-    page: &mut [u8],
-    f: Folding,
-    text: &'a [u8],
-    places: &'a [usize],
-    tplaces: &'a [usize],
-    tables: usize,
-    signals: usize,
-    hand: &[u8],
-) -> Pen
-    requires { signals < length hand.now }
-    ensures { Ends (words_in text.now places.now signals) (words_in text.now tplaces.now tables) signals page.old f hand.now page.new result }
+pub fn finish<'a>(page: &mut [u8], f: Folding, names: Names<'a>, hand: &[u8]) -> Pen
+    requires { names.signals < length hand.now }
+    ensures { Ends (signal_words names.entry) (table_words names.entry) names.entry.signals page.old f hand.now page.new result }
 {
     let pen = f.pen;
     if f.times == 0 {
         return pens::add(page, pen, b"}\n");
     }
-    let p = flush(page, f, text, places, tplaces, tables, signals, hand);
+    let p = flush(page, f, names, hand);
     pens::add(page, p, b"}\n")
 }

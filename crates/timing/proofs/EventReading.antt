@@ -21,8 +21,8 @@ use Rattle.words.specs.Cursor.{alive, stream, Goes, Checked}
 use Rattle.words.specs.declared.Cursor.{Cursor}
 use Rattle.words.proofs.Flow.{then, given, checked, passed, recast, stays, read, alive_before, refused_by, refused_no}
 use Rattle.timing.specs.Makes.{Makes}
-use Rattle.timing.specs.Events.{all_events, Lettered, Timed, Adding}
-use Rattle.timing.proofs.Making.{either, if_yes, if_no, known_by, made}
+use Rattle.timing.specs.Events.{all_events, Lettered, Timed}
+use Rattle.timing.proofs.Making.{either, if_yes, if_no, made}
 use Rattle.timing.proofs.EventLetters.{takes_letters, gives_letters}
 
 -- ---- the code's tests are the definition's

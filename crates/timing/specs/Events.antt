@@ -1,5 +1,5 @@
 -- What the code has of an entry's letters and events.
-use Rattle.std.specs.Prelude.{ℕ, suc, ◌+◌, ◌*◌, ◌<◌, min, ◌≡◌, Bool, true, false, cond, ◌&&◌, ◌||◌, List, [], ◌∷◌, length, get_or, leb, Option as Maybe, MatchOption}
+use Rattle.std.specs.Prelude.{ℕ, suc, ◌+◌, ◌*◌, ◌<◌, min, ◌≡◌, Bool, true, cond, ◌&&◌, ◌||◌, List, [], ◌∷◌, length, get_or, leb, Option as Maybe, MatchOption}
 use Rattle.std.proofs.Math.Option.{none, some}
 use Rattle.meaning.specs.Bounds.{entry_most}
 use Rattle.meaning.specs.Timing.{drives, compares, rises, add_events, Event, Events, blanks, event}

@@ -117,9 +117,6 @@ unfolding entries_of
 entries_over s ws chars i h = rw (drop_of_length-le chars h)
 
 module _ (s : ℕ) (ws : List Wave) (chars : List ℕ) (i : ℕ) where
-  pub all_over : {all : Entries} → all ≡ entries_of s ws (drop i chars) → length chars ≤ i → all ≡ []
-  all_over e h = e ∙ entries_over s ws chars i h
-
   pub all_put : (front : Entries) {all : Entries} → front ++ entries_of s ws (drop i chars) ≡ all → length chars ≤ i → front ≡ all
   all_put front e h = sym (append-nil front) ∙ ap (λ (l : Entries). front ++ l) (sym (entries_over s ws chars i h)) ∙ e
 

@@ -8,18 +8,17 @@ ghost use Rattle.meaning.specs.Bounds.{signals_most};
 ghost use Rattle.meaning.specs.Reader.{until as until_of};
 ghost use Rattle.meaning.specs.Timing.{Event, Wave, Tables, waveforms as waveforms_of, table as table_of, timing as timing_of};
 ghost use Rattle.meaning.specs.Meaning.{given, Meaning, meaning};
-ghost use Rattle.signals.specs.Names.{names_of};
 ghost use Rattle.waves.specs.Waves.{EntryAt};
 ghost use Rattle.folded.specs.Pieces.{laid, each};
 ghost use Rattle.folded.specs.Flat.{characters, entries_of, chart as chart_of, charts_from, sheets, flat};
 ghost use Rattle.folded.specs.Layout.{event_put, entry_put, chart_put, timing_put};
 ghost use Rattle.pens.specs.Pens.{Writes};
 ghost use Rattle.spots.specs.Answers.{Answers, Behind};
-ghost use Rattle.spots.specs.Spots.{bytes_most, spots_most, spot_at, Spots, Listed, signals_in};
+ghost use Rattle.spots.specs.Spots.{bytes_most, spots_most, spot_at, names_in, Spots, Listed, signals_in};
 ghost use Rattle.timings.specs.Lines.{titled, charted, OneSheet, MoreSheets};
 
 use pens::Pen;
-use spots::BYTES;
+use spots::{BYTES, Scope};
 use words::Cursor;
 
 // ---- writing
@@ -129,27 +128,18 @@ struct Sheet {
 }
 
 // The waveforms of a table, read up to their closing brace, and its signals' lines with their own.
-fn waveforms<'a>(
-    page: &mut [u8],
-    pen: Pen,
-    text: &'a [u8],
-    c: Cursor,
-    places: &'a [usize],
-    lists: &[u16],
-    names: usize,
-    count: usize,
-) -> Sheet
-    requires listed { Listed lists.now names × (count ≤ signals_most) }
-    requires answers { (ws : List Wave) × (us : Toks) × Answers text.now c (until_of "}" (waveforms_of (names_of text.now places.now lists.now names)) []) ws us }
-    ensures { (ws : List Wave) (us : Toks) → Answers text.now c (until_of "}" (waveforms_of (names_of text.now places.now lists.now names)) []) ws us → Behind text.now result.cursor us × Writes page.old pen (charted (charts_from 0 (signals_in text.now places.now count) ws)) page.new result.pen }
+fn waveforms<'a>(page: &mut [u8], pen: Pen, scope: Scope<'a>, c: Cursor, count: usize) -> Sheet
+    requires listed { Listed scope.lists.now scope.names × (count ≤ signals_most) }
+    requires answers { (ws : List Wave) × (us : Toks) × Answers scope.text.now c (until_of "}" (waveforms_of (names_in scope)) []) ws us }
+    ensures { (ws : List Wave) (us : Toks) → Answers scope.entry.text.now c (until_of "}" (waveforms_of (names_in scope.entry)) []) ws us → Behind scope.entry.text.now result.cursor us × Writes page.old pen (charted (charts_from 0 (signals_in scope.entry.text.now scope.entry.places.now count) ws)) page.new result.pen }
 {
     let mut spots = [0usize; spots::SPOTS];
-    let cursor = spots::table_spots(text, c, places, lists, names, &mut spots);
+    let cursor = spots::table_spots(scope, c, &mut spots);
     let p = charts(
         page,
         pen,
-        text,
-        places,
+        scope.text,
+        scope.places,
         count,
         b"0123456789ABCDEFGHIJKLMNOPQRSTUVWXYZabcdefghijklmnopqrstuvwxyz",
         &spots,
@@ -159,49 +149,31 @@ fn waveforms<'a>(
 }
 
 // A table, from `WaveformTable` to its last brace.
-fn table<'a>(
-    page: &mut [u8],
-    pen: Pen,
-    text: &'a [u8],
-    c: Cursor,
-    places: &'a [usize],
-    lists: &[u16],
-    names: usize,
-    count: usize,
-) -> Sheet
-    requires listed { Listed lists.now names × (count ≤ signals_most) }
-    requires answers { (tabs : Tables) × (it : Tables) × (us : Toks) × Answers text.now c (table_of (names_of text.now places.now lists.now names) tabs) it us }
-    ensures { (tabs it : Tables) (us : Toks) → Answers text.now c (table_of (names_of text.now places.now lists.now names) tabs) it us → Behind text.now result.cursor us × OneSheet page.old pen (signals_in text.now places.now count) tabs it page.new result.pen }
+fn table<'a>(page: &mut [u8], pen: Pen, scope: Scope<'a>, c: Cursor, count: usize) -> Sheet
+    requires listed { Listed scope.lists.now scope.names × (count ≤ signals_most) }
+    requires answers { (tabs : Tables) × (it : Tables) × (us : Toks) × Answers scope.text.now c (table_of (names_in scope) tabs) it us }
+    ensures { (tabs it : Tables) (us : Toks) → Answers scope.entry.text.now c (table_of (names_in scope.entry) tabs) it us → Behind scope.entry.text.now result.cursor us × OneSheet page.old pen (signals_in scope.entry.text.now scope.entry.places.now count) tabs it page.new result.pen }
 {
-    let a = words::due(text, c, b"WaveformTable");
-    let d = words::name(text, a);
-    let h = spots::head(text, d);
-    let p = title(page, pen, words::bytes_of(text, a.at, a.end), h.n);
-    let x = waveforms(page, p, text, h.cursor, places, lists, names, count);
-    let cursor = words::due(text, x.cursor, b"}");
+    let a = words::due(scope.text, c, b"WaveformTable");
+    let d = words::name(scope.text, a);
+    let h = spots::head(scope.text, d);
+    let p = title(page, pen, words::bytes_of(scope.text, a.at, a.end), h.n);
+    let x = waveforms(page, p, scope, h.cursor, count);
+    let cursor = words::due(scope.text, x.cursor, b"}");
     let pen = x.pen;
     Sheet { cursor, pen }
 }
 
 // Further tables, up to the last brace of Timing.
-fn others<'a>(
-    page: &mut [u8],
-    pen: Pen,
-    text: &'a [u8],
-    c: Cursor,
-    places: &'a [usize],
-    lists: &[u16],
-    names: usize,
-    count: usize,
-) -> Pen
-    requires listed { Listed lists.now names × (count ≤ signals_most) }
-    requires answers { (tabs : Tables) × (it : Tables) × (us : Toks) × Answers text.now c (until_of "}" (table_of (names_of text.now places.now lists.now names)) tabs) it us }
-    ensures { (tabs it : Tables) (us : Toks) → Answers text.now c (until_of "}" (table_of (names_of text.now places.now lists.now names)) tabs) it us → MoreSheets page.old pen (signals_in text.now places.now count) tabs it page.new result }
+fn others<'a>(page: &mut [u8], pen: Pen, scope: Scope<'a>, c: Cursor, count: usize) -> Pen
+    requires listed { Listed scope.lists.now scope.names × (count ≤ signals_most) }
+    requires answers { (tabs : Tables) × (it : Tables) × (us : Toks) × Answers scope.text.now c (until_of "}" (table_of (names_in scope)) tabs) it us }
+    ensures { (tabs it : Tables) (us : Toks) → Answers scope.entry.text.now c (until_of "}" (table_of (names_in scope.entry)) tabs) it us → MoreSheets page.old pen (signals_in scope.entry.text.now scope.entry.places.now count) tabs it page.new result }
 {
     let mut cursor = c;
     let mut p = pen;
-    while words::until(text, cursor, b"}") {
-        let x = table(page, p, text, cursor, places, lists, names, count);
+    while words::until(scope.text, cursor, b"}") {
+        let x = table(page, p, scope, cursor, count);
         cursor = x.cursor;
         p = x.pen;
     }
@@ -209,25 +181,16 @@ fn others<'a>(
 }
 
 // Timing{ .. }: from the cursor that stands at it, over the names of signals and groups.
-pub fn tables<'a>(
-    page: &mut [u8],
-    pen: Pen,
-    text: &'a [u8],
-    c: Cursor,
-    places: &'a [usize],
-    lists: &[u16],
-    names: usize,
-    count: usize,
-) -> Pen
-    requires listed { Listed lists.now names × (count ≤ signals_most) }
-    requires answers { (it : Tables) × (us : Toks) × Answers text.now c (timing_of (names_of text.now places.now lists.now names)) it us }
-    ensures { (it : Tables) (us : Toks) → Answers text.now c (timing_of (names_of text.now places.now lists.now names)) it us → Writes page.old pen (laid (timing_put (sheets (signals_in text.now places.now count) it) [])) page.new result }
+pub fn tables<'a>(page: &mut [u8], pen: Pen, scope: Scope<'a>, c: Cursor, count: usize) -> Pen
+    requires listed { Listed scope.lists.now scope.names × (count ≤ signals_most) }
+    requires answers { (it : Tables) × (us : Toks) × Answers scope.text.now c (timing_of (names_in scope)) it us }
+    ensures { (it : Tables) (us : Toks) → Answers scope.entry.text.now c (timing_of (names_in scope.entry)) it us → Writes page.old pen (laid (timing_put (sheets (signals_in scope.entry.text.now scope.entry.places.now count) it) [])) page.new result }
 {
-    let a = words::due(text, c, b"Timing");
-    let b = words::due(text, a, b"{");
+    let a = words::due(scope.text, c, b"Timing");
+    let b = words::due(scope.text, a, b"{");
     let p = pens::add(page, pen, b"Timing{\n");
-    let x = table(page, p, text, b, places, lists, names, count);
-    let q = others(page, x.pen, text, x.cursor, places, lists, names, count);
+    let x = table(page, p, scope, b, count);
+    let q = others(page, x.pen, scope, x.cursor, count);
     pens::add(page, q, b"}\n")
 }
 
@@ -239,7 +202,11 @@ pub fn timing(page: &mut [u8], pen: Pen, text: &[u8]) -> Pen
     let mut lists = [0u16; signals::LISTS];
     let c = spots::opening(text);
     let f = signals::front(text, c, &mut places, &mut lists);
-    tables(
-        page, pen, text, f.cursor, &places, &lists, f.names, f.signals,
-    )
+    let scope = Scope {
+        text,
+        places: &places,
+        lists: &lists,
+        names: f.names,
+    };
+    tables(page, pen, scope, f.cursor, f.signals)
 }

@@ -1,28 +1,46 @@
--- The number of a character among some: one turn of the code's loop is one step of the definition.
+-- The number of a character among some, as the library's `position` has it.
 use Prim.Native.Nat.{ℕ, suc, ◌+◌, ◌≤◌, ◌<◌}
 use native.Mathlib.Omega.{arith}
-use mathlib.Core.Path.{◌≡◌}
-use mathlib.Core.Bool.{Bool, true, false, ◌||◌}
+use mathlib.Core.Path.{◌≡◌, refl, sym}
+use mathlib.Core.Bool.{Bool, true, false, cond, ◌||◌}
 use mathlib.Core.List.{List, [], ◌∷◌}
-use lib.Dec.{eqb}
-use lib.ListN.{length, get_or, drop, drop_of_length-le}
-use borrow.Author.Tests.{eq-eqb, ne_eqb}
+use lib.Dec.{eqb, ltb}
+use lib.ListN.{length}
+use borrow.Author.Tests.{ltb-false}
 use Rattle.meaning.specs.Lists.{has}
-use Rattle.words.proofs.Words.{cut}
+use Rattle.std.proofs.Common.{None, Some}
+use Rattle.std.specs.Option.{unwrap_or}
+use Rattle.std.proofs.lemmas.List.Recursion.{is_position_or_len}
+use Rattle.std.specs.List.{position, position_or_len}
 use Rattle.timing.specs.Watch.{number_of}
 
-module _ (w : List ℕ) (b i : ℕ) where
-  pub number_here : i < length w → get_or w i 0 ≡ b → number_of b (drop i w) ≡ 0
-  unfolding number_of
-  number_here h e = rw (cut w i h) (rw (eq-eqb (get_or w i 0) b e, number_of))
+number_position : (b : ℕ) (w : List ℕ) → number_of b w ≡ position_or_len (λ x. eqb x b) w
+unfolding number_of
+number_position b w = is_position_or_len (number_of b) (λ x. eqb x b) refl (λ x xs. by (eqb x b) (number_of b xs)) w
+  where
+    by : (y : Bool) (n : ℕ) → elim y [ true ↦ 0 | false ↦ suc n ] ≡ cond y 0 (1 + n)
+    by true n = refl
+    by false n = omega arith
 
-  pub number_more : i < length w → (get_or w i 0 ≡ b → ⊥) → number_of b (drop i w) ≡ suc (number_of b (drop (i + 1) w))
-  unfolding number_of
-  number_more h e = rw (cut w i h) (rw (ne_eqb (get_or w i 0) b e, number_of))
+number_most : (b : ℕ) (w : List ℕ) → number_of b w ≤ length w
+unfolding number_of
+number_most b [] = omega arith
+number_most b (x ∷ w) = by (eqb x b) (number_most b w)
+  where
+    by : (y : Bool) → number_of b w ≤ length w → elim y [ true ↦ 0 | false ↦ suc (number_of b w) ] ≤ suc (length w)
+    by true ih = omega arith
+    by false ih = omega arith
 
-  pub number_end : length w ≤ i → number_of b (drop i w) ≡ 0
-  unfolding number_of
-  number_end h = rw (drop_of_length-le w h)
+-- as many as there are where it is none of them
+pub number_or : (b : ℕ) (w : List ℕ) → unwrap_or (position (λ x. eqb x b) w) (length w) ≡ number_of b w
+number_or b w = by (ltb n (length w)) refl
+  where
+    n : ℕ
+    n = position_or_len (λ x. eqb x b) w
+
+    by : (y : Bool) → ltb n (length w) ≡ y → unwrap_or (cond y (Some n) None) (length w) ≡ number_of b w
+    by true e = sym (number_position b w)
+    by false e = omega (arith, ltb-false n (length w) e, number_most b w, number_position b w)
 
 pub number_below : (b : ℕ) (cs : List ℕ) → has b cs ≡ true → number_of b cs < length cs
 unfolding has number_of

@@ -12,18 +12,11 @@ use words::Cursor;
 // Events of an entry at most.
 pub const EVENTS: usize = 16;
 
-// The number of a character among CHARS.
+// The number of a character among CHARS; as many as there are where it isn't one.
 fn number_of(w: &[u8], b: u8) -> usize
     ensures { result ≡ number_of b w.now }
 {
-    let mut i = 0;
-    while i < w.len() {
-        if w[i] == b {
-            return i;
-        }
-        i += 1;
-    }
-    w.len()
+    w.iter().position(|x| *x == b).unwrap_or(w.len())
 }
 
 // An event that was read: its time in ps, counted from the earliest that there may be, and the letter of one character, and the cursor behind it.

@@ -22,7 +22,7 @@ pub loop-i-preserved : goal.loop-i-preserved
 loop-i-preserved c =
     let r = c.read-n.ensures c.requires.0 c.requires.1 in
     through_more _ _ _ c.loop-i.i c.loop-i-test.true (omega (arith, r.count, r.few, c.read-n.auto.times)) (omega (arith, r.count, r.few, c.read-n.auto.letters))
-        c.loop-i.invariant c.event-x.ensures
+    c.loop-i.invariant c.event-x.ensures
 
 pub returns : goal.returns
 returns c = λ es e t. through_all {i = c.loop-i.i} (c.read-n.ensures es e) refl refl (omega arith) c.loop-i.invariant t

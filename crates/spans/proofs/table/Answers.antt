@@ -1,7 +1,7 @@
 -- `table` meets its contract: its head, its waveforms, its period and its last brace.
 use native.Mathlib.Omega.{arith}
 use Rattle.tokens.specs.Written.{bytes}
-use Rattle.signals.specs.Names.{names_of}
+use Rattle.spots.specs.Spots.{names_in}
 use Rattle.spots.proofs.Tabling.{table_parts, table_ends}
 use Rattle.spans.proofs.Fitting.{waves_fit}
 use Rattle.spans.proofs.Tables.{table_few, held_more, held_clear}
@@ -10,7 +10,7 @@ use Rattle.spans.proofs.table.Goals as goal
 pub waveforms-e-requires : goal.waveforms-e-requires
 unfolding bytes
 waveforms-e-requires c =
-    let ns = names_of c.args.text.now c.args.places.now c.args.lists.now c.args.names in
+    let ns = names_in c.args.scope in
     let x = table_parts ns c.requires.held.0 c.requires.held.4 c.due-a.ensures c.name-d.ensures c.head-h.ensures in
     record { firsts_len = (c.requires.sized.0.first, c.requires.sized.0.last, omega (arith, x.few, c.requires.held.3.count), c.requires.sized.1); answers = (x.waves, x.rest, x.read) }
 
@@ -25,7 +25,7 @@ bounds-periods-j c = omega (arith, table_few _ c.requires.held.0 c.requires.held
 pub returns : goal.returns
 unfolding bytes
 returns c =
-    let ns = names_of c.args.text.now c.args.places.now c.args.lists.now c.args.names in
+    let ns = names_in c.args.scope in
     λ tabs it us h y. (
     let x = table_parts ns tabs y c.due-a.ensures c.name-d.ensures c.head-h.ensures in
     let z = held_clear h (omega (arith, x.few, h.count)) in

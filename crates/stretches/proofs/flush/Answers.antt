@@ -14,11 +14,11 @@ slice_bounds-repeat-end-2 c = sym (length-take-le _ c.args.hand.now (omega arith
 
 pub returns-then-eq : goal.returns-then-eq
 returns-then-eq c =
-    let long = length-take-le c.args.signals c.args.hand.now (omega (arith, c.requires)) in
+    let long = length-take-le c.args.names.signals c.args.hand.now (omega (arith, c.requires)) in
     writes_same (flush_same _ _ c.args.f.table c.args.f.times _ (rw c.table_of-table.ensures at (sym c.if-eq.ensures))) (rw long at c.repeat.ensures)
 
 pub returns : goal.returns
 returns c =
-    let long = length-take-le c.args.signals c.args.hand.now (omega (arith, c.requires)) in
+    let long = length-take-le c.args.names.signals c.args.hand.now (omega (arith, c.requires)) in
     writes_same (flush_other _ _ c.args.f.table c.args.f.times _ (rw c.table_of-table.ensures at (sym c.if-eq.ensures)))
     (writes_both (rw c.table_of-table.ensures at c.choose-p.ensures) (rw long at c.repeat-2.ensures))

@@ -1,5 +1,5 @@
 -- `mark_all` meets its contract. The invariant: the signals so far have their marks, and no other mark is changed.
-use mathlib.Core.Path.{refl, ◌∙◌}
+use mathlib.Core.Path.{◌∙◌}
 use Rattle.timing.proofs.Marking.{marked_no_signals, marked_signal, marked_all}
 use Rattle.timing.proofs.mark_all.Goals as goal
 

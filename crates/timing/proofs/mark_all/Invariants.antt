@@ -1,5 +1,4 @@
-use mathlib.Core.Path.{◌≡◌}
-use lib.ListN.{length, take}
+use lib.ListN.{take}
 use Rattle.timing.specs.Marks.{Marked}
 use Rattle.timing.proofs.mark_all.Given as goal
 

@@ -1,8 +1,7 @@
 -- `mark_chars` meets its contract. The invariant: the characters so far have their marks, and no other mark is changed.
 use native.Mathlib.Omega.{arith}
-use mathlib.Core.Path.{refl, ◌∙◌}
+use mathlib.Core.Path.{◌∙◌}
 use mathlib.Core.List.{[], ◌∷◌}
-use lib.ListN.{length-set}
 use Rattle.timing.proofs.Marking.{chars_below, marked_no_chars, marked_char, marked_word}
 use Rattle.timing.proofs.mark_chars.Goals as goal
 

@@ -1,6 +1,5 @@
-use mathlib.Core.Path.{◌≡◌}
 use mathlib.Core.List.{[], ◌∷◌}
-use lib.ListN.{length, take}
+use lib.ListN.{take}
 use Rattle.timing.specs.Marks.{Marked}
 use Rattle.timing.proofs.mark_chars.Given as goal
 

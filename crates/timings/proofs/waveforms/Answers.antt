@@ -30,4 +30,4 @@ returns c =
     let a = c.args in
     λ ws us x.
     let k = c.table_spots-cursor.ensures [] ws us (blank_spots _) x in
-    (k.0, charted_writes (charts_from 0 (signals_in a.text.now a.places.now a.count) ws) (c.charts-p.ensures ws k.1) c.add-pen.ensures)
+    (k.0, charted_writes (charts_from 0 (signals_in a.scope.text.now a.scope.places.now a.count) ws) (c.charts-p.ensures ws k.1) c.add-pen.ensures)

@@ -1,19 +1,15 @@
--- `number_of` meets its contract. The invariant: the number is i and that of the character among those from i on.
-use native.Mathlib.Omega.{arith}
-use Rattle.waves.proofs.Numbers.{number_here, number_more, number_end}
+-- `number_of` meets its contract: the library's `position`, or as many as there are.
+use Rattle.std.proofs.Common.{rules, ◌∙◌, ap, Option, ℕ, nat_eq}
+use Rattle.std.proofs.lemmas.Iterator.{YieldsList-from_slice}
+use Rattle.std.proofs.lemmas.Iterator.Search.{position_from_yields_List}
+use Rattle.std.specs.Option.{unwrap_or}
+use lib.ListN.{length}
+use Rattle.waves.proofs.Numbers.{number_or}
 use Rattle.waves.proofs.number_of.Goals as goal
-
-pub loop-i-init : goal.loop-i-init
-loop-i-init c = (omega arith, omega arith)
-
-pub returns-then-w-i : goal.returns-then-w-i
-returns-then-w-i c =
-    omega (arith, number_here c.args.w.now c.args.b c.loop-i.i c.loop-i-test.true c.if-w-i.true)
-
-pub loop-i-preserved : goal.loop-i-preserved
-loop-i-preserved c =
-    omega (arith, number_more c.args.w.now c.args.b c.loop-i.i c.loop-i-test.true c.if-w-i.false)
 
 pub returns : goal.returns
 returns c =
-    omega (arith, number_end c.args.w.now c.args.b c.loop-i.i c.loop-i-test.false)
+    let w = c.args.w.now in
+    c.unwrap_or.ensures
+    ∙ ap (λ (o : Option ℕ). unwrap_or o (length w)) (position_from_yields_List (λ x. nat_eq x c.args.b) _ _ c.position.result c.position.ensures.ran (YieldsList-from_slice w c.iter.ensures.rest) (λ x b q k. search rules))
+    ∙ number_or c.args.b w
