@@ -8,10 +8,11 @@ use lib.Dec.{leb}
 use lib.ListN.{length, take, drop, length-append}
 use lib.Seq.{take_at}
 use borrow.Author.Tests.{le-leb, lt-leb, leb-true, leb-false}
-use Rattle.std.specs.Prelude.{Result, Ok, Err}
+use Rattle.std.specs.Prelude.{Option, Some, None, Result, Ok, Err}
+use Rattle.std.specs.Option.{ok_or}
+use Rattle.std.proofs.lemmas.Option.{none-some, same_Some}
 use Rattle.tokens.specs.declared.Refusal.{Refusal}
 use Rattle.tokens.specs.Refusals.{text_most}
-use Rattle.tokens.proofs.Bools.{true_false}
 use Rattle.meaning.specs.Bounds.{patterns_most}
 use Rattle.meaning.specs.Refusals.{no_room}
 use Rattle.meaning.specs.Meaning.{Answer, given, refused, Meaning}
@@ -27,50 +28,54 @@ use Rattle.flats.specs.declared.Part.{Part}
 use Rattle.flats.proofs.Whole.{body_of, whole_is}
 
 -- nothing stands on a page yet
-pub holds_none : (page : List ℕ) → Holds page [] (record { at = 0; full = false }) page
-holds_none page = record { kept = refl; some = λ h. (refl, refl, refl); none = λ h. absurd (omega arith) }
+pub holds_none : (page : List ℕ) → Holds page [] (record { at = Some 0 }) page
+holds_none page = record { kept = refl; some = λ h. (refl, refl); none = λ h. absurd (omega arith) }
 
--- a pen that is full had no room for all, and one that is not had
-full_long : {before front page : List ℕ} {p : Pen} → Holds before front p page → p.full ≡ true → length before < length front
+-- a pen that stands nowhere had no room for all, and one that stands somewhere had
+full_long : {before front page : List ℕ} {p : Pen} → Holds before front p page → p.at ≡ None → length before < length front
 full_long {before} {front} h e = by (leb (length front) (length before)) refl
   where
     by : (b : Bool) → leb (length front) (length before) ≡ b → length before < length front
-    by true q = true_false e (h.some (leb-true (length front) (length before) q)).0
+    by true q = absurd (none-some _ (sym e ∙ (h.some (leb-true (length front) (length before) q)).0))
     by false q = leb-false (length front) (length before) q
 
-roomy : {before front page : List ℕ} {p : Pen} → Holds before front p page → p.full ≡ false → length front ≤ length before
+roomy : {before front page : List ℕ} {p : Pen} {n : ℕ} → Holds before front p page → p.at ≡ Some n → length front ≤ length before
 roomy {before} {front} h e = by (leb (length front) (length before)) refl
   where
     by : (b : Bool) → leb (length front) (length before) ≡ b → length front ≤ length before
     by true q = leb-true (length front) (length before) q
-    by false q = true_false (h.none (leb-false (length front) (length before) q)) e
+    by false q = absurd (none-some _ (sym (h.none (leb-false (length front) (length before) q)) ∙ e))
 
-front_is : {before front page : List ℕ} {p : Pen} → Holds before front p page → p.full ≡ false → take p.at page ≡ front
+-- it stands behind them
+stands_at : {before front page : List ℕ} {p : Pen} {n : ℕ} → Holds before front p page → p.at ≡ Some n → n ≡ length front
+stands_at h e = same_Some _ _ (sym e ∙ (h.some (roomy h e)).0)
+
+front_is : {before front page : List ℕ} {p : Pen} {n : ℕ} → Holds before front p page → p.at ≡ Some n → take n page ≡ front
 front_is {before} {front} {page} {p} h e =
-    let s = h.some (roomy h e) in
-    ap₂ (λ (n : ℕ) (l : List ℕ). take n l) s.1 s.2 ∙ take_at front (drop (length front) before) (length front) refl
+    ap₂ (λ (n : ℕ) (l : List ℕ). take n l) (stands_at h e) (h.some (roomy h e)).1 ∙ take_at front (drop (length front) before) (length front) refl
 
 -- ---- both together
 
 module _ {entry other : List ℕ} {pen q : Pen} where
   -- the other page's bytes have no room by themselves
-  pub joins_full : q.full ≡ true → Joins entry pen other q entry (Err (record { no = no_room; place = 0 }))
+  pub joins_full : q.at ≡ None → Joins entry pen other q entry (Err (record { no = no_room; place = 0 }))
   joins_full e = record { fits = λ front back before blank h l k m. (refl, omega (arith, full_long k e, length-append front back)) }
 
-  module _ (e : q.full ≡ false) {bytes exit : List ℕ} {p : Pen} (b : bytes ≡ take (q.at - 0) (drop 0 other)) (w : Writes entry pen bytes exit p) where
+  module _ {n : ℕ} (e : q.at ≡ Some n) {bytes exit : List ℕ} {p : Pen} (b : bytes ≡ take (n - 0) (drop 0 other)) (w : Writes entry pen bytes exit p) where
     moved : (front back before blank : List ℕ) → Holds before front pen entry → Holds blank back q other → Holds before (front ++ back) p exit
     moved front back before blank h k =
-        let z : q.at - 0 ≡ q.at = omega arith in
+        let z : n - 0 ≡ n = omega arith in
         subst (λ (l : List ℕ). Holds before (front ++ l) p exit) (b ∙ ap (λ (n : ℕ). take n other) z ∙ front_is k e) (w.on before front h)
 
-    pub joins_over : p.full ≡ true → Joins entry pen other q exit (Err (record { no = no_room; place = 0 }))
-    joins_over f = record { fits = λ front back before blank h l k m. (refl, omega (arith, l, full_long (moved front back before blank h k) f)) }
-
-    pub joins_both : p.full ≡ false → Joins entry pen other q exit (Ok p.at)
-    joins_both f = record {
+    by_pen : (o : Option ℕ) → p.at ≡ o → Joins entry pen other q exit (ok_or o (record { no = no_room; place = 0 }))
+    by_pen None f = record { fits = λ front back before blank h l k m. (refl, omega (arith, l, full_long (moved front back before blank h k) f)) }
+    by_pen (Some i) f = record {
       fits = λ front back before blank h l k m. (
-          let all = moved front back before blank h k in (omega (arith, l, roomy all f), front_is all f, (all.some (roomy all f)).1));
+          let all = moved front back before blank h k in (omega (arith, l, roomy all f), front_is all f, stands_at all f));
     }
+
+    pub joins_both : {r : Result ℕ Refusal} → r ≡ ok_or p.at (record { no = no_room; place = 0 }) → Joins entry pen other q exit r
+    joins_both e = rw e (by_pen p.at refl)
 
 -- ---- an accepted text
 

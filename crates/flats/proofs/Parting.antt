@@ -7,7 +7,6 @@ use mathlib.Core.Path.{◌≡◌, refl, sym, ap, ap₂, ◌∙◌}
 use mathlib.Core.Option.{Option, none}
 use mathlib.Core.List.{List, [], ◌++◌, append-nil}
 use lib.ListN.{length}
-use Rattle.words.specs.Values.{told}
 use Rattle.meaning.specs.Bounds.{list_most}
 use Rattle.meaning.specs.Meaning.{Meaning}
 use Rattle.plays.specs.Plays.{Ground}
@@ -15,7 +14,7 @@ use Rattle.folded.specs.Pieces.{laid}
 use Rattle.folded.specs.Flat.{Row}
 use Rattle.pens.specs.declared.Pen.{Pen}
 use Rattle.stretches.specs.Rows.{row_in}
-use Rattle.stretches.specs.Folding.{ahead, left_by, begins, Opens, Ends}
+use Rattle.stretches.specs.Folding.{in_force, ahead, left_by, begins, Opens, Ends}
 use Rattle.stretches.specs.declared.Folding.{Folding}
 use Rattle.stretches.proofs.Writing.{onward_none, onward_more, onward_both, onward_from, own_opened}
 use Rattle.stretches.proofs.Taking.{walked_ahead, begins_none, begins_one}
@@ -74,7 +73,7 @@ module _ {g : Ground} {list : List ℕ} {listed patterns sized first count : ℕ
         shown = s.shown;
         on = λ behind. (
             let begin : left_by S T f₀ x (s.shown ++ []) behind ≡ laid (ahead S T i none x 0 s.shown behind) =
-            ap₂ (λ (j c : ℕ). laid (ahead S T j (told f₀.chosen f₀.table) x c (s.shown ++ []) behind)) o.number o.no_row
+            ap₂ (λ (j c : ℕ). laid (ahead S T j (in_force f₀.table) x c (s.shown ++ []) behind)) o.number o.no_row
             ∙ ap₂ (λ (t : Option ℕ) (l : List Row). laid (ahead S T i t x 0 l behind)) o.no_table (append-nil s.shown) in
             rw (a, b)
             (onward_from (ap laid (walked_ahead S T i x s.shown behind)) (ap (λ (j : ℕ). laid (behind j)) (sym (add-one f.pattern)))

@@ -1,4 +1,5 @@
 -- All listed patterns, one after the other: what is left of the run, of its cycles and of what is to be written.
+use Rattle.std.specs.Prelude.{Some}
 use Prim.Native.Nat.{ℕ, ◌+◌, ◌-◌, ◌≤◌, ◌<◌}
 use native.Mathlib.Omega.{arith}
 use mathlib.Core.Path.{◌≡◌, refl, sym, ap, ap₂, ◌∙◌, subst}
@@ -73,11 +74,11 @@ module _ {g : Ground} {list : List ℕ} {listed patterns sized : ℕ} {m : Meani
     pub front : List Cycle
     pub split : cycles_of g.signals m.run ≡ front ++ cycles_of g.signals rest
     pub front_long : length front ≡ first
-    pub on : Onward entry (record { at = 0; full = false }) (laid (walked_all (signals_in g) (tables_in g) 0 (listed_rows g.signals m.run) [])) exit part.pen
+    pub on : Onward entry (record { at = Some 0 }) (laid (walked_all (signals_in g) (tables_in g) 0 (listed_rows g.signals m.run) [])) exit part.pen
         (laid (walked_all (signals_in g) (tables_in g) part.pattern (listed_rows g.signals rest) []))
     pub counts : part.pattern + begun_all (listed_rows g.signals rest) ≡ begun_all (listed_rows g.signals m.run)
 
-  pub before_all : (entry : List ℕ) → Before entry entry (record { pen = record { at = 0; full = false }; pattern = 0 }) 0 0
+  pub before_all : (entry : List ℕ) → Before entry entry (record { pen = record { at = Some 0 }; pattern = 0 }) 0 0
   before_all entry =
       let e : listed - 0 ≡ listed = omega arith in
       record {
@@ -99,7 +100,7 @@ module _ {g : Ground} {list : List ℕ} {listed patterns sized : ℕ} {m : Meani
     }
 
     -- none is left
-    pub before_none : listed ≤ k → Writes entry (record { at = 0; full = false }) (laid (walked_all (signals_in g) (tables_in g) 0 (listed_rows g.signals m.run) [])) exit part.pen
+    pub before_none : listed ≤ k → Writes entry (record { at = Some 0 }) (laid (walked_all (signals_in g) (tables_in g) 0 (listed_rows g.signals m.run) [])) exit part.pen
         × (part.pattern ≡ begun_all (listed_rows g.signals m.run))
     unfolding run_of listed_rows walked_all begun_all laid
     before_none q =

@@ -1,4 +1,5 @@
 -- The whole text from its parts: each part's pieces are its own and then those behind, so that parts that were written one behind the other are the text.
+use Rattle.std.specs.Prelude.{Some}
 use Prim.Native.Nat.{ℕ, ◌-◌, ◌≤◌}
 use native.Mathlib.Omega.{arith}
 use mathlib.Core.Path.{◌≡◌, refl, sym, ap, ap₂, ◌∙◌}
@@ -198,7 +199,7 @@ module _ {g : Ground} {list : List ℕ} {listed patterns sized : ℕ} {entry exi
     counts = λ m h. p.counts m h ∙ sym (begun_all_lem (listed_rows g.signals m.run)) ∙ ap length (sym (patterns_are h));
   }
 
-  pub bodied_none : listed ≡ 0 → r.pattern ≡ 0 → Writes entry (record { at = 0; full = false }) (bytes "Pattern p0{\n}\n") exit r.pen → Bodied g list listed patterns sized entry exit r
+  pub bodied_none : listed ≡ 0 → r.pattern ≡ 0 → Writes entry (record { at = Some 0 }) (bytes "Pattern p0{\n}\n") exit r.pen → Bodied g list listed patterns sized entry exit r
   bodied_none z n w = record {
     written = λ m h. writes_same (empty_is (signals_in g) (tables_in g) (patterns_of m) (none_listed h z)) w;
     counts = λ m h. n ∙ sym (ap length (none_listed h z));
@@ -206,7 +207,7 @@ module _ {g : Ground} {list : List ℕ} {listed patterns sized : ℕ} {entry exi
 
 -- ---- the lines before them
 
-pub heads_are : {text places entry a b c d exit : List ℕ} {signals count : ℕ} {p q s t r : Pen} → Writes entry (record { at = 0; full = false }) (bytes "STIL 1.0;\n") a p
+pub heads_are : {text places entry a b c d exit : List ℕ} {signals count : ℕ} {p q s t r : Pen} → Writes entry (record { at = Some 0 }) (bytes "STIL 1.0;\n") a p
     → Writes a p (laid (signals_put (directed text (firsts (names text places signals))) [])) b q
     → ((m : Meaning) → meaning text ≡ given m → Writes b q (laid (timing_put (flat text m).tables [])) c s)
     → Writes c s (laid (burst_put (names_from 0 count) [])) d t → Writes d t (laid (exec_put [])) exit r → Heads text places signals count entry exit r

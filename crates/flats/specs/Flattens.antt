@@ -1,5 +1,5 @@
 -- A folded text on a page, whatever buffer is lent; and the service Fold.
-use Rattle.std.specs.Prelude.{ℕ, ◌+◌, ◌≤◌, ◌<◌, ◌≡◌, true, false, List, [], ◌++◌, leb, length, take, Result, Ok, Err}
+use Rattle.std.specs.Prelude.{Some, ℕ, ◌+◌, ◌≤◌, ◌<◌, ◌≡◌, true, false, List, [], ◌++◌, leb, length, take, Result, Ok, Err}
 use Rattle.tokens.specs.declared.Refusal.{Refusal}
 use Rattle.tokens.specs.Written.{bytes}
 use Rattle.tokens.specs.Refusals.{text_most}
@@ -36,7 +36,7 @@ headed text m count =
     (((bytes "STIL 1.0;\n" ++ laid (signals_put (directed text m.signals) [])) ++ laid (timing_put (flat text m).tables [])) ++ laid (burst_put (names_from 0 count) [])) ++ laid (exec_put [])
 
 pub record Heads (text places : List ℕ) (signals count : ℕ) (entry exit : List ℕ) (r : Pen) : Type 0 where
-  pub writes : (m : Meaning) → meaning text ≡ given m → m.signals ≡ firsts (names text places signals) → Writes entry (record { at = 0; full = false }) (headed text m count) exit r
+  pub writes : (m : Meaning) → meaning text ≡ given m → m.signals ≡ firsts (names text places signals) → Writes entry (record { at = Some 0 }) (headed text m count) exit r
 
 -- ---- both pages together
 

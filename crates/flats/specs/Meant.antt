@@ -1,5 +1,5 @@
 -- What the code has of an accepted text that is folded, and what is promised of its rows, window by window, and of its Patterns, one listed pattern after the other.
-use Rattle.std.specs.Prelude.{ℕ, ◌+◌, ◌*◌, ◌≤◌, ◌≡◌, false, List, [], ◌∷◌, length}
+use Rattle.std.specs.Prelude.{Some, ℕ, ◌+◌, ◌*◌, ◌≤◌, ◌≡◌, false, List, [], ◌∷◌, length}
 use Rattle.meaning.specs.Run.{size, cycles, cycles_of}
 use Rattle.meaning.specs.Meaning.{given, Meaning, meaning, firsts}
 use Rattle.words.specs.Table.{names}
@@ -84,10 +84,10 @@ pub record Run (g : Ground) (list : List ℕ) (listed patterns sized : ℕ) (han
   pub room : g.signals + 2 ≤ length buffer
 
 pub record Patterned (g : Ground) (list : List ℕ) (listed patterns sized : ℕ) (entry exit : List ℕ) (r : Part) : Type 0 where
-  pub written : (m : Meaning) → Meant g list listed patterns sized m → Writes entry (record { at = 0; full = false }) (laid (walked_all (signals_in g) (tables_in g) 0 (listed_rows g.signals m.run) [])) exit r.pen
+  pub written : (m : Meaning) → Meant g list listed patterns sized m → Writes entry (record { at = Some 0 }) (laid (walked_all (signals_in g) (tables_in g) 0 (listed_rows g.signals m.run) [])) exit r.pen
   pub counts : (m : Meaning) → Meant g list listed patterns sized m → r.pattern ≡ begun_all (listed_rows g.signals m.run)
 
 -- with the one that is written where none is listed
 pub record Bodied (g : Ground) (list : List ℕ) (listed patterns sized : ℕ) (entry exit : List ℕ) (r : Part) : Type 0 where
-  pub written : (m : Meaning) → Meant g list listed patterns sized m → Writes entry (record { at = 0; full = false }) (laid (each (pattern_put (signals_in g) (tables_in g)) (named_from 0 (or_one (lines_of (patterns_of m)))) [])) exit r.pen
+  pub written : (m : Meaning) → Meant g list listed patterns sized m → Writes entry (record { at = Some 0 }) (laid (each (pattern_put (signals_in g) (tables_in g)) (named_from 0 (or_one (lines_of (patterns_of m)))) [])) exit r.pen
   pub counts : (m : Meaning) → Meant g list listed patterns sized m → r.pattern ≡ length (patterns_of m)

@@ -15,7 +15,7 @@ ghost use Rattle.flats.specs.Flattens.{row_most, SomeHead, Heads, Joins, Puts, F
 
 use heads::Known;
 use pens::Pen;
-use stretches::{Folding, TAIL};
+use stretches::{Folding, Names, TAIL};
 use texts::{PATTERNS, Verdict};
 use tokens::{Refusal, TEXT_MOST};
 use words::NO_ROOM;
@@ -74,18 +74,14 @@ fn window<'a>(
         text, places, lists, tplaces, book, rows, waves, list, known, signals, listed, patterns,
         size, first, due, MARK, buffer,
     );
-    stretches::rows(
-        page,
-        f,
+    let names = Names {
         text,
         places,
         tplaces,
-        known.tables,
+        tables: known.tables,
         signals,
-        hand,
-        buffer,
-        due,
-    )
+    };
+    stretches::rows(page, f, names, hand, buffer, due)
 }
 
 // A listed pattern: `count` cycles from the cycle `first` on, window by window, in Patterns from number i on.
@@ -142,7 +138,14 @@ fn pattern<'a>(
         );
         done += due;
     }
-    let p = stretches::finish(page, f, text, places, tplaces, known.tables, signals, hand);
+    let names = Names {
+        text,
+        places,
+        tplaces,
+        tables: known.tables,
+        signals,
+    };
+    let p = stretches::finish(page, f, names, hand);
     Part {
         pen: p,
         pattern: f.pattern + 1,
@@ -172,7 +175,7 @@ fn patterns_of<'a>(
     ensures { Patterned (ground_of text.now places.now lists.now tplaces.now book.now rows.now waves.now known signals) list.now listed patterns size page.old page.new result }
 {
     let mut part = Part {
-        pen: Pen { at: 0, full: false },
+        pen: Pen { at: Some(0) },
         pattern: 0,
     };
     let mut first = 0;
@@ -230,7 +233,7 @@ fn all_patterns<'a>(
     ensures { Bodied (ground_of text.now places.now lists.now tplaces.now book.now rows.now waves.now known signals) list.now listed patterns size page.old page.new result }
 {
     if listed == 0 {
-        let p = pens::add(page, Pen { at: 0, full: false }, b"Pattern p0{\n}\n");
+        let p = pens::add(page, Pen { at: Some(0) }, b"Pattern p0{\n}\n");
         return Part { pen: p, pattern: 0 };
     }
     patterns_of(
@@ -252,7 +255,7 @@ fn head<'a>(
     requires { SomeHead text.now places.now signals }
     ensures { Heads text.now places.now signals count page.old page.new result }
 {
-    let a = pens::add(page, Pen { at: 0, full: false }, b"STIL 1.0;\n");
+    let a = pens::add(page, Pen { at: Some(0) }, b"STIL 1.0;\n");
     let b = folds::signals(page, a, text, places, signals);
     let c = timings::timing(page, b, text);
     let d = folds::burst(page, c, count);
@@ -263,20 +266,15 @@ fn head<'a>(
 fn join(page: &mut [u8], pen: Pen, other: &[u8], q: Pen) -> Result<usize, Refusal>
     ensures { Joins page.old pen other.now q page.new result }
 {
-    if q.full {
-        return Err(Refusal {
-            no: NO_ROOM,
-            place: 0,
-        });
-    }
-    let p = pens::add(page, pen, words::bytes_of(other, 0, q.at));
-    if p.full {
-        return Err(Refusal {
-            no: NO_ROOM,
-            place: 0,
-        });
-    }
-    Ok(p.at)
+    let no_room = Refusal {
+        no: NO_ROOM,
+        place: 0,
+    };
+    let Some(length) = q.at else {
+        return Err(no_room);
+    };
+    let p = pens::add(page, pen, words::bytes_of(other, 0, length));
+    p.at.ok_or(no_room)
 }
 
 // Room for a text; made here alone, so that a caller's proof sees its length and no zeros.
