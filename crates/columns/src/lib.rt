@@ -5,8 +5,6 @@ ghost use Rattle.std.specs.Prelude.{◌≡◌, ◌+◌, min};
 ghost use Rattle.columns.specs.Columns.{start as start_of, past as past_of, onward as onward_of, position, number_most, capped};
 
 const LF: u8 = 10;
-// The largest number that a line or a column can be.
-const MOST: usize = 18_446_744_073_709_551_615;
 
 // Both from 1; a column is counted in bytes.
 #[derive(Clone, Copy, Debug, PartialEq, Eq)]
@@ -26,10 +24,7 @@ pub fn start() -> Position
 fn more(n: usize) -> usize
     ensures { result ≡ min (n + 1) number_most }
 {
-    if n == MOST {
-        return n;
-    }
-    n + 1
+    n.saturating_add(1)
 }
 
 // Behind one more byte.
@@ -53,10 +48,8 @@ pub fn onward(at: Position, bytes: &[u8]) -> Position
     ensures { result ≡ capped (onward_of at bytes.now) }
 {
     let mut p = at;
-    let mut i = 0;
-    while i < bytes.len() {
-        p = past(p, bytes[i]);
-        i += 1;
+    for &b in bytes {
+        p = past(p, b);
     }
     p
 }

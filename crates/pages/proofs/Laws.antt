@@ -61,9 +61,6 @@ module _ {before : List ℕ} {at : ℕ} {xs : List ℕ} {r : ℕ} {after : List 
       ap length p.page
       ∙ omega (arith, l, length-append xs rest, length-take-le at before (omega arith), length-drop (at + length xs) before)
 
-  pub puts_front : at ≤ length before → take at after ≡ take at before
-  puts_front h = rw p.page (take_at (take at before) (xs ++ drop (at + length xs) before) at (length-take-le at before h))
-
   pub puts_same : {ys : List ℕ} → xs ≡ ys → Puts before at ys r after
   puts_same e = subst (λ (l : List ℕ). Puts before at l r after) e p
 

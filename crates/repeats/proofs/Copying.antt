@@ -1,7 +1,7 @@
 -- A run of bytes that repeats the last `step` before a place, each copy as long as all that is there.
 use Prim.Native.Nat.{ℕ, ◌+◌, ◌-◌, ◌≤◌, ◌<◌}
 use native.Mathlib.Omega.{arith}
-use mathlib.Core.Path.{◌≡◌, refl, sym, ap, ◌∙◌}
+use mathlib.Core.Path.{◌≡◌, refl, sym, ◌∙◌}
 use mathlib.Core.Bool.{Bool, true, false}
 use mathlib.Core.List.{List}
 use lib.Dec.{ltb}
@@ -16,15 +16,6 @@ pub record Whole (at step done : ℕ) (list : List ℕ) : Type 0 where
   pub same : (i j : ℕ) → i ≡ j + done → at ≤ j + step → j < at → get_or list i 0 ≡ get_or list j 0
 
 module _ {before : List ℕ} {at step : ℕ} where
-  pub extends_none : Extends before at step 0 before
-  extends_none = record { repeats = λ i j e h k. absurd (omega arith); ahead = λ i h. refl; behind = λ i h. refl; long = refl }
-
-  pub whole_none : Whole at step 0 before
-  whole_none = record { same = λ i j e h k. ap (λ (i : ℕ). get_or before i 0) (omega arith) }
-
-  pub extends_all : {n : ℕ} {list : List ℕ} → Extends before at step n list → (m : ℕ) → n ≡ m → Extends before at step m list
-  extends_all x m e = rw (← e) x
-
   module _ {done run : ℕ} {list after : List ℕ} (below : step ≤ at) (x : Extends before at step done list) (w : Whole at step done list)
       (c : Copies list (at - step) (at + done) run after) where
     -- all that is there is copied

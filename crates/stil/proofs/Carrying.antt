@@ -7,7 +7,9 @@ use borrow.Author.Tests.{le-leb, lt-leb, eq-eqb, ne_eqb}
 use Rattle.tokens.specs.Written.{cases}
 use Rattle.intake.specs.Intake.{raw_most, Progress, open_at, refused_with, closed_at}
 use Rattle.intake.specs.declared.Intake.{Intake}
-use Rattle.std.specs.Prelude.{Err}
+use Rattle.std.specs.Prelude.{Ok, Err}
+use Rattle.intake.specs.declared.Stage.{Stage}
+use Rattle.intake.specs.declared.Stage.TheVariants.{Open, Closed}
 use Rattle.tokens.specs.declared.Refusal.{Refusal}
 use Rattle.meaning.specs.Refusals.{no_room}
 use Rattle.meaning.specs.Meaning.{given, refused}
@@ -43,19 +45,19 @@ raw_far n p h = rw (lt-leb p raw_most h, raw_refusal)
 -- ---- an answer told
 
 module _ {p : Progress} {state state' : List ℕ} where
-  pub tells_open : {x : Intake} → p ≡ open_at x → state' ≡ fronted (is_open ∷ x.taken ∷ x.stored ∷ x.run ∷ x.mode ∷ x.opening ∷ []) state
+  pub tells_open : {at : Stage} {x : Intake} → p ≡ Ok at → at ≡ Open x → state' ≡ fronted (is_open ∷ x.taken ∷ x.stored ∷ x.run ∷ x.mode ∷ x.opening ∷ []) state
       → Tells p state 0 state'
   unfolding told_by numbers_of
-  tells_open e s = record { number = rw e; state_is = s ∙ rw e }
+  tells_open e k s = record { number = rw (e, k); state_is = s ∙ rw (e, k) }
 
   pub tells_refused : {x : Refusal} {r : ℕ} → p ≡ Err x → state' ≡ fronted (is_refused ∷ x.no ∷ x.place ∷ 0 ∷ 0 ∷ 0 ∷ []) state → r ≡ raw_refusal x.no x.place
       → Tells p state r state'
   unfolding told_by numbers_of
   tells_refused e s h = record { number = h ∙ rw e; state_is = s ∙ rw e }
 
-  pub tells_closed : {n : ℕ} → p ≡ closed_at n → state' ≡ fronted (is_closed ∷ n ∷ 0 ∷ 0 ∷ 0 ∷ 0 ∷ []) state → Tells p state 0 state'
+  pub tells_closed : {at : Stage} {n : ℕ} → p ≡ Ok at → at ≡ Closed n → state' ≡ fronted (is_closed ∷ n ∷ 0 ∷ 0 ∷ 0 ∷ 0 ∷ []) state → Tells p state 0 state'
   unfolding told_by numbers_of
-  tells_closed e s = record { number = rw e; state_is = s ∙ rw e }
+  tells_closed e k s = record { number = rw (e, k); state_is = s ∙ rw (e, k) }
 
 -- ---- a call
 

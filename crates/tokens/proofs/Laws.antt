@@ -149,19 +149,8 @@ read text at x k e = by (leb (length text) text_most) e
 pub at_token : (text : List ℕ) (at p l : ℕ) → next_token text at ≡ found p l → Seen text at p l
 at_token text at p l e = first_token text at p l (read text at (found p l) (λ z. let o : ◌≡◌ {A = ℕ} 0 1 = cc in omega arith) e)
 
--- a token that is found leaves fewer behind it
-pub left_falls : (text : List ℕ) (at p l : ℕ) → next_token text at ≡ found p l → left (toks text (p + l)) < left (toks text at)
-unfolding left
-left_falls text at p l e = rw (at_token text at p l e).stream (omega arith)
-
 pub at_end : (text : List ℕ) (at : ℕ) → next_token text at ≡ nothing → toks text at ≡ stop not_here (at + (length text - at))
 at_end text at e = first_end text at (read text at nothing (λ z. let o : ◌≡◌ {A = ℕ} 0 1 = cc in omega arith) e)
-
--- and so at the text's length, from a place within the text
-pub at_end_within : (text : List ℕ) (at : ℕ) → at ≤ length text → next_token text at ≡ nothing → toks text at ≡ stop not_here (length text)
-at_end_within text at h e =
-    let k : at + (length text - at) ≡ length text = omega arith in
-    at_end text at e ∙ ap (stop not_here) k
 
 pub at_fault : (text : List ℕ) (at n q : ℕ) → length text ≤ text_most → next_token text at ≡ refused n q → Halted text at n q
 at_fault text at n q s e = first_fault text at n q (sym (short_enough text at s) ∙ e)

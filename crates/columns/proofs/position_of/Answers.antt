@@ -1,15 +1,9 @@
 -- `position_of` meets its contract: the bytes before the place are gone over from the text's start; no slice is so long that a line's or a column's number would be too large.
 use native.Mathlib.Omega.{arith}
 use mathlib.Core.Path.{sym, ◌∙◌, ap}
-use lib.Seq.{length-take-le}
 use Rattle.columns.specs.Columns.{capped}
 use Rattle.columns.proofs.Laws.{from_start, from_start_over, capped_kept, position_kept}
 use Rattle.columns.proofs.position_of.Goals as goal
-
-pub slice_bounds-onward-end : goal.slice_bounds-onward-end
-slice_bounds-onward-end c =
-    let a = c.args in
-    sym (length-take-le a.place a.text.now (omega arith))
 
 pub returns-then-place-text : goal.returns-then-place-text
 returns-then-place-text c =
