@@ -62,7 +62,7 @@ pub counts_roomy : (list counts : List ℕ) (spare : Bool) {roomy : Bool} → ro
     → length (asked_in list) ≤ length counts
 counts_roomy list counts spare {roomy} q z = leb-true (length (asked_in list)) (length counts) (sym q ∙ (both roomy spare z).0)
 
-module _ {text : List ℕ} (list times letters counts : List ℕ) (spare : Bool) where
+module _ (text : List ℕ) (list times letters counts : List ℕ) (spare : Bool) where
   abbrev answer : Answer Chart
   answer = spared spare (waveforms text list times letters counts)
 

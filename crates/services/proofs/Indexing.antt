@@ -63,14 +63,14 @@ module _ {a : Answer Bytes} {buffer : List ℕ} where
   unfolding afterwards
   indexes_given e = rw e (record { answers = refl; buffer_is = refl })
 
-pub index_refused : {text : List ℕ} {x : Refusal} (spare : Bool) (buffer : List ℕ) → meaning text ≡ refused x.no x.place
+pub index_refused : (text : List ℕ) {x : Refusal} (spare : Bool) (buffer : List ℕ) → meaning text ≡ refused x.no x.place
     → Indexes (spared spare (index text buffer)) buffer buffer (Err x)
 unfolding index answering
-index_refused spare buffer e = indexes_refused (rw (e, index))
+index_refused text spare buffer e = indexes_refused (rw (e, index))
 
-pub holds_refused : {text : List ℕ} {x : Refusal} (bytes : List ℕ) (cycle : ℕ) → meaning text ≡ refused x.no x.place → refused x.no x.place ≡ holds text bytes cycle
+pub holds_refused : (text : List ℕ) {x : Refusal} (bytes : List ℕ) (cycle : ℕ) → meaning text ≡ refused x.no x.place → refused x.no x.place ≡ holds text bytes cycle
 unfolding holds taken answering
-holds_refused bytes cycle e = sym (rw (e, taken, holds))
+holds_refused text bytes cycle e = sym (rw (e, taken, holds))
 
 module _ {text page : List ℕ} {cycle : ℕ} {r : Rebuilt} (h : Rebuilds text cycle (Ok r) page) where
   abbrev it : Meaning

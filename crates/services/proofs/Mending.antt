@@ -64,7 +64,7 @@ handed_back {text} {text'} {spans} {spans'} {copy} {log} {bytes} {count} h k b p
       p.page ∙ ap (λ (n : ℕ). bytes ++ drop n text) (zero-add (length bytes) ∙ l) ∙ ap (λ (u : List ℕ). bytes ++ u) (drop_of_length-le text {i = length text} (omega arith)) ∙ append-nil bytes ∙ i
           ∙ ap (λ (u : SavedText). u.text) y,
       q ∙ ap (λ (u : List ℕ). take (count * 2) u ++ drop (count * 2) spans) h.logged
-          ∙ log_front h.saved.spans h.blank spans {n = count * 2} (omega (arith, h.ended.1)) (omega arith) (omega (arith, h.roomy)) ∙ ap (λ (u : SavedText). noted_all u.spans spans) y,
+          ∙ log_front h.saved.spans h.blank spans {n = count * 2} (omega (arith, h.counted)) (omega arith) (omega (arith, h.roomy)) ∙ ap (λ (u : SavedText). noted_all u.spans spans) y,
     )
 
 -- ---- as the service answers it

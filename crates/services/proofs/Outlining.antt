@@ -2,11 +2,10 @@
 use Prim.Native.Nat.{ℕ}
 use native.Mathlib.Omega.{arith}
 use mathlib.Core.Path.{◌≡◌, refl, sym, ◌∙◌}
-use Rattle.std.specs.Prelude.{Some, None, Ok, Err}
+use Rattle.std.specs.Prelude.{Some, None, Ok}
 use mathlib.Core.Option.{Option, none, some}
 use mathlib.Core.List.{List}
 use lib.ListN.{length}
-use Rattle.tokens.specs.declared.Refusal.{Refusal}
 use Rattle.meaning.specs.Refusals.{no_such}
 use Rattle.meaning.specs.Bounds.{entry_most}
 use Rattle.meaning.specs.Timing.{Event}
@@ -38,9 +37,9 @@ waveform_events text k s c times letters = by (meaning text)
     by (given m) = on (wave_of s c (table_at m.tables k))
     by (refused n p) = refl
 
-pub outline_refused : {text : List ℕ} {k s c : ℕ} {ts ls : List ℕ} {x : Refusal} → meaning text ≡ refused x.no x.place → Outlines text k s c ts ls (Err x)
+pub outline_refused : (text : List ℕ) (k s c : ℕ) {n p : ℕ} → meaning text ≡ refused n p → events_of text k s c ≡ refused n p
 unfolding events_of
-outline_refused e = sym (answer_refused e _)
+outline_refused text k s c e = sym (answer_refused text e _)
 
 module _ {text : List ℕ} {w : Wanted} {r : Judged} (j : Judges text w (Ok r)) where
   seen : {o : Option (List Event)} → wave_of w.watch.signal w.watch.char (table_at j.0.tables w.watch.table) ≡ o

@@ -18,7 +18,7 @@ use Rattle.verdicts.specs.Buffers.{afterwards}
 use Rattle.services.specs.Waveforms.{events_of, Shows, Shapes}
 use Rattle.services.proofs.Outlining.{waveform_events}
 
-module _ {text : List ℕ} {k s c : ℕ} (times letters : List ℕ) where
+module _ (text : List ℕ) (k s c : ℕ) (times letters : List ℕ) where
   abbrev answer : Answer Waveform
   answer = waveform text k s c times letters
 

@@ -290,7 +290,8 @@ pub fn write_index(text: &[u8], spare: bool, buffer: &mut [u8]) -> Result<usize,
     ensures { Indexes (spared spare (index_of text.now buffer.old)) buffer.old buffer.new result }
 {
     let mut page = [0u8; index::INDEX];
-    let n = rebuild(text, 0, &mut page)?.length;
+    let x = rebuild(text, 0, &mut page)?;
+    let n = x.length;
     if !spare | (buffer.len() < n) {
         return Err(Refusal {
             no: NO_ROOM,

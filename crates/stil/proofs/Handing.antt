@@ -129,10 +129,10 @@ module _ {a : Answer Waveform} {times letters count : List ℕ} where
   draws_all e h q = let g = room_enough 1 count e h in record { counted = hands_all g q; times_are = rw g; letters_are = rw g }
 
 -- no room for the count: without room for the events it is 19 already
-module _ {text : List ℕ} {k s c n : ℕ} {ts ls : List ℕ} {es : List Event} (e : events_of text k s c ≡ given es) (shows : Shows ts ls n es) (times letters count : List ℕ) where
+module _ (text : List ℕ) (k s c : ℕ) {n : ℕ} {ts ls : List ℕ} {es : List Event} (e : events_of text k s c ≡ given es) (shows : Shows ts ls n es) (times letters count : List ℕ) where
   pub room_uncounted : length count < 1 → with_room 1 count (waveform text k s c times letters) ≡ refused no_room 0
   room_uncounted few = by (ltb (length times) n || ltb (length letters) n) refl
     where
       by : (y : Bool) → (ltb (length times) n || ltb (length letters) n) ≡ y → with_room 1 count (waveform text k s c times letters) ≡ refused no_room 0
-      by true r = room_refused 1 count (waveform_full times letters e shows r refl)
-      by false r = room_none 1 count (waveform_given times letters e shows r refl (refl, refl)) few
+      by true r = room_refused 1 count (waveform_full text k s c times letters e shows r refl)
+      by false r = room_none 1 count (waveform_given text k s c times letters e shows r refl (refl, refl)) few

@@ -6,7 +6,7 @@ use Rattle.services.proofs.Indexing.{holds_refused, holds_other, holds_told, spa
 use Rattle.services.proofs.holds.Goals as goal
 
 pub returns-in_err-x : goal.returns-in_err-x
-returns-in_err-x c = rw (handed_on c.from_residual.result _ c.from_residual.ensures.1) (holds_refused _ _ c.in_err-x.ensures)
+returns-in_err-x c = rw (handed_on c.from_residual.result _ c.from_residual.ensures.1) (holds_refused _ _ _ c.in_err-x.ensures)
 
 pub returns-then-not-equal : goal.returns-then-not-equal
 returns-then-not-equal c = holds_other c.in_ok-x.ensures _ (span_front _ c.in_ok-x.x.length c.bytes_of.ensures) c.equal.ensures (ap not c.if-not-equal.true)

@@ -6,12 +6,12 @@ use Rattle.services.proofs.plotted.Goals as goal
 pub returns-in_err-judge : goal.returns-in_err-judge
 returns-in_err-judge c =
     let at = c.args in
-    rw (handed_on c.from_residual.result _ c.from_residual.ensures.1) (plots_refused (chart_refused at.asked.now at.times.now at.letters.now at.counts.now at.spare c.in_err-judge.ensures))
+    rw (handed_on c.from_residual.result _ c.from_residual.ensures.1) (plots_refused (chart_refused at.text.now at.asked.now at.times.now at.letters.now at.counts.now at.spare c.in_err-judge.ensures))
 
 pub returns-then-too_many : goal.returns-then-too_many
 returns-then-too_many c =
     let at = c.args in
-    plots_refused (chart_many at.asked.now at.times.now at.letters.now at.counts.now at.spare c.in_ok-judge.ensures.1 c.too_many.ensures c.if-too_many.true)
+    plots_refused (chart_many at.text.now at.asked.now at.times.now at.letters.now at.counts.now at.spare c.in_ok-judge.ensures.1 c.too_many.ensures c.if-too_many.true)
 
 pub within-roomy-requires : goal.within-roomy-requires
 within-roomy-requires c =
@@ -20,7 +20,7 @@ within-roomy-requires c =
 pub returns-then-roomy-spare : goal.returns-then-roomy-spare
 returns-then-roomy-spare c =
     let at = c.args in
-    plots_refused (chart_full at.asked.now at.times.now at.letters.now at.counts.now at.spare c.in_ok-judge.ensures.1 c.too_many.ensures c.if-too_many.false c.within-roomy.ensures c.if-roomy-spare.true)
+    plots_refused (chart_full at.text.now at.asked.now at.times.now at.letters.now at.counts.now at.spare c.in_ok-judge.ensures.1 c.too_many.ensures c.if-too_many.false c.within-roomy.ensures c.if-roomy-spare.true)
 
 pub serve-s-requires : goal.serve-s-requires
 serve-s-requires c =
@@ -34,12 +34,12 @@ pub returns-in-Some : goal.returns-in-Some
 returns-in-Some c =
     let at = c.args in
     plots_stopped
-    (chart_called at.asked.now at.times.now at.letters.now at.counts.now at.spare c.in_ok-judge.ensures.1 c.too_many.ensures c.if-too_many.false c.within-roomy.ensures c.if-roomy-spare.false)
+    (chart_called at.text.now at.asked.now at.times.now at.letters.now at.counts.now at.spare c.in_ok-judge.ensures.1 c.too_many.ensures c.if-too_many.false c.within-roomy.ensures c.if-roomy-spare.false)
     c.serve-s.ensures c.in-Some.is
 
 pub returns : goal.returns
 returns c =
     let at = c.args in
     plots_drawn
-    (chart_called at.asked.now at.times.now at.letters.now at.counts.now at.spare c.in_ok-judge.ensures.1 c.too_many.ensures c.if-too_many.false c.within-roomy.ensures c.if-roomy-spare.false)
+    (chart_called at.text.now at.asked.now at.times.now at.letters.now at.counts.now at.spare c.in_ok-judge.ensures.1 c.too_many.ensures c.if-too_many.false c.within-roomy.ensures c.if-roomy-spare.false)
     c.serve-s.ensures c.in_default.is

@@ -7,15 +7,15 @@ use Rattle.stil.proofs.Handing.{one_stored, room_refused, room_uncounted, draws_
 use Rattle.stil.proofs.lutemeteor_waveform.Goals as goal
 
 pub returns-in-Err : goal.returns-in-Err
-returns-in-Err c = draws_none (room_refused 1 _ (waveform_refused _ _ c.in-Err.ensures)) c.pack.ensures
+returns-in-Err c = draws_none (room_refused 1 _ (waveform_refused _ _ _ _ _ _ c.in-Err.ensures)) c.pack.ensures
 
 pub returns-then-count-lt1 : goal.returns-then-count-lt1
-returns-then-count-lt1 c = let e = c.in-Ok.ensures in draws_none (room_uncounted e.1 e.2 _ _ _ c.if-count-lt1.true) c.pack-then-count-lt1.ensures
+returns-then-count-lt1 c = let e = c.in-Ok.ensures in draws_none (room_uncounted _ _ _ _ e.1 e.2 _ _ _ c.if-count-lt1.true) c.pack-then-count-lt1.ensures
 
 pub returns-then-times-due : goal.returns-then-times-due
 returns-then-times-due c =
     let e = c.in-Ok.ensures in
-    draws_none (room_refused 1 _ (waveform_full _ _ e.1 e.2 c.if-times-due.true refl)) c.pack-then-times-due.ensures
+    draws_none (room_refused 1 _ (waveform_full _ _ _ _ _ _ e.1 e.2 c.if-times-due.true refl)) c.pack-then-times-due.ensures
 
 pub put-requires : goal.put-requires
 put-requires c =
@@ -25,5 +25,5 @@ put-requires c =
 pub returns-else-times-due : goal.returns-else-times-due
 returns-else-times-due c =
     let e = c.in-Ok.ensures in
-    draws_all (waveform_given _ _ e.1 e.2 c.if-times-due.false refl c.put.ensures)
+    draws_all (waveform_given _ _ _ _ _ _ e.1 e.2 c.if-times-due.false refl c.put.ensures)
     c.if-count-lt1.false (one_stored c.args.count.now _ c.if-count-lt1.false)
