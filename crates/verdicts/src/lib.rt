@@ -266,23 +266,23 @@ pub fn failing<'a>(
     requires { SomeFound text.now places.now lists.now tplaces.now waves.now book.now rows.now list.now used.now v }
     ensures { Plays text.now places.now lists.now tplaces.now waves.now book.now rows.now list.now v result }
 {
-    let f = unplayable(
+    let cycle = unplayable(
         text, places, lists, tplaces, waves, book, rows, list, used, v,
     );
-    if f.failed {
+    if cycle.failed {
         return Err(Refusal {
             no: NOT_PLAYABLE,
-            place: f.place,
+            place: cycle.place,
         });
     }
     if quiet::is_quiet(text) {
         return Ok(());
     }
-    let x = crossing(text, places, lists, tplaces, waves, book, rows, list, v);
-    if x.failed {
+    let pair = crossing(text, places, lists, tplaces, waves, book, rows, list, v);
+    if pair.failed {
         return Err(Refusal {
             no: ACROSS_EDGE,
-            place: x.place,
+            place: pair.place,
         });
     }
     Ok(())
