@@ -107,9 +107,6 @@ pub record Least (text given feeds waves : List ℕ) (level signals table most s
       → (i : ℕ) → i < k → HasMark waves table j (next (drop i cs))
 
 module _ {text given feeds waves : List ℕ} {level signals table most : ℕ} where
-  pub least_none : {k : ℕ} → k ≤ most → Least text given feeds waves level signals table most signals k
-  least_none l = record { few = l; each = λ j h b. absurd (omega arith) }
-
   module _ {s k : ℕ} (x : Least text given feeds waves level signals table most s k) where
     -- the signal before them too
     module _ {s' n : ℕ} (next_one : s ≤ s' + 1) (less : n ≤ k)
@@ -135,10 +132,7 @@ module _ {text given feeds waves : List ℕ} {level signals table most : ℕ} wh
     -- no signal is left
     pub least_all : s ≡ 0 → Ahead text given feeds waves level signals table most k
     least_all e = record { few = x.few; each = λ j b m. x.each j (omega arith) b m }
-
-  -- no turn
-  pub ahead_none : Ahead text given feeds waves level signals table most 0
-  ahead_none = record { few = omega arith; each = λ j b m cs w i l. absurd (omega arith) }
+    -- no turn
 
 -- ---- the state behind them
 

@@ -1,7 +1,7 @@
 -- A V, t times: after each turn that can be played, what is left to play are the other turns, from the state that the pins show.
 use Prim.Native.Nat.{ℕ, suc, ◌+◌, ◌-◌, ◌≤◌, ◌<◌}
 use native.Mathlib.Omega.{arith}
-use mathlib.Core.Path.{◌≡◌, refl, sym, ap, ◌∙◌, subst}
+use mathlib.Core.Path.{◌≡◌, sym, ap, ◌∙◌, subst}
 use mathlib.Core.Bool.{Bool, true, false, not, true≢false}
 use mathlib.Core.List.{List}
 use lib.ListN.{length, get_or, take, drop, length-take}
@@ -25,9 +25,6 @@ use Rattle.pins.proofs.Advancing.{ahead_playable}
 pub record Searched (waves values : List ℕ) (signals table s : ℕ) : Type 0 where
   pub same : (text tplaces : List ℕ) (tables : ℕ) (tabs : Tables) → Held text tplaces waves tables tabs
       → all_waves 0 (take signals values) (table_at tabs table) ≡ all_waves s (drop s (take signals values)) (table_at tabs table)
-
-pub searched_none : {waves values : List ℕ} {signals table : ℕ} → Searched waves values signals table 0
-searched_none = record { same = λ text tplaces tables tabs k. refl }
 
 -- have all
 pub record Waved (waves values : List ℕ) (signals table : ℕ) (b : Bool) : Type 0 where

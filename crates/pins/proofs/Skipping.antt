@@ -61,9 +61,6 @@ pub record Skipped (text given before : List ℕ) (level n s : ℕ) (feeds : Lis
   pub kept : (l k : ℕ) → k < signals_most → (l ≡ level → k < s → get_or given k 0 ≡ mark → ⊥) → feed_at feeds l k ≡ feed_at before l k
 
 module _ {text given before : List ℕ} {level n : ℕ} where
-  pub skipped_none : Skipped text given before level n 0 before
-  skipped_none = record { long = refl; further = λ k h e cs f. absurd (omega arith); kept = λ l k b o. refl }
-
   module _ {s : ℕ} {feeds : List ℕ} (x : Skipped text given before level n s feeds) (below : s < signals_most) where
     -- `#`
     pub skipped_mark : {f r : Feed} {feeds' : List ℕ} → get_or given s 0 ≡ mark → f ≡ feed_at feeds level s → Skips text f n r → Fills feeds level s r feeds'

@@ -1,17 +1,8 @@
 -- Each turn takes the next signal.
 use native.Mathlib.Omega.{arith}
-use Rattle.pins.proofs.Skipping.{skipped_none, skipped_mark, skipped_other, skipped_others, skipped_shows}
+use Rattle.pins.proofs.Skipping.{skipped_mark, skipped_other, skipped_others, skipped_shows}
 use Rattle.pins.proofs.skip.Goals as goal
 use Rattle.pins.proofs.skip.Goals.{then-given-s-eq-MARK, else-given-s-eq-MARK}
-
-pub loop-s-init : goal.loop-s-init
-loop-s-init c = skipped_none
-
-pub feed_at-requires : goal.feed_at-requires
-feed_at-requires c = omega (arith, c.loop-s.invariant.long)
-
-pub put_feed-requires : goal.put_feed-requires
-put_feed-requires c = omega (arith, c.loop-s.invariant.long)
 
 pub loop-s-preserved : goal.loop-s-preserved
 loop-s-preserved c =
