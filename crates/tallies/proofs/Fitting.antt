@@ -2,14 +2,13 @@
 use Prim.Native.Nat.{ℕ, ◌+◌, ◌*◌, ◌≤◌, ◌<◌}
 use native.Mathlib.Omega.{arith}
 use mathlib.Core.Path.{◌≡◌, sym, ap, ◌∙◌, subst}
-use mathlib.Core.Bool.{Bool, true, false, not}
+use mathlib.Core.Bool.{Bool, true, false}
 use mathlib.Core.Option.{Option, none, some}
 use mathlib.Core.List.{List}
-use lib.Dec.{eqb}
 use lib.ListN.{length, get_or, set, length-set}
 use lib.Seq.{get_or-take, get_or-set_same, get_or-set_other}
 use borrow.Author.Count.{below_more}
-use borrow.Author.Tests.{ltb-true, eq-eqb, ne_eqb}
+use borrow.Author.Tests.{lt-ltb, ltb-true, eq-eqb, ne_eqb}
 use Rattle.meaning.specs.Bounds.{signals_most, tables_most}
 use Rattle.meaning.specs.Timing.{Tables}
 use Rattle.meaning.specs.Body.{Args, arg_of}
@@ -20,8 +19,8 @@ use Rattle.pins.specs.Shown.{table_of}
 use Rattle.pins.proofs.Callers.{table_some, table_none}
 use Rattle.sums.specs.Sums.{Shown, ok_at, or_table}
 use Rattle.tallies.specs.Rows.{slots, row_size, given_from, pins_from, fine_from, bad_place, byte_at, flag_at, flag_in, shown_of, slot_of, is_slot, sum_at, left_on, Marked, Suits, FitsWhere, OnPin, Grants, Holds}
-use Rattle.tallies.proofs.Stored.{flag_is, flag_off, only_none}
-use Rattle.tallies.proofs.Grown.{fine_read, slot_below, under_slot, given_slot, pin_at}
+use Rattle.tallies.proofs.Stored.{flag_is, flag_off}
+use Rattle.tallies.proofs.Grown.{slot_below, under_slot, given_slot, pin_at}
 
 -- ---- under one table
 
@@ -52,16 +51,12 @@ fits_all {tabs} {place} {i} {c} {table} {row} f g = record { fits = by }
 
 -- ---- what the row asks by itself
 
-module _ (sums : List ℕ) (r : ℕ) {bad : ℕ} (e : bad ≡ byte_at sums r bad_place) (z : bad ≡ 0) where
-  pub suits_any : {needs : ℕ} {table : Option ℕ} → needs ≡ byte_at sums r (bad_place + 1) → needs ≡ 0 → Suits (sum_at sums r) table
-  suits_any n o = record { good = flag_off (sym e ∙ z); tabled = λ h. absurd (flag_is h (sym n ∙ o)) }
+module _ {row : List ℕ} (z : get_or row bad_place 0 ≡ 0) where
+  pub suits_any : {table : Option ℕ} → get_or row (bad_place + 1) 0 ≡ 0 → Suits row table
+  suits_any o = record { good = flag_off z; tabled = λ h. absurd (flag_is h o) }
 
-  pub suits_fine : {k fine : ℕ} → k < tables_most → fine ≡ byte_at sums r (fine_from + k) → not (eqb fine 0) ≡ true → Suits (sum_at sums r) (table_of k)
-  suits_fine {k} h f n =
-      record {
-        good = flag_off (sym e ∙ z);
-        tabled = λ o. (k, table_some k h, fine_read {sums = sums} (only_none {r = r + 1}) r k (λ q. omega arith) h f (flag_is n));
-      }
+  pub suits_fine : {k : ℕ} → k < tables_most → flag_in row (fine_from + k) ≡ true → Suits row (table_of k)
+  suits_fine {k} h n = record { good = flag_off z; tabled = λ o. (k, table_some k h, h, n) }
 
 -- ---- all signals: the first s of them
 
@@ -88,19 +83,22 @@ module _ {text waves given args pins : List ℕ} {table : ℕ} {row left : List 
         inside : place + slot_of t < row_size
         inside = omega (arith, slot_below t h)
 
-    pub asking_all : (n : ℕ) → n ≤ s → n ≤ signals_most → Suits (sum_at sums r) (table_of table) → (tabs : Tables) (z : State) → Marked waves tabs → Holds text pins given args n table z
+    pub asking_all : (n : ℕ) → n ≤ s → n ≤ signals_most → Suits row (table_of table) → (tabs : Tables) (z : State) → Marked waves tabs → Holds text pins given args n table z
         → Grants tabs n (sum_at sums r) z left
     asking_all n l few w tabs z m k =
         record {
           asks = record {
-            good = w.good;
-            tabled = λ e. let f = w.tabled e in (f.0, k.table_is ∙ f.1, f.2);
+            good = rw (sym (row_is bad_place (omega arith))) w.good;
+            tabled = λ e. let f = w.tabled (rw (row_is (bad_place + 1) (omega arith)) e) in (f.0, k.table_is ∙ f.1, fine f.0 f.2 f.3);
             shown = λ i t h e. let b = under_slot sums r i t e in rw (k.table_is, pin i h) (((on i h).shown tabs m).fits t b.0 (marked (i * slots) t (omega arith) b.0 b.1));
             fed = λ i t h e c q. let b = given_slot sums r i t e in rw k.table_is ((((on i h).fed tabs m).each c q).fits t b.0 (marked (given_from + i * slots) t (omega arith) b.0 b.1));
           };
           pins_are = λ i h. rw (pin i h) ((on i h).pin_is ∙ ap (λ (u : Shown). left_on u (get_or pins i 0) (arg_of i z.args)) (left_is i h));
         }
       where
+        fine : (k : ℕ) → k < tables_most → flag_in row (fine_from + k) ≡ true → (sum_at sums r).fine k ≡ true
+        fine k h f = rw (lt-ltb k tables_most h, sym (row_is (fine_from + k) (omega arith))) f
+
         pin : (i : ℕ) → i < n → get_or z.pins i 0 ≡ get_or pins i 0
         pin i h = rw (k.pins_are, get_or-take)
 

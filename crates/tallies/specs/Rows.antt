@@ -178,9 +178,9 @@ left_on (char x) c l = x
 left_on argument c l = last_of l 0
 
 -- its bad flag is not set, and where it shows characters by itself under the table before, that one is fine
-pub record Suits (S : Sum) (table : Option ℕ) : Type 0 where
-  pub good : S.bad ≡ false
-  pub tabled : S.needs ≡ true → (k : ℕ) × (table ≡ some k) × (S.fine k ≡ true)
+pub record Suits (row : List ℕ) (table : Option ℕ) : Type 0 where
+  pub good : flag_in row bad_place ≡ false
+  pub tabled : flag_in row (bad_place + 1) ≡ true → (k : ℕ) × (table ≡ some k) × (k < tables_most) × (flag_in row (fine_from + k) ≡ true)
 
 -- the character c can be shown on signal i under each slot that is marked in the row, from a place on; the last slot is the table in force
 pub record FitsWhere (tabs : Tables) (place i c : ℕ) (table : Option ℕ) (row : List ℕ) : Type 0 where

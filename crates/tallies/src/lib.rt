@@ -650,20 +650,20 @@ fn on_signal(
 }
 
 // Is the table in force one that the row asks for?
-fn suits(sums: &[u8], r: usize, table: usize) -> bool
-    requires { r * row_size + row_size ≤ length sums.now }
-    ensures { result ≡ true → Suits (sum_at sums.now r) (table_of table) }
+fn suits(row: &[u8], table: usize) -> bool
+    requires { length row.now ≡ row_size }
+    ensures { result ≡ true → Suits row.now (table_of table) }
 {
-    if byte(sums, r, BAD) != 0 {
+    if row[BAD] != 0 {
         return false;
     }
-    if byte(sums, r, NEEDS) == 0 {
+    if row[NEEDS] == 0 {
         return true;
     }
     if timing::TABLES <= table {
         return false;
     }
-    byte(sums, r, FINE + table) != 0
+    row[FINE + table] != 0
 }
 
 // Does the state grant all that the row asks: these pins, the table, these arguments? Then `left` are the pins that it leaves.
@@ -682,10 +682,10 @@ pub fn asks(
     requires { (r * row_size + row_size ≤ length sums.now) × (length waves.now ≡ tables_most * table_size) × (signals ≤ signals_most) × (length given.now ≡ signals_most) × (length args.now ≡ signals_most * 2) × (signals_most ≤ length pins.now) × (length left.old ≡ signals_most) }
     ensures { (length left.new ≡ signals_most) × (result ≡ true → (tabs : Tables) (s : State) → Marked waves.now tabs → Holds text.now pins.now given.now args.now signals table s → Grants tabs signals (sum_at sums.now r) s left.new) }
 {
-    if !suits(sums, r, table) {
+    let row = &sums[r * ROW..r * ROW + ROW];
+    if !suits(row, table) {
         return false;
     }
-    let row = &sums[r * ROW..r * ROW + ROW];
     for s in 0..signals {
         let Some(pin) = on_signal(text, row, waves, s, pins[s], given, args, table) else {
             return false;
