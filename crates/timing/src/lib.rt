@@ -72,7 +72,7 @@ fn letter(text: &[u8], c: words::Cursor) -> LetterRead
 // Characters and events that an entry may have.
 const ENTRY: usize = 16;
 
-// Alternatives of one event: how many, up to one too many, and the first of them.
+// Alternatives of one event: how many, up to one too many, and the first of them. Memory is fixed, so that they stand in an array with their count.
 #[derive(Clone, Copy)]
 pub struct Alternatives {
     pub n: usize,
