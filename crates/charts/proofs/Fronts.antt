@@ -7,7 +7,7 @@ use mathlib.Core.List.{List, [], ◌∷◌, ◌++◌}
 use lib.ListN.{length, get_or, take, drop, set}
 use lib.Seq.{take-suc, length-take-le}
 use Rattle.data.specs.Filled.{over}
-use Rattle.data.proofs.Over.{over_length, over_set, over_fits}
+use Rattle.data.proofs.Over.{over_set, over_fits}
 
 -- the first i of some numbers stand there
 pub record Fronted (xs before : List ℕ) (i : ℕ) (buffer : List ℕ) : Type 0 where
@@ -19,9 +19,6 @@ module _ {xs before : List ℕ} where
   fronted_none = record { is = refl }
 
   module _ {i : ℕ} {buffer : List ℕ} (f : Fronted xs before i buffer) where
-    pub fronted_length : length buffer ≡ length before
-    fronted_length = ap length f.is ∙ over_length (take i xs) before
-
     pub fronted_more : i < length xs → Fronted xs before (i + 1) (set buffer i (get_or xs i 0))
     fronted_more h =
         let l : length (take i xs) ≡ i = length-take-le i xs (omega arith) in

@@ -183,6 +183,7 @@ pub fn serve(
     requires asked_len_bound { (length (asked_in asked.now) ≤ chart_most) × (length (asked_in asked.now) ≤ length counts.old) }
     ensures { Serves (chart text.now (asked_in asked.now) times.old letters.old counts.old) times.new letters.new counts.new result }
 {
+    // The list goes on by three numbers, the events by as many as a call tells: no one range has both.
     let mut at = 0;
     let mut served = 0;
     let mut events = 0;

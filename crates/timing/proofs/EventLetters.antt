@@ -11,13 +11,13 @@ use lib.Seq.{get_or-set_same, get_or-set_other, get_or-append_seam}
 use lib.Dec.{eqb, ltb}
 use borrow.Author.Tests.{eqb-true, ne_eqb, ltb-true, ltb-false, not-false}
 use Rattle.meaning.specs.Bounds.{entry_most}
-use Rattle.meaning.specs.Lists.{has}
-use Rattle.tokens.specs.Written.{bytes}
-use Rattle.meaning.specs.Timing.{drives, compares, event_letter, letter_due, alternative, letters, spread}
+use Rattle.meaning.specs.Timing.{event_letter, letter_due, alternative, letters, spread}
 use Rattle.meaning.proofs.Takes.{Takes}
 use Rattle.meaning.proofs.Taking.{takes_keeps, takes_any, takes_due, takes_bind, keeps_bind, keeps_known, keeps_give, keeps_while}
 use Rattle.meaning.proofs.Gives.{Gives, gives_bind, gives_after, gives_give, gives_while, known_ok}
-use Rattle.words.specs.Values.{told}
+use Rattle.std.proofs.Common.{Option as Maybe, None, Some}
+use Rattle.std.specs.Option.{is_some, unwrap_or}
+use Rattle.words.specs.Values.{value_of}
 use Rattle.timing.specs.Events.{is_event, all_events, Lettered}
 
 -- ---- a word
@@ -28,14 +28,10 @@ letter_not [] h = refl
 letter_not (e ∷ []) h = absurd (h refl)
 letter_not (e ∷ f ∷ s) h = refl
 
-event_real : (e : ℕ) → is_event e ≡ true → eqb e 0 ≡ false
-unfolding drives compares has bytes
-event_real e h = ne_eqb e 0 λ q. let o : is_event 0 ≡ true = sym (ap is_event q) ∙ h in let z : ◌≡◌ {A = ℕ} 0 1 = cc in omega arith
-
-pub letter_is : (w : List ℕ) → length w ≡ 1 → is_event (get_or w 0 0) ≡ true → told (not (eqb (get_or w 0 0) 0)) (get_or w 0 0) ≡ event_letter w
+pub letter_is : (w : List ℕ) → length w ≡ 1 → is_event (get_or w 0 0) ≡ true → some (get_or w 0 0) ≡ event_letter w
 unfolding event_letter
 letter_is [] l h = absurd (omega arith)
-letter_is (e ∷ []) l h = rw (event_real e h, h, event_letter)
+letter_is (e ∷ []) l h = rw (h, event_letter)
 letter_is (e ∷ f ∷ s) l h = absurd (omega arith)
 
 pub letter_other : (w : List ℕ) → length w ≡ 1 → is_event (get_or w 0 0) ≡ false → none ≡ event_letter w
@@ -44,12 +40,14 @@ letter_other [] l h = absurd (omega arith)
 letter_other (e ∷ []) l h = rw (h, event_letter)
 letter_other (e ∷ f ∷ s) l h = absurd (omega arith)
 
--- what the code's number for a letter says
-pub told_none : (e : ℕ) {o : Option ℕ} → told (not (eqb e 0)) e ≡ o → eqb e 0 ≡ true → o ≡ none
-told_none e t h = sym t ∙ ap (λ (b : Bool). told (not b) e) h
+-- what the code tells of a letter
+pub told_none : (r : Maybe ℕ) {b : Bool} {o : Option ℕ} → is_some r ≡ not b → value_of r ≡ o → b ≡ true → o ≡ none
+told_none None q t h = sym t
+told_none (Some e) q t h = let o : true ≡ false = q ∙ ap not h in let z : ◌≡◌ {A = ℕ} 0 1 = cc in absurd (omega arith)
 
-pub told_some : (e : ℕ) {o : Option ℕ} → told (not (eqb e 0)) e ≡ o → eqb e 0 ≡ false → o ≡ some e
-told_some e t h = sym t ∙ ap (λ (b : Bool). told (not b) e) h
+pub told_some : (r : Maybe ℕ) {b : Bool} {e : ℕ} {o : Option ℕ} → is_some r ≡ not b → e ≡ unwrap_or r 0 → value_of r ≡ o → b ≡ false → o ≡ some e
+told_some (Some e) q v t h = sym t ∙ ap some (sym v)
+told_some None q v t h = let o : true ≡ false = sym (q ∙ ap not h) in let z : ◌≡◌ {A = ℕ} 0 1 = cc in absurd (omega arith)
 
 -- ---- the readers take tokens, and give letters of events
 

@@ -168,9 +168,6 @@ pub record Upto (n t : ℕ) (es : List ℕ) (s : Events) (i : ℕ) (least : List
   pub rose : (j : ℕ) → j < i → rises t (get_or es j 0) (get_or s.0 j []) ≡ true
   pub each : (j f u : ℕ) → j < n → is_event f ≡ true → rises u f (get_or (added i t es s.0) j []) ≡ leb (get_or least (slot f j) 0) u
 
-pub upto_none : {n count t : ℕ} {least : List ℕ} {s : Events} (es : List ℕ) → Timed n count least s → Upto n t es s 0 least
-upto_none es a = record { sized = a.sized; rose = λ j h. absurd (omega arith); each = a.each }
-
 slot_apart : (e f i j : ℕ) → i < entry_most → j < entry_most → slot e i ≡ slot f j → i ≡ j
 slot_apart e f i j h k = by (drives e) (drives f)
   where

@@ -2,17 +2,17 @@
 // one waveform that is wanted, where its entry stands.
 #![tactic(auto)]
 
-ghost use Rattle.std.specs.Prelude.{◌≡◌, ℕ, ◌+◌, ◌*◌, ◌≤◌, ◌<◌, min, Bool, true, false, cond, not, ◌&&◌, List, [], ◌∷◌, ◌++◌, length, get_or, eqb};
+ghost use Rattle.std.specs.Prelude.{◌≡◌, ℕ, ◌+◌, ◌*◌, ◌≤◌, ◌<◌, min, Bool, true, false, not, ◌&&◌, List, [], ◌∷◌, ◌++◌, length, get_or, eqb};
 ghost use Rattle.meaning.specs.Bounds.{entry_most, signals_most, tables_most};
 ghost use Rattle.meaning.specs.Lists.{has, repeats as repeats_of};
 ghost use Rattle.meaning.specs.Reader.{Reader};
-ghost use Rattle.meaning.specs.Timing.{drives as drives_of, compares as compares_of, event_letter, letter_due, letters as letters_of, spread, Events, Wave, Tables as TablesOf, counted_most, one_event, event as event_of, wave_char, all_chars, blanks, entry as entry_of, waveforms as waveforms_of, table as table_of, timing as timing_of};
+ghost use Rattle.meaning.specs.Timing.{drives as drives_of, compares as compares_of, event_letter, letter_due, letters as letters_of, spread, Events, Wave, Tables as TablesOf, counted_most, one_event, event as event_of, all_chars, blanks, entry as entry_of, waveforms as waveforms_of, table as table_of, timing as timing_of};
 ghost use Rattle.words.specs.Cursor.{Goes, alive};
-ghost use Rattle.words.specs.Values.{told};
+ghost use Rattle.words.specs.Values.{value_of};
 ghost use Rattle.signals.specs.Names.{list_at, names_of, Chained, Sized, names_most, row_length};
 ghost use Rattle.timing.specs.Makes.{Makes, Brings};
 ghost use Rattle.timing.specs.Events.{all_events, Lettered, slot as slot_of, Timed, Adding, events as events_of};
-ghost use Rattle.timing.specs.Marks.{table_size, mark, Marks, Described, mark_of, mark_among, Marked, Below, AllBelow};
+ghost use Rattle.timing.specs.Marks.{table_size, mark, Described, mark_of, mark_among, Marked, Below, AllBelow};
 ghost use Rattle.timing.specs.Parts.{Chars, entries as entries_of, block as block_of, head_then};
 ghost use Rattle.timing.specs.Held.{Held};
 ghost use Rattle.timing.specs.Watch.{Placed, looked, Noted, Kept};
@@ -38,18 +38,18 @@ pub fn compares(e: u8) -> bool
             | ((88 == e) | ((84 == e) | ((108 == e) | ((104 == e) | ((120 == e) | false))))))
 }
 
-// The letter of an event that a word is; 0 where it is none.
-fn event_letter(w: &[u8]) -> u8
-    ensures { told (not (eqb result 0)) result ≡ event_letter w.now }
+// The letter of an event that a word is.
+fn event_letter(w: &[u8]) -> Option<u8>
+    ensures { value_of result ≡ event_letter w.now }
 {
     if w.len() != 1 {
-        return 0;
+        return None;
     }
     let e = w[0];
     if drives(e) | compares(e) {
-        return e;
+        return Some(e);
     }
-    0
+    None
 }
 
 // A letter that was read, and the cursor behind it.
@@ -65,14 +65,17 @@ fn letter(text: &[u8], c: words::Cursor) -> LetterRead
 {
     let d = words::step(text, c);
     let e = event_letter(words::bytes_of(text, c.at, c.end));
-    let cursor = words::refuse_if(d, e == 0, NOT_HERE, c.at);
-    LetterRead { cursor, e }
+    let cursor = words::refuse_if(d, e.is_none(), NOT_HERE, c.at);
+    LetterRead {
+        cursor,
+        e: e.unwrap_or(0),
+    }
 }
 
 // Characters and events that an entry may have.
 const ENTRY: usize = 16;
 
-// Alternatives of one event: how many, up to one too many, and the first of them.
+// Alternatives of one event: how many, up to one too many, and the first of them. Memory is fixed, so that they stand in an array with their count.
 #[derive(Clone, Copy)]
 pub struct Alternatives {
     pub n: usize,

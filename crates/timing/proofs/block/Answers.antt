@@ -1,17 +1,14 @@
 -- `block` meets its contract. The invariant: reading on from here, with the waveforms that are marked, is reading all names' waveforms.
-use mathlib.Core.Path.{refl, ◌∙◌}
+use mathlib.Core.Path.{◌∙◌}
 use mathlib.Core.Bool.{false}
 use Rattle.tokens.specs.Written.{bytes}
 use Rattle.meaning.specs.Timing.{waveforms}
 use Rattle.signals.specs.Names.{names_of}
 use Rattle.words.proofs.Loops.{on}
-use Rattle.timing.proofs.Making.{looping, again, fewer, leaves, closes}
+use Rattle.timing.proofs.Making.{again, fewer, leaves, closes}
 use Rattle.timing.proofs.EntryReading.{takes_waveforms}
 use Rattle.timing.proofs.Watching.{unwatched}
 use Rattle.timing.proofs.block.Goals as goal
-
-pub loop-watch-init : goal.loop-watch-init
-loop-watch-init c = (refl, λ here ws m. looping ws (λ a. m))
 
 pub waveforms-x-requires : goal.waveforms-x-requires
 waveforms-x-requires c = let l = c.loop-watch.invariant.1 false c.requires.3.waves (unwatched c.requires.3.marks) in
@@ -25,9 +22,6 @@ loop-watch-smaller c = let l = c.loop-watch.invariant.1 false c.requires.3.waves
 pub loop-watch-preserved : goal.loop-watch-preserved
 unfolding bytes
 loop-watch-preserved c = (c.waveforms-x.auto.table ∙ c.loop-watch.invariant.0, λ here ws m. again (takes_waveforms (names_of c.args.text.now c.args.places.now c.args.lists.now c.args.names)) (c.loop-watch.invariant.1 here ws m) c.until.ensures c.loop-watch-test.true (c.waveforms-x.ensures here))
-
-pub shape_of-table : goal.shape_of-table
-shape_of-table c = c.loop-watch.invariant.0
 
 pub returns : goal.returns
 unfolding bytes

@@ -1,18 +1,12 @@
 -- `entries` meets its contract. The invariant: reading on from here, with the waveforms that are marked, is reading all entries.
-use mathlib.Core.Path.{refl, ◌∙◌}
+use mathlib.Core.Path.{◌∙◌}
 use mathlib.Core.Bool.{false}
 use Rattle.tokens.specs.Written.{bytes}
 use Rattle.meaning.specs.Timing.{entry}
-use Rattle.timing.proofs.Making.{looping, again, fewer, leaves, closes}
+use Rattle.timing.proofs.Making.{again, fewer, leaves, closes}
 use Rattle.timing.proofs.EntryReading.{takes_entry}
 use Rattle.timing.proofs.Watching.{unwatched}
 use Rattle.timing.proofs.entries.Goals as goal
-
-pub loop-watch-init : goal.loop-watch-init
-loop-watch-init c = (refl, c.requires.3, λ here ws m. looping ws (λ a. m))
-
-pub entry-x-requires : goal.entry-x-requires
-entry-x-requires c = (c.loop-watch.invariant.0 ∙ c.requires.0, c.requires.1, c.loop-watch.invariant.1)
 
 pub loop-watch-smaller : goal.loop-watch-smaller
 unfolding bytes
@@ -22,9 +16,6 @@ loop-watch-smaller c = let l = c.loop-watch.invariant.2 false c.requires.2.waves
 pub loop-watch-preserved : goal.loop-watch-preserved
 unfolding bytes
 loop-watch-preserved c = (c.entry-x.auto.table ∙ c.loop-watch.invariant.0, c.entry-x.ensures.placed, λ here ws m. again (takes_entry c.args.sigs.now) (c.loop-watch.invariant.2 here ws m) c.until.ensures c.loop-watch-test.true (c.entry-x.ensures.makes here))
-
-pub shape_of-table : goal.shape_of-table
-shape_of-table c = c.loop-watch.invariant.0
 
 pub returns : goal.returns
 unfolding bytes

@@ -9,4 +9,4 @@ use Rattle.timing.proofs.letter.Goals as goal
 pub returns : goal.returns
 unfolding letter_due
 returns c = let told = c.event_letter-e.ensures ∙ ap event_letter c.bytes_of.ensures in
-    then _ c.step-d.ensures (known_by c.refuse_if-cursor.ensures refl (λ a h. told_none c.event_letter-e.result told h) (λ a h. told_some c.event_letter-e.result told h))
+    then _ c.step-d.ensures (known_by c.refuse_if-cursor.ensures refl (λ a h. told_none c.event_letter-e.result c.is_none.ensures told h) (λ a h. told_some c.event_letter-e.result c.is_none.ensures c.unwrap_or.ensures told h))

@@ -4,12 +4,9 @@ use Rattle.tokens.specs.Written.{bytes}
 use Rattle.meaning.specs.Timing.{alternative, letters}
 use Rattle.words.proofs.Flow.{then, given}
 use Rattle.timing.specs.Events.{Lettered}
-use Rattle.timing.proofs.Making.{looping, again, fewer, leaves, made, makes_then}
+use Rattle.timing.proofs.Making.{again, fewer, leaves, made, makes_then}
 use Rattle.timing.proofs.EventLetters.{takes_alternative}
 use Rattle.timing.proofs.letters.Goals as goal
-
-pub loop-d-init : goal.loop-d-init
-loop-d-init c = λ es₀ h. looping es₀ (λ a. h)
 
 pub loop-d-smaller : goal.loop-d-smaller
 unfolding alternative bytes

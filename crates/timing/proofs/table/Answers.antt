@@ -17,41 +17,13 @@ pub returns-then-e-ne0 : goal.returns-then-e-ne0
 unfolding bytes
 returns-then-e-ne0 c = λ tabs a. table_stops c.args.tplaces.now c.due-a.ensures c.refuse_if-b.ensures c.new_name-d.ensures c.head-headed.ensures (names_of c.args.text.now c.args.places.now c.args.lists.now c.args.names) a.held (ne_eqb c.head-headed.result.cursor.no 0 c.if-e-ne0.true)
 
-pub overflow_mul-tplaces : goal.overflow_mul-tplaces
-unfolding bytes
-overflow_mul-tplaces c = omega (arith, table_room c.args.tplaces.now c.due-a.ensures c.refuse_if-b.ensures c.new_name-d.ensures c.head-headed.ensures (eq-eqb c.head-headed.result.cursor.no 0 c.if-e-ne0.false))
-
-pub offset_bounds-tplaces-k : goal.offset_bounds-tplaces-k
-unfolding bytes
-offset_bounds-tplaces-k c = omega (arith, table_room c.args.tplaces.now c.due-a.ensures c.refuse_if-b.ensures c.new_name-d.ensures c.head-headed.ensures (eq-eqb c.head-headed.result.cursor.no 0 c.if-e-ne0.false))
-
 pub bounds-tplaces-k : goal.bounds-tplaces-k
 unfolding bytes
 bounds-tplaces-k c = omega (arith, table_room c.args.tplaces.now c.due-a.ensures c.refuse_if-b.ensures c.new_name-d.ensures c.head-headed.ensures (eq-eqb c.head-headed.result.cursor.no 0 c.if-e-ne0.false), c.requires.tplaces_len.0)
 
-pub overflow_mul-tplaces-2 : goal.overflow_mul-tplaces-2
-unfolding bytes
-overflow_mul-tplaces-2 c = omega (arith, table_room c.args.tplaces.now c.due-a.ensures c.refuse_if-b.ensures c.new_name-d.ensures c.head-headed.ensures (eq-eqb c.head-headed.result.cursor.no 0 c.if-e-ne0.false))
-
-pub overflow_add-tplaces : goal.overflow_add-tplaces
-unfolding bytes
-overflow_add-tplaces c = omega (arith, table_room c.args.tplaces.now c.due-a.ensures c.refuse_if-b.ensures c.new_name-d.ensures c.head-headed.ensures (eq-eqb c.head-headed.result.cursor.no 0 c.if-e-ne0.false))
-
-pub offset_bounds-tplaces-k-2 : goal.offset_bounds-tplaces-k-2
-unfolding bytes
-offset_bounds-tplaces-k-2 c = omega (arith, table_room c.args.tplaces.now c.due-a.ensures c.refuse_if-b.ensures c.new_name-d.ensures c.head-headed.ensures (eq-eqb c.head-headed.result.cursor.no 0 c.if-e-ne0.false))
-
 pub bounds-tplaces-k-2 : goal.bounds-tplaces-k-2
 unfolding bytes
 bounds-tplaces-k-2 c = simp length-set (omega (arith, table_room c.args.tplaces.now c.due-a.ensures c.refuse_if-b.ensures c.new_name-d.ensures c.head-headed.ensures (eq-eqb c.head-headed.result.cursor.no 0 c.if-e-ne0.false), c.requires.tplaces_len.0))
-
-pub overflow_mul-first : goal.overflow_mul-first
-unfolding bytes
-overflow_mul-first c = omega (arith, table_room c.args.tplaces.now c.due-a.ensures c.refuse_if-b.ensures c.new_name-d.ensures c.head-headed.ensures (eq-eqb c.head-headed.result.cursor.no 0 c.if-e-ne0.false))
-
-pub overflow_add-end : goal.overflow_add-end
-unfolding bytes
-overflow_add-end c = omega (arith, table_room c.args.tplaces.now c.due-a.ensures c.refuse_if-b.ensures c.new_name-d.ensures c.head-headed.ensures (eq-eqb c.head-headed.result.cursor.no 0 c.if-e-ne0.false))
 
 pub slice_bounds-marks-end : goal.slice_bounds-marks-end
 unfolding bytes

@@ -45,12 +45,6 @@ pub loop-watch-preserved : goal.loop-watch-preserved
 unfolding bytes
 loop-watch-preserved c = (c.table-x-in-loop-watch.auto.tplaces ∙ c.loop-watch.invariant.0, c.table-x-in-loop-watch.auto.waves ∙ c.loop-watch.invariant.1, λ tabs h. again (takes_table (names_of c.args.text.now c.args.places.now c.args.lists.now c.args.names)) (c.loop-watch.invariant.2 tabs h) c.until.ensures c.loop-watch-test.true c.table-x-in-loop-watch.ensures)
 
-pub shape_of-tplaces : goal.shape_of-tplaces
-shape_of-tplaces c = c.loop-watch.invariant.0 ∙ c.table-x.auto.tplaces
-
-pub shape_of-waves : goal.shape_of-waves
-shape_of-waves c = c.loop-watch.invariant.1 ∙ c.table-x.auto.waves
-
 pub returns : goal.returns
 unfolding timing bytes
 returns c = let first = c.table-x.ensures [] (kept_none c.args.text.now c.args.tplaces.now c.args.waves.now c.args.watch c.requires.by_index) in
