@@ -170,7 +170,7 @@ pub fn has_mark(given: &[u8]) -> bool
     words::holds(given, MARK)
 }
 
-// The uses of a V outside the Shift.
+// The uses of a V outside the Shift. By number: characters and counts are walked at one index.
 pub fn count_uses(given: &[u8], row: &mut [u16])
     requires { (length given.now ≡ signals_most) × (length row.old ≡ row_length) }
     ensures { (p : ℕ) (a : Assigns) (b : Body) → Given a given.now → Uses b row.old → Uses (joined b (vec p a done)) row.new }

@@ -1,13 +1,12 @@
 -- Marks that a table's own marks cover are characters that have their waveforms.
 use Prim.Native.Nat.{ℕ, ◌+◌, ◌*◌, ◌≤◌, ◌<◌}
 use native.Mathlib.Omega.{arith}
-use mathlib.Core.Path.{◌≡◌, refl, sym, ap, ◌∙◌}
-use mathlib.Core.Bool.{Bool, true, false, not, ◌&&◌, true≢false}
+use mathlib.Core.Path.{◌≡◌, sym, ap, ◌∙◌}
+use mathlib.Core.Bool.{true}
 use mathlib.Core.List.{List}
 use lib.Dec.{ltb, eqb}
 use lib.ListN.{get_or}
-use borrow.Author.Count.{below_more}
-use borrow.Author.Tests.{ltb-true, eqb-true, eq-eqb, ne_eqb}
+use borrow.Author.Tests.{ltb-true, eqb-true, eq-eqb}
 use Rattle.tokens.proofs.Bools.{both}
 use Rattle.meaning.specs.Bounds.{signals_most, tables_most}
 use Rattle.meaning.specs.Timing.{Tables}
@@ -15,20 +14,6 @@ use Rattle.meaning.specs.Meaning.{has_wave, table_at}
 use Rattle.timing.specs.Marks.{chars_most, table_size, mark}
 use Rattle.timing.specs.Held.{Held}
 use Rattle.noted.specs.Noted.{Covered, Fine}
-
-pub covered_none : {used waves : List ℕ} {k : ℕ} → Covered used waves k 0
-covered_none = record { each = λ i h. absurd (omega arith) }
-
-pub covered_more : {used waves : List ℕ} {k i : ℕ} (at : ℕ) → Covered used waves k i → at ≡ k * table_size
-    → (not (eqb (get_or used i 0) 0) && not (eqb (get_or waves (at + i) 0) 1)) ≡ false → Covered used waves k (i + 1)
-covered_more {used} {waves} {k} {i} at x q h = record { each = below_more (λ j. get_or used j 0 ≡ 1 → get_or waves (k * table_size + j) 0 ≡ 1) i x.each here }
-  where
-    here : get_or used i 0 ≡ 1 → get_or waves (k * table_size + i) 0 ≡ 1
-    here u = by (eqb (get_or waves (at + i) 0) 1) refl h
-      where
-        by : (z : Bool) → eqb (get_or waves (at + i) 0) 1 ≡ z → (not (eqb (get_or used i 0) 0) && not z) ≡ false → get_or waves (k * table_size + i) 0 ≡ 1
-        by true e h = rw (sym q) (eqb-true _ 1 e)
-        by false e h = absurd (true≢false (rw (ne_eqb (get_or used i 0) 0 (λ z. omega arith)) at h))
 
 pub fine_all : {tables : ℕ} {used waves : List ℕ} → tables ≤ tables_most → ((k : ℕ) → k < tables → Covered used waves k table_size)
     → (text tplaces : List ℕ) (count : ℕ) (tabs : Tables) → Held text tplaces waves count tabs → Fine tables used tabs

@@ -2,13 +2,13 @@
 use Prim.Native.Nat.{ℕ, ◌+◌, ◌*◌, ◌≤◌, ◌<◌}
 use native.Mathlib.Omega.{arith}
 use mathlib.Core.Path.{◌≡◌, refl, sym, ap, ◌∙◌, subst}
-use mathlib.Core.Bool.{Bool, true, false, not, ◌&&◌, ◌||◌, true≢false}
+use mathlib.Core.Bool.{Bool, true, false, ◌||◌, true≢false}
 use mathlib.Core.List.{List, [], ◌∷◌}
 use lib.Dec.{ltb, leb, eqb}
 use lib.ListN.{length, get_or, take, set, length-set}
-use lib.Seq.{take_all, get_or-set_same, get_or-set_other}
+use lib.Seq.{get_or-set_same, get_or-set_other}
 use borrow.Author.Count.{below_more}
-use borrow.Author.Tests.{lt-ltb, ltb-true, ltb-false, leb-true, eqb-true, eqb-false, eq-eqb, ne_eqb}
+use borrow.Author.Tests.{lt-ltb, ltb-true, ltb-false, leb-true, eqb-true, eqb-false, eq-eqb}
 use Rattle.tokens.specs.Bytes.{between, digit, letter}
 use Rattle.tokens.proofs.Bools.{both, neither, either}
 use Rattle.meaning.specs.Bounds.{signals_most}
@@ -73,9 +73,6 @@ module _ (w : List ℕ) (i : ℕ) {s : ℕ} {used : List ℕ} (x : CharsNoted us
   pub word_more : {used' : List ℕ} → i < length w → Grows used used' → CharNoted used' s (get_or w i 0) → CharsNoted used' s (take (i + 1) w)
   word_more {used'} h g m = record { each = λ c. has_more w i h c (λ e. grows_char g (x.each c e)) (λ e. subst (CharNoted used' s) e m) }
 
-  pub word_all : length w ≤ i → CharsNoted used s w
-  word_all h = subst (CharsNoted used s) (take_all i w h) x
-
 -- ---- letters, digits and `#` are below the bound
 
 between_most : (a b c : ℕ) → between a b c ≡ true → c ≤ b
@@ -101,21 +98,6 @@ Told given used s = (get_or given s 0 ≡ 0 → ⊥) → (get_or given s 0 ≡ b
 pub record Noting (given : List ℕ) (s : ℕ) (before used : List ℕ) : Type 0 where
   pub grows : Grows before used
   pub each : (i : ℕ) → i < s → Told given used i
-
-module _ {given before : List ℕ} where
-  pub noting_none : Noting given 0 before before
-  noting_none = record { grows = grows_none; each = λ i h. absurd (omega arith) }
-
-  module _ {s : ℕ} {used : List ℕ} (x : Noting given s before used) where
-    pub noting_kept : (not (eqb (get_or given s 0) 0) && not (eqb (get_or given s 0) body.mark)) ≡ false → Noting given (s + 1) before used
-    noting_kept e = record { grows = x.grows; each = below_more (Told given used) s x.each (λ n m. absurd (true≢false (rw (ne_eqb _ _ n, ne_eqb _ _ m) at e))) }
-
-    pub noting_next : {used' : List ℕ} → Grows used used' → CharNoted used' s (get_or given s 0) → Noting given (s + 1) before used'
-    noting_next {used'} g m =
-        record {
-          grows = grows_then x.grows g;
-          each = below_more (Told given used') s (λ i h n o. grows_char g (x.each i h n o)) (λ n o. m);
-        }
 
 -- from s on none is given anything
 pub noting_rest : {given before used : List ℕ} {s : ℕ} → Noting given s before used → ((i : ℕ) → s ≤ i → get_or given i 0 ≡ 0) → (e : ℕ) → Noting given e before used
@@ -230,9 +212,6 @@ pub record NotingArgs (text given args : List ℕ) (s : ℕ) (before used : List
   pub each : (i : ℕ) → i < s → (get_or given i 0 ≡ 0 → ⊥) → Fed text args used i
 
 module _ {text given args before : List ℕ} where
-  pub args_none : NotingArgs text given args 0 before before
-  args_none = record { grows = grows_none; each = λ i h. absurd (omega arith) }
-
   module _ {s : ℕ} {used : List ℕ} (x : NotingArgs text given args s before used) where
     pub args_kept : get_or given s 0 ≡ 0 → NotingArgs text given args (s + 1) before used
     args_kept e = record { grows = x.grows; each = below_more (λ i. (get_or given i 0 ≡ 0 → ⊥) → Fed text args used i) s x.each (λ n. absurd (n e)) }

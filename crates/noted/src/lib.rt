@@ -76,6 +76,7 @@ pub fn note_args(text: &[u8], given: &[u8], args: &[usize], used: &mut [u8])
     ensures { Grows used.old used.new × ((xs : Args) → Supplied text.now xs given.now args.now → Supplies used.new xs) }
 {
     let n = words::zeros_from(given);
+    // By number: the places of arguments are walked at the same index.
     for s in 0..n {
         if given[s] != 0 {
             note_data(text, args[sets::MOST + s], used, s);
@@ -85,7 +86,7 @@ pub fn note_args(text: &[u8], given: &[u8], args: &[usize], used: &mut [u8])
 
 // ---- waveforms for the marks
 
-// Has the table of number k a waveform for each mark? No branch for any, so that many are looked at together.
+// Has the table of number k a waveform for each mark? No branch for any, so that many are looked at together: by number, since two lists are walked at one index.
 fn covered(used: &[u8], waves: &[u8], k: usize) -> bool
     requires { (length used.now ≡ table_size) × (length waves.now ≡ tables_most * table_size) × (k < tables_most) }
     ensures { result ≡ true → Covered used.now waves.now k table_size }

@@ -180,6 +180,7 @@ fn having(text: &[u8], feed: Feed, waves: &[u8], table: usize, s: usize, most: u
 {
     let mut n = in_word(text, feed, waves, table, s, most);
     let mut here = feeds::skip(text, feed, n);
+    // No range: a character, and as many of its word as go with it.
     while n < most {
         let x = feeds::next(text, here);
         if !has_mark(waves, table, s, x.char) {

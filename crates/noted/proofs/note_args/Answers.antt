@@ -1,17 +1,9 @@
 -- Each turn takes the next signal.
 use native.Mathlib.Omega.{arith}
 use Rattle.meaning.specs.Bounds.{signals_most}
-use Rattle.noted.proofs.Marking.{args_none, args_kept, args_next, args_rest, args_all}
+use Rattle.noted.proofs.Marking.{args_kept, args_next, args_rest, args_all}
 use Rattle.noted.proofs.note_args.Goals as goal
 use Rattle.noted.proofs.note_args.Goals.{then-given-s-ne0, else-given-s-ne0}
-
-pub loop-s-init : goal.loop-s-init
-loop-s-init c = args_none
-
-pub note_data-requires : goal.note_data-requires
-note_data-requires c =
-    let pre' = c.requires in
-    (omega (arith, c.loop-s.invariant.grows.long), omega (arith, c.zeros_from-n.ensures.within, pre'.0))
 
 pub loop-s-preserved : goal.loop-s-preserved
 loop-s-preserved c =

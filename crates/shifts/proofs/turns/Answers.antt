@@ -1,33 +1,8 @@
 -- Each turn of the loop is a turn of the V, from the one that has the cycle looked for on.
-use native.Mathlib.Omega.{arith}
 use mathlib.Core.Path.{sym, ◌∙◌}
-use Rattle.pins.proofs.Callers.{others_then, roomy_kept}
-use Rattle.shifts.proofs.Turning.{due_past, after_none, after_all, after_more, after_over, shifting_all}
+use Rattle.pins.proofs.Callers.{others_then}
+use Rattle.shifts.proofs.Turning.{after_all, after_more, after_over, shifting_all}
 use Rattle.shifts.proofs.turns.Goals as goal
-
-pub skip-requires : goal.skip-requires
-skip-requires c =
-    let pre = c.requires in
-    (pre.0, pre.1)
-
-pub past-w-requires : goal.past-w-requires
-past-w-requires c = omega arith
-
-pub loop-init : goal.loop-init
-loop-init c =
-    let pre = c.requires in
-    after_none (due_past c.past-w.ensures pre.2 pre.4)
-
-pub put-requires : goal.put-requires
-put-requires c =
-    let pre = c.requires in
-    (roomy_kept pre.0 (others_then c.skip.ensures.0 c.loop.invariant.others), pre.1)
-
-pub cycle-w-requires : goal.cycle-w-requires
-cycle-w-requires c =
-    let room = roomy_kept c.requires.0 (others_then (others_then c.skip.ensures.0 c.loop.invariant.others) c.put.ensures.0) in
-    let due = c.loop.invariant.due in
-    (room.few, room.values_long, due.going, due.enough)
 
 pub returns-then-over : goal.returns-then-over
 returns-then-over c =
