@@ -95,30 +95,30 @@ module _ (text spans : List ℕ) (spare : Bool) where
   save_beyond copy h = saves_refused (spared_refused spare (save_refused text spans (mends_refused h)))
 
   module _ (copy : List ℕ) {log log' : List ℕ} {n : ℕ} (h : Mends text (take (length text) copy) log log' (Ok n)) where
-      abbrev it : SavedText
-      it = record { text = take (length text) copy; spans = h.spans }
+    abbrev it : SavedText
+    it = record { text = take (length text) copy; spans = h.spans }
 
-      saves_it : saving text ≡ given it
-      saves_it = mends_saved h
+    saves_it : saving text ≡ given it
+    saves_it = mends_saved h
 
-      pub save_roomless : (not spare || ltb (length spans / 2) n) ≡ true → Saves (spared spare (save text spans)) text text spans spans (Err (record { no = no_room; place = 0 }))
-      save_roomless e = saves_refused (by spare (ltb (length spans / 2) n) refl e)
-        where
-          by : (s : Bool) (l : Bool) → ltb (length spans / 2) n ≡ l → (not s || l) ≡ true → spared s (save text spans) ≡ refused no_room 0
-          by s true q e = spared_refused s (save_full text spans saves_it (omega (arith, ltb-true (length spans / 2) n q, h.ended.1)))
-          by false false q e = spared_given (save_given text spans saves_it (omega (arith, ltb-false (length spans / 2) n q, h.ended.1)))
-          by true false q e = let z : ◌≡◌ {A = ℕ} 0 1 = cc in absurd (omega arith)
+    pub save_roomless : (not spare || ltb (length spans / 2) n) ≡ true → Saves (spared spare (save text spans)) text text spans spans (Err (record { no = no_room; place = 0 }))
+    save_roomless e = saves_refused (by spare (ltb (length spans / 2) n) refl e)
+      where
+        by : (s : Bool) (l : Bool) → ltb (length spans / 2) n ≡ l → (not s || l) ≡ true → spared s (save text spans) ≡ refused no_room 0
+        by s true q e = spared_refused s (save_full text spans saves_it (omega (arith, ltb-true (length spans / 2) n q, h.ended.1)))
+        by false false q e = spared_given (save_given text spans saves_it (omega (arith, ltb-false (length spans / 2) n q, h.ended.1)))
+        by true false q e = let z : ◌≡◌ {A = ℕ} 0 1 = cc in absurd (omega arith)
 
-      module _ (e : (not spare || ltb (length spans / 2) n) ≡ false) where
-        enough : n ≤ length spans / 2
-        enough = ltb-false (length spans / 2) n (neither (not spare) (ltb (length spans / 2) n) e).1
+    module _ (e : (not spare || ltb (length spans / 2) n) ≡ false) where
+      enough : n ≤ length spans / 2
+      enough = ltb-false (length spans / 2) n (neither (not spare) (ltb (length spans / 2) n) e).1
 
-        pub some_copy : length text ≤ text_most → SomeCopy text spans copy log' n
-        some_copy s = record { saved = it; saves = saves_it; short = s; copied = refl; blank = log; logged = h.noted; counted = h.ended.1; roomy = enough }
+      pub some_copy : length text ≤ text_most → SomeCopy text spans copy log' n
+      some_copy s = record { saved = it; saves = saves_it; short = s; copied = refl; blank = log; logged = h.noted; counted = h.ended.1; roomy = enough }
 
-        pub save_told : {text' spans' : List ℕ} → ((x : SavedText) → saving text ≡ given x → (text' ≡ x.text) × (spans' ≡ noted_all x.spans spans))
-            → Saves (spared spare (save text spans)) text text' spans spans' (Ok n)
-        save_told {text'} {spans'} f =
-            let w = f it saves_it in
-            saves_given (ap (λ (b : Bool). spared b (save text spans)) (not-false spare (neither (not spare) (ltb (length spans / 2) n) e).0) ∙ spared_all (save text spans)
-            ∙ save_given text spans saves_it (omega (arith, enough, h.ended.1)) ∙ rw (← h.ended.1, ← w.0, ← w.1))
+      pub save_told : {text' spans' : List ℕ} → ((x : SavedText) → saving text ≡ given x → (text' ≡ x.text) × (spans' ≡ noted_all x.spans spans))
+          → Saves (spared spare (save text spans)) text text' spans spans' (Ok n)
+      save_told {text'} {spans'} f =
+          let w = f it saves_it in
+          saves_given (ap (λ (b : Bool). spared b (save text spans)) (not-false spare (neither (not spare) (ltb (length spans / 2) n) e).0) ∙ spared_all (save text spans)
+          ∙ save_given text spans saves_it (omega (arith, enough, h.ended.1)) ∙ rw (← h.ended.1, ← w.0, ← w.1))
