@@ -101,8 +101,8 @@ fn pattern<'a>(
         let due = sets::least(most, count - done);
         f = window(
             page,
-            ground,
             f,
+            ground,
             list,
             listed,
             patterns,
@@ -158,9 +158,9 @@ fn patterns_of<'a>(
         );
         part = pattern(
             page,
-            ground,
             part.pen,
             part.pattern,
+            ground,
             list,
             listed,
             patterns,

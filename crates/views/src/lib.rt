@@ -7,6 +7,8 @@ ghost use Rattle.verdicts.specs.Found.{SomeFound};
 ghost use Rattle.verdicts.specs.Buffers.{spared};
 ghost use Rattle.views.specs.Views.{Views};
 
+use heads::Declared;
+use plays::Ground;
 use texts::Verdict;
 use tokens::Refusal;
 use words::{BAD_DATA, NO_ROOM};

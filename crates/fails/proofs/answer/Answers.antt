@@ -15,13 +15,13 @@ pub judge-v-requires : goal.judge-v-requires
 judge-v-requires c = (c.refer-known_labels.ensures.held, c.refer-known_labels.ensures.room)
 
 pub returns-in-Some : goal.returns-in-Some
-returns-in-Some c = answer_outside _ _ _ _ _ _ _ _ c.bytes_of-name.ensures c.refer-known_labels.ensures (room_is c) c.judge-v.ensures c.in-Some.is
+returns-in-Some c = answer_outside _ _ _ _ _ _ _ _ c.bytes_of-name.ensures c.refer-known_labels.ensures (c.min-room.ensures ∙ ap (min _) c.min.ensures) c.judge-v.ensures c.in-Some.is
 
 pub returns-then-v-spare : goal.returns-then-v-spare
-returns-then-v-spare c = answer_full _ _ _ _ _ _ _ _ c.bytes_of-name.ensures c.refer-known_labels.ensures (room_is c) c.judge-v.ensures c.in_default.is c.if-v-spare.true
+returns-then-v-spare c = answer_full _ _ _ _ _ _ _ _ c.bytes_of-name.ensures c.refer-known_labels.ensures (c.min-room.ensures ∙ ap (min _) c.min.ensures) c.judge-v.ensures c.in_default.is c.if-v-spare.true
 
 pub write-n-requires : goal.write-n-requires
 write-n-requires c = (c.refer-known_labels.ensures.held, c.refer-known_labels.ensures.room)
 
 pub returns : goal.returns
-returns c = answer_given _ _ _ _ _ _ _ _ c.bytes_of-name.ensures c.refer-known_labels.ensures (room_is c) c.judge-v.ensures c.in_default.is c.if-v-spare.false c.write-n.ensures
+returns c = answer_given _ _ _ _ _ _ _ _ c.bytes_of-name.ensures c.refer-known_labels.ensures (c.min-room.ensures ∙ ap (min _) c.min.ensures) c.judge-v.ensures c.in_default.is c.if-v-spare.false c.write-n.ensures

@@ -2,8 +2,8 @@
 use Rattle.stil.proofs.Handing.{packed_near, packed_far}
 use Rattle.stil.proofs.pack.Goals as goal
 
-pub returns-then-place-le-TEXT_MOST : goal.returns-then-place-le-TEXT_MOST
-returns-then-place-le-TEXT_MOST c = packed_near _ _ c.if-place-le-TEXT_MOST.true
+pub returns-then-refusal-le-TEXT_MOST : goal.returns-then-refusal-le-TEXT_MOST
+returns-then-refusal-le-TEXT_MOST c = packed_near _ _ c.if-refusal-le-TEXT_MOST.true
 
 pub returns : goal.returns
-returns c = packed_far _ _ c.if-place-le-TEXT_MOST.false
+returns c = packed_far _ _ c.if-refusal-le-TEXT_MOST.false

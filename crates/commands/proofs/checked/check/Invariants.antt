@@ -1,9 +1,6 @@
 -- `check` is safe and ends: no more files are counted than there are words.
-use Prim.Native.Nat.{◌+◌, ◌-◌, ◌≤◌}
+use Prim.Native.Nat.{◌+◌, ◌≤◌}
 use Rattle.commands.proofs.checked.check.Given as goal
 
 abbrev pub invariant-loop-i : goal.invariant-loop-i
-invariant-loop-i g l = (2 ≤ l.i) × (l.tally.good + l.tally.hurt + l.tally.unread ≤ l.i)
-
-abbrev pub decreases-loop-i : goal.decreases-loop-i
-decreases-loop-i g l = l.words - l.i
+invariant-loop-i g l = l.tally.good + l.tally.hurt + l.tally.unread ≤ l.i

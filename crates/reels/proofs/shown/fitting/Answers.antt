@@ -19,6 +19,6 @@ below a b r e = (omega arith, omega arith, λ h k. omega arith)
 pub returns : goal.returns
 returns c =
     let a = c.args in
-    let r = c.least.result in
-    let e = below a.left (1048576 / a.width) r c.least.ensures in
+    let r = c.min.result in
+    let e = below a.left (1048576 / a.width) r c.min.ensures in
     (e.0, rows_fit a.width r e.1, λ h. e.2 h (row_fits a.width c.requires.0 c.requires.1))
