@@ -1,7 +1,7 @@
 // check FILE..
 ghost use Rattle.std.specs.Prelude.{◌≡◌, ◌+◌, ◌≤◌, ◌<◌, length};
 
-use crate::{asked, files};
+use crate::{answers, asked, files};
 use streams::System;
 
 #[derive(Clone, Copy)]
@@ -9,13 +9,6 @@ enum Found {
     Good,
     Hurt,
     Unread,
-}
-
-// A file's line at the front of a page: what was found, and where the line ends.
-#[derive(Clone, Copy)]
-struct Line {
-    found: Found,
-    end: usize,
 }
 
 // How many files were found so.
@@ -28,38 +21,28 @@ struct Tally {
 
 // ---- one file
 
-fn judged_line(file: &[u8], text: &[u8], page: &mut [u8]) -> Line
-    requires { (length file.now ≤ 131072) × (length page.old ≡ 262144) }
-{
-    match services::check(text) {
-        Ok(c) => Line {
-            found: Found::Good,
-            end: lines::good(
-                page, 0, file, c.signals, c.tables, c.listed, c.cycles, c.size,
-            ),
-        },
-        Err(refusal) => Line {
-            found: Found::Hurt,
-            end: lines::hurt(page, 0, file, text, refusal.no, refusal.place),
-        },
-    }
-}
-
 // What was found of a file, whose line was written.
 fn unread(rt: &impl System, file: &[u8]) -> Option<Found>
     requires { length file.now ≤ 131072 }
 {
-    let mut page = asked::page();
-    let end = lines::unread(&mut page, 0, file);
-    streams::write(rt, &page, end).then_some(Found::Unread)
+    answers::line(rt, |page| lines::unread(page, 0, file)).then_some(Found::Unread)
 }
 
 fn judged(rt: &impl System, file: &[u8], text: &[u8]) -> Option<Found>
     requires { length file.now ≤ 131072 }
 {
-    let mut page = asked::page();
-    let line = judged_line(file, text, &mut page);
-    streams::write(rt, &page, line.end).then_some(line.found)
+    match services::check(text) {
+        Ok(c) => answers::line(rt, |page| {
+            lines::good(
+                page, 0, file, c.signals, c.tables, c.listed, c.cycles, c.size,
+            )
+        })
+        .then_some(Found::Good),
+        Err(refusal) => answers::line(rt, |page| {
+            lines::hurt(page, 0, file, text, refusal.no, refusal.place)
+        })
+        .then_some(Found::Hurt),
+    }
 }
 
 // The file that word i names.
@@ -96,9 +79,7 @@ fn added(t: Tally, found: Found) -> Tally
 }
 
 fn sum(rt: &impl System, t: Tally) {
-    let mut page = asked::page();
-    let end = lines::sum(&mut page, 0, t.good, t.hurt, t.unread);
-    streams::write(rt, &page, end);
+    answers::line(rt, |page| lines::sum(page, 0, t.good, t.hurt, t.unread));
 }
 
 pub fn check(rt: &impl System) {

@@ -1,5 +1,5 @@
 // The texts of files.
-ghost use Rattle.std.specs.Prelude.{IfSome};
+ghost use Rattle.std.specs.Prelude.{◌≤◌, IfSome, length};
 ghost use Rattle.streams.specs.Counts.{IsPrefixLen};
 
 use crate::asked;
@@ -26,4 +26,19 @@ pub fn text(rt: &impl System, i: usize, text: &mut [u8]) -> Option<usize>
         asked::fault(rt, b"cannot be read", &word[..n]);
     }
     length
+}
+
+// A command of one word, a FILE: its text, read into the buffer lent, for `answer`.
+pub fn only<F: FnOnce(&mut [u8])>(rt: &impl System, buffer: &mut [u8], answer: F)
+    requires { (t : _) → length t.now ≤ length buffer.old → F.pre answer t }
+{
+    if asked::given(rt) < 3 {
+        return asked::missing(rt, b"FILE");
+    }
+    if !asked::no_more(rt, 3) {
+        return;
+    }
+    if let Some(n) = text(rt, 2, buffer) {
+        answer(&mut buffer[..n]);
+    }
 }

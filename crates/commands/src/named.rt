@@ -14,10 +14,8 @@ fn line(rt: &impl System, text: &[u8], name: Name)
     if text.len() - name.length < name.at {
         return streams::broken(rt, b"a name past the text\n");
     }
-    let mut page = asked::page();
     let word = &text[name.at..name.at + name.length];
-    let end = lines::name(&mut page, 0, word, name.at);
-    streams::write(rt, &page, end);
+    answers::line(rt, |page| lines::name(page, 0, word, name.at));
 }
 
 fn answer(rt: &impl System, text: &[u8], table: bool, number: usize)

@@ -21,9 +21,7 @@ fn events(rt: &impl System, times: &[u64], letters: &[u8], k: usize)
     if waves::EVENTS < k {
         return streams::broken(rt, b"more events than a waveform has\n");
     }
-    let mut page = asked::page();
-    let end = put_events(&mut page, times, letters, k);
-    streams::write(rt, &page, end);
+    answers::line(rt, |page| put_events(page, times, letters, k));
 }
 
 fn answer(rt: &impl System, text: &[u8], table: usize, signal: usize, char: u8) {

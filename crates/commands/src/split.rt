@@ -61,18 +61,7 @@ fn answer(rt: &impl System, text: &[u8])
     }
 }
 
-fn file(rt: &impl System) {
-    let mut text = streams::room();
-    if let Some(n) = files::text(rt, 2, &mut text) {
-        answer(rt, &text[..n]);
-    }
-}
-
 pub fn tokens(rt: &impl System) {
-    if asked::given(rt) < 3 {
-        return asked::missing(rt, b"FILE");
-    }
-    if asked::no_more(rt, 3) {
-        file(rt);
-    }
+    let mut text = streams::room();
+    files::only(rt, &mut text, |text| answer(rt, text));
 }

@@ -1,5 +1,5 @@
 // intake FILE
-use crate::{answers, asked, files};
+use crate::{answers, files};
 use streams::System;
 
 // What the intake stores of a raw text.
@@ -14,18 +14,7 @@ fn answer(rt: &impl System, raw: &[u8]) {
     }
 }
 
-fn file(rt: &impl System) {
-    let mut raw = streams::raw();
-    if let Some(n) = files::text(rt, 2, &mut raw) {
-        answer(rt, &raw[..n]);
-    }
-}
-
 pub fn intake(rt: &impl System) {
-    if asked::given(rt) < 3 {
-        return asked::missing(rt, b"FILE");
-    }
-    if asked::no_more(rt, 3) {
-        file(rt);
-    }
+    let mut raw = streams::raw();
+    files::only(rt, &mut raw, |raw| answer(rt, raw));
 }

@@ -62,9 +62,9 @@ fn tell(rt: &impl System, cycles: &[u64], signals: &[u64], letters: &[u8], k: us
 
 // The report's refusal says that it is the report's.
 fn faulty(rt: &impl System, report: &[u8], refusal: Refusal) {
-    let mut page = asked::page();
-    let end = lines::hurt(&mut page, 0, b"REPORT", report, refusal.no, refusal.place);
-    streams::write(rt, &page, end);
+    answers::line(rt, |page| {
+        lines::hurt(page, 0, b"REPORT", report, refusal.no, refusal.place)
+    });
 }
 
 fn answer<'a>(rt: &impl System, text: &'a [u8], report: &'a [u8]) {
