@@ -143,7 +143,7 @@ pub fold_refused : (text : List ℕ) {x : Refusal} (spare : Bool) (buffer : List
 unfolding answering
 fold_refused text spare buffer e = folds_refused (ap (spared spare) (fold_as text buffer ∙ ap (λ x. answering x (λ bytes. placed bytes buffer)) e))
 
-module _ (text : List ℕ) {page : List ℕ} {n : ℕ} (h : Flattens text page (Ok n)) (spare : Bool) (buffer : List ℕ) {y : Bool} (e : (not spare || ltb (length buffer) n) ≡ y) where
+module _ (text page : List ℕ) {n : ℕ} (h : Flattens text page (Ok n)) (spare : Bool) (buffer : List ℕ) {y : Bool} (e : (not spare || ltb (length buffer) n) ≡ y) where
   answered : spared spare (fold text buffer)
       ≡ elim y as (λ x. Answer Bytes) [ true ↦ refused no_room 0 | false ↦ given (record { size = n; buffer = take n page ++ drop n buffer }) ]
   unfolding answering

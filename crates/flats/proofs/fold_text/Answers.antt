@@ -8,10 +8,10 @@ pub returns-in_err-n : goal.returns-in_err-n
 returns-in_err-n c = rw (handed_on c.from_residual.result _ c.from_residual.ensures.1) (fold_refused c.args.text.now c.args.spare c.args.buffer.now c.in_err-n.ensures)
 
 pub returns-then-spare-buffer : goal.returns-then-spare-buffer
-returns-then-spare-buffer c = fold_full c.args.text.now c.in_ok-n.ensures c.args.spare c.args.buffer.now c.if-spare-buffer.true refl
+returns-then-spare-buffer c = fold_full c.args.text.now _ c.in_ok-n.ensures c.args.spare c.args.buffer.now c.if-spare-buffer.true refl
 
 pub put-requires : goal.put-requires
-put-requires c = fold_fits c.args.text.now c.in_ok-n.ensures c.args.spare c.args.buffer.now c.if-spare-buffer.false refl c.bytes_of.ensures
+put-requires c = fold_fits c.args.text.now _ c.in_ok-n.ensures c.args.spare c.args.buffer.now c.if-spare-buffer.false refl c.bytes_of.ensures
 
 pub returns : goal.returns
-returns c = fold_given c.args.text.now c.in_ok-n.ensures c.args.spare c.args.buffer.now c.if-spare-buffer.false refl c.bytes_of.ensures c.put.ensures
+returns c = fold_given c.args.text.now _ c.in_ok-n.ensures c.args.spare c.args.buffer.now c.if-spare-buffer.false refl c.bytes_of.ensures c.put.ensures

@@ -1,6 +1,8 @@
 -- `lutemeteor_report` meets its contract: the answer, case by case; where there are answers there is room for their number, and it is stored.
 use Rattle.fails.specs.Fails.{fails}
 use Rattle.fails.specs.Service.{rows_of}
+use mathlib.Core.Path.{ap, ◌∙◌}
+use Rattle.std.specs.Prelude.{Err}
 use Rattle.stil.proofs.Handing.{one_stored}
 use Rattle.stil.proofs.Telling.{tells_refused, tells_of, tells_room, tells_all}
 use borrow.Author.Rules.{rules}
@@ -13,10 +15,10 @@ bounds-numbers-0 c =
     search rules
 
 pub returns-in-Err-Text : goal.returns-in-Err-Text
-returns-in-Err-Text c = tells_refused _ _ c.answer_report.ensures c.in-Err-Text.is c.pack.ensures
+returns-in-Err-Text c = tells_refused _ _ c.answer_report.ensures (c.in-Err-Text.is ∙ ap Err c.in-Err-Text.field-0-is) c.pack.ensures
 
 pub returns-in-Err-Report : goal.returns-in-Err-Report
-returns-in-Err-Report c = tells_of _ _ c.answer_report.ensures c.in-Err-Report.is c.pack_report.ensures
+returns-in-Err-Report c = tells_of _ _ c.answer_report.ensures (c.in-Err-Report.is ∙ ap Err c.in-Err-Report.field-0-is) c.pack_report.ensures
 
 pub returns-in-Ok : goal.returns-in-Ok
 returns-in-Ok c =
