@@ -32,23 +32,23 @@ fn shown<'a>(
     requires { (front_most ≤ length page.old) × SomeFound text.now places.now lists.now tplaces.now waves.now book.now rows.now list.now used.now v }
     ensures { Begins text.now page.old result page.new }
 {
-    if let Err(refusal) = verdicts::failing(
-        text, places, lists, tplaces, waves, book, rows, list, used, v,
-    ) {
-        return sections::refused(page, text, refusal.no, refusal.place);
-    }
     let parts = v.parts;
     let total = v.total;
     let known = parts.known;
-    sections::sections(
-        page,
-        text,
-        places,
-        tplaces,
-        parts.signals,
-        known.tables,
-        total.cycles,
-    )
+    match verdicts::failing(
+        text, places, lists, tplaces, waves, book, rows, list, used, v,
+    ) {
+        Ok(()) => sections::sections(
+            page,
+            text,
+            places,
+            tplaces,
+            parts.signals,
+            known.tables,
+            total.cycles,
+        ),
+        Err(refusal) => sections::refused(page, text, refusal.no, refusal.place),
+    }
 }
 
 // All but the rows: the sections, or the refusal. A page of less than FRONT bytes has no room for it, and stays as it is.

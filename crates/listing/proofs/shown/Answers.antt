@@ -13,7 +13,7 @@ sections-requires c =
     let found = pre.1.found in
     (pre.0, found.tabled.few_signals, omega (arith, found.tabled.held), signals_short found, tables_short found)
 
-pub returns : goal.returns
-returns c =
+pub returns-in-Ok : goal.returns-in-Ok
+returns-in-Ok c =
     let found = c.requires.1.found in
     begins_sections found c.requires.0 (c.in-Ok.ensures _ found) c.sections.ensures
