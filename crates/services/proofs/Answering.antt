@@ -3,7 +3,7 @@ use Prim.Native.Nat.{ℕ}
 use mathlib.Core.Path.{◌≡◌, refl, sym, ap, ◌∙◌}
 use mathlib.Core.List.{List}
 use Rattle.std.specs.Prelude.{Ok, Option as Maybe, Some, None}
-use Rattle.core.specs.Option.{ok_or}
+use Rattle.std.specs.Option.{ok_or}
 use Rattle.meaning.specs.Refusals.{no_such}
 use Rattle.meaning.specs.Meaning.{Answer, given, refused, answering, Meaning, meaning}
 use Rattle.meaning.specs.Services.{check, Which, name_of}
