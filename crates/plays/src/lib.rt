@@ -374,11 +374,7 @@ fn settle(values: &mut [u8], left: &[u8], signals: usize)
     requires { (length values.old ≡ values_length) × (length left.now ≡ signals_most) × (signals ≤ signals_most) }
     ensures { Settles signals left.now values.old values.new }
 {
-    let mut s = 0;
-    while s < signals {
-        values[s] = left[s];
-        s += 1;
-    }
+    values[..signals].copy_from_slice(&left[..signals]);
 }
 
 // Macro or Call of the body of number i, whose sum may be known: where the state grants what that asks, no cycle of the body fails, and what it leaves is left.
@@ -460,10 +456,8 @@ fn sum_marks(sums: &[u8], r: usize, s: usize, table: usize) -> u16
 {
     let assigned = tallies::assigns(sums, r, s);
     let mut m = first_marks(assigned, tallies::shows(sums, r, s, timing::TABLES), table);
-    let mut t = 0;
-    while t < timing::TABLES {
+    for t in 0..timing::TABLES {
         m = memos::marked_if(m, t, tallies::shows(sums, r, s, t));
-        t += 1;
     }
     m
 }
@@ -476,10 +470,8 @@ fn mark_passed(memo: &mut [u16], level: usize, sums: &[u8], i: usize, table: usi
     if (measures::PROCEDURES <= i) | !memos::tracks(memo, level) {
         return;
     }
-    let mut s = 0;
-    while s < signals {
+    for s in 0..signals {
         memos::join_at(memo, level, s, sum_marks(sums, i, s, table));
-        s += 1;
     }
 }
 
@@ -521,12 +513,10 @@ fn pins_granted(memo: &[u16], from: usize, waves: &[u8], values: &[u8], signals:
     requires { (from + signals ≤ length memo.now) × (length waves.now ≡ tables_most * table_size) × (signals ≤ signals_most) × (signals ≤ length values.now) }
     ensures { result ≡ true → (tabs : Tables) → Marked waves.now tabs → (i : ℕ) → i < signals → Granted tabs (marks_from memo.now from i) i (get_or values.now i 0) }
 {
-    let mut s = 0;
-    while s < signals {
+    for s in 0..signals {
         if !pin_granted(waves, memos::marks(memo, from + s), s, values[s]) {
             return false;
         }
-        s += 1;
     }
     true
 }
@@ -871,8 +861,7 @@ pub fn first_failing<'a>(
     let mut feeds = [0usize; pins::FEEDS];
     let mut args = [0usize; measures::ROW];
     let mut memo = [0u16; memos::MEMO];
-    let mut k = 0;
-    while k < listed {
+    for k in 0..listed {
         let r = pattern(
             ground,
             marks,
@@ -891,7 +880,6 @@ pub fn first_failing<'a>(
                 place: r.place,
             };
         }
-        k += 1;
     }
     Failing {
         failed: false,

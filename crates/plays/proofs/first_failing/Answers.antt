@@ -1,6 +1,5 @@
 -- The run meets refusal 17: behind the patterns that were played nothing failed, and the rest of the list is left.
 use Prim.Native.Nat.{ℕ}
-use native.Mathlib.Omega.{arith}
 use mathlib.Core.Path.{sym, ◌∙◌}
 use lib.ListN.{length-replicate}
 use Rattle.words.proofs.Words.{zeros}
@@ -38,11 +37,6 @@ returns-then-r c =
     let loop-test' = c.loop-k-test in
     let pattern' = c.pattern-r in
     λ p d run h m. (let l = loop'.invariant.1.left p d run h m in decides_failing (run_fails _ _ _ _ _ _ _ _ _ _ _ _ h l.0 loop-test'.true pattern'.ensures l.1 c.if-r.true))
-
-pub overflow_add-k : goal.overflow_add-k
-overflow_add-k c =
-    let fits' = c.ranges in
-    omega (arith, fits'.listed)
 
 pub loop-k-preserved : goal.loop-k-preserved
 loop-k-preserved c =
