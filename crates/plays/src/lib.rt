@@ -63,20 +63,6 @@ pub struct Played {
     pub ends: bool,
 }
 
-// Was a used body passed, and what table is in force behind it?
-#[derive(Clone, Copy)]
-pub struct Passed {
-    pub done: bool,
-    pub table: usize,
-}
-
-// Does a cycle of the run fail, and where does the first one's V stand?
-#[derive(Clone, Copy)]
-pub struct Failing {
-    pub failed: bool,
-    pub place: usize,
-}
-
 // ---- one statement
 
 // A statement was played in which no cycle fails, and statements go on.
@@ -378,6 +364,7 @@ fn settle(values: &mut [u8], left: &[u8], signals: usize)
 }
 
 // Macro or Call of the body of number i, whose sum may be known: where the state grants what that asks, no cycle of the body fails, and what it leaves is left.
+// The table in force behind it, if it is passed.
 fn pass<'a>(
     ground: &'a Ground<'a>,
     marks: &'a [u8],
@@ -388,16 +375,15 @@ fn pass<'a>(
     args: &[usize],
     table: usize,
     values: &mut [u8],
-) -> Passed
+) -> Option<usize>
     requires { (length ground.now.waves.now ≡ tables_most * table_size) × (ground.now.signals ≤ signals_most) × (i < bodies) × (length given.now ≡ signals_most) × (length args.now ≡ signals_most * 2) × (length values.old ≡ values_length) }
     ensures { Passing (ground_of ground.now) marks.now sums.now i t table given.now args.now values.old values.new result }
 {
-    let stay = Passed { done: false, table };
     if (marks.len() <= i) | (sums.len() < i * tallies::ROW + tallies::ROW) {
-        return stay;
+        return None;
     }
     if !tallies::usable(marks[i], t) {
-        return stay;
+        return None;
     }
     let mut left = [0; sets::MOST];
     if i < measures::PROCEDURES {
@@ -413,16 +399,13 @@ fn pass<'a>(
             values,
             &mut left,
         ) {
-            return stay;
+            return None;
         }
         settle(values, &left, ground.signals);
-        return Passed {
-            done: true,
-            table: tallies::table_behind(sums, i, table),
-        };
+        return Some(tallies::table_behind(sums, i, table));
     }
     let bare = [0; sets::MOST];
-    let done = tallies::asks(
+    if !tallies::asks(
         ground.declared.text,
         sums,
         i,
@@ -433,8 +416,10 @@ fn pass<'a>(
         table,
         &bare,
         &mut left,
-    );
-    Passed { done, table }
+    ) {
+        return None;
+    }
+    Some(table)
 }
 
 // The marks of a signal behind a body whose sum is known, before those of tables that the body chooses: is it assigned, and is what stood there before shown under the
@@ -626,10 +611,9 @@ fn uses<'a>(
     requires { (h : SomeInvoked (ground_of ground.now) c i t frame.depth frame.level table given.now (arrays values.old feeds.old args.old)) × Heads (ground_of ground.now) memo.old h.env × Behind (ground_of ground.now) c past }
     ensures { (result.cursor ≡ past) × (result.ends ≡ false) × Served (ground_of ground.now) marks.now sums.now memo.old memo.new c i t frame.depth frame.level table given.now (arrays values.old feeds.old args.old) (arrays values.new feeds.new args.new) frame.seconds result }
 {
-    let p = pass(ground, marks, sums, i, t, given, args, table, values);
-    if p.done {
+    if let Some(behind) = pass(ground, marks, sums, i, t, given, args, table, values) {
         mark_passed(memo, DEPTH - frame.depth, sums, i, table, ground.signals);
-        return goes_on(past, p.table);
+        return goes_on(past, behind);
     }
     let r = used(
         ground, c, past, marks, sums, frame, i, t, given, table, values, feeds, args, memo,
@@ -845,7 +829,7 @@ fn pattern<'a>(
     )
 }
 
-// The listed patterns in order: does a cycle fail, and where does the first one's V stand?
+// The listed patterns in order: where the V of the first cycle that fails stands.
 pub fn first_failing<'a>(
     ground: &'a Ground<'a>,
     marks: &'a [u8],
@@ -853,7 +837,7 @@ pub fn first_failing<'a>(
     list: &'a [usize],
     listed: usize,
     patterns: usize,
-) -> Failing
+) -> Option<usize>
     requires { SomeRunOn (ground_of ground.now) list.now listed patterns }
     ensures { (p : Parts) (d : Read) (run : Body) (h : RunsOn (ground_of ground.now) list.now listed patterns p d run) → Summed (ground_of ground.now) marks.now sums.now h.tabled.parts.env → Decides d run result }
 {
@@ -875,14 +859,8 @@ pub fn first_failing<'a>(
             &mut memo,
         );
         if r.failed {
-            return Failing {
-                failed: true,
-                place: r.place,
-            };
+            return Some(r.place);
         }
     }
-    Failing {
-        failed: false,
-        place: 0,
-    }
+    None
 }
