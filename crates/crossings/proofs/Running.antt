@@ -26,7 +26,7 @@ use Rattle.plays.specs.Run.{ListedAt, Runs}
 use Rattle.plays.proofs.Running.{opening_long}
 use Rattle.plays.proofs.Texts.{is_whole, is_listed, listed_at}
 use Rattle.crossings.specs.Rows.{Seen, Ample, Clock, Timed}
-use Rattle.crossings.specs.Run.{PlaysListed, Decides}
+use Rattle.crossings.specs.Run.{PlaysListed}
 
 -- ---- one listed pattern
 
@@ -143,12 +143,3 @@ module _ (text places lists tplaces waves book rows list : List ℕ) (known : Kn
     pub ample : Ample v
     pub left : (p : Parts) (d : Read) (run : Body) (h : Runs text places lists tplaces waves book rows list known signals count patterns p d run) → Timed d.tables c
         → Left h.tabled.parts.env.tables signals h.tabled.parts.env d.patterns run (list_from text list count k)
-
--- ---- the answer
-
-module _ {d : Read} {run : Body} {p : ℕ} where
-  pub decides_failing : first_in_run d.tables (length d.signals) run ≡ some p → Decides d run (record { failed = true; place = p })
-  decides_failing h = record { fails = λ e. h; sound = λ e. absurd (true≢false e) }
-
-  pub decides_sound : first_in_run d.tables (length d.signals) run ≡ none → Decides d run (record { failed = false; place = p })
-  decides_sound h = record { fails = λ e. absurd (true≢false (sym e)); sound = λ e. h }

@@ -1,13 +1,13 @@
 -- What is promised of the run: its listed patterns in order, each from its own first byte.
-use Rattle.std.specs.Prelude.{ℕ, ◌≡◌, true, false, List, [], length}
+use Rattle.std.specs.Prelude.{ℕ, ◌≡◌, true, false, List, [], length, Option as Maybe}
 use Rattle.std.proofs.Math.Option.{none, some}
 use Rattle.meaning.specs.Body.{listed, Body}
 use Rattle.meaning.specs.Run.{State, entering, play}
 use Rattle.meaning.specs.Statements.{Decl, Decls, Env}
 use Rattle.meaning.specs.Document.{Read}
 use Rattle.meaning.specs.Edges.{first_failing_pair, first_in_run}
+use Rattle.words.specs.Values.{value_of}
 use Rattle.plays.specs.declared.Played.{Played}
-use Rattle.plays.specs.declared.Failing.{Failing}
 use Rattle.plays.specs.Plays.{Ground, Arrays, Sized}
 use Rattle.plays.specs.Run.{ListedAt}
 use Rattle.crossings.specs.Rows.{Seen, Ample, Clock, Timed, Fitted}
@@ -36,6 +36,5 @@ pub record PlaysListed (g : Ground) (k : Clock) (list : List ℕ) (patterns i : 
 -- ---- the whole run
 
 -- THE PROMISE: refusal 25, given exactly when a pair of the run is not in order, with the place of the first one's later V
-pub record Decides (d : Read) (run : Body) (r : Failing) : Type 0 where
-  pub fails : r.failed ≡ true → first_in_run d.tables (length d.signals) run ≡ some r.place
-  pub sound : r.failed ≡ false → first_in_run d.tables (length d.signals) run ≡ none
+abbrev pub Decides : Read → Body → Maybe ℕ → Type 0
+Decides d run r = first_in_run d.tables (length d.signals) run ≡ value_of r

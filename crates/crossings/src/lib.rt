@@ -21,7 +21,7 @@ ghost use Rattle.crossings.specs.Crossings.{Stood, Promised, Vectored, Stepped, 
 ghost use Rattle.crossings.specs.Run.{SomeListed, PlaysListed, Decides};
 
 use measures::DEPTH;
-use plays::{Failing, Ground, Played};
+use plays::{Ground, Played};
 use timing::TABLES;
 use words::Cursor;
 
@@ -700,7 +700,7 @@ fn pattern<'a>(
     )
 }
 
-// The listed patterns in order: is a pair of neighbouring cycles not in order, and where does the V of the first one's later cycle stand?
+// The listed patterns in order: where the V of the later cycle of the first pair of neighbouring cycles that is not in order stands.
 pub fn first_failing_pair<'a>(
     ground: &'a Ground<'a>,
     list: &'a [usize],
@@ -709,7 +709,7 @@ pub fn first_failing_pair<'a>(
     firsts: &'a [u32],
     lasts: &'a [u32],
     periods: &'a [u64],
-) -> Failing
+) -> Option<usize>
     requires sized { Sized firsts.now lasts.now periods.now }
     requires spans { (h : SomeRunOn (ground_of ground.now) list.now listed patterns) × Spans h.read.tables firsts.now lasts.now periods.now }
     ensures { (p : Parts) (d : Read) (run : Body) → RunsOn (ground_of ground.now) list.now listed patterns p d run → Spans d.tables firsts.now lasts.now periods.now → Decides d run result }
@@ -736,15 +736,9 @@ pub fn first_failing_pair<'a>(
             &mut marks,
         );
         if r.failed {
-            return Failing {
-                failed: true,
-                place: r.place,
-            };
+            return Some(r.place);
         }
         k += 1;
     }
-    Failing {
-        failed: false,
-        place: 0,
-    }
+    None
 }

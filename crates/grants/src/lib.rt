@@ -354,11 +354,9 @@ pub fn granted<'a>(
     ensures { (length marks.new ≡ length marks.old) × (length sums.new ≡ length sums.old) × ((p : Parts) (d : Read) (run : Body) (h : RunsOn (ground_of ground.now) list.now listed patterns p d run) → Summed (ground_of ground.now) marks.new sums.new h.tabled.parts.env × (result ≡ true → first_failing d.tables (cycles_of (length d.signals) run) ≡ none)) }
 {
     let mut all = true;
-    let mut k = 0;
-    while k < listed {
+    for k in 0..listed {
         let one = pattern(ground, list, patterns, k, marks, sums);
-        all = all & one;
-        k += 1;
+        all &= one;
     }
     all
 }
@@ -402,12 +400,10 @@ pub fn plain<'a>(
     if !noted::fine(used, waves, known.tables) {
         return false;
     }
-    let mut k = 0;
-    while k < listed {
+    for k in 0..listed {
         if !chooses(text, book, list, patterns, k) {
             return false;
         }
-        k += 1;
     }
     true
 }

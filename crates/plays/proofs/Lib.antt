@@ -16,7 +16,6 @@ pub mod Patterns
 pub mod Running
 pub mod Texts
 pub mod Summing
-mod Settling
 mod Marks
 mod Passing
 mod Recalling

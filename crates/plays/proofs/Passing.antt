@@ -30,7 +30,7 @@ use Rattle.tallies.specs.Rows.{row_size, sum_at, Marked, left_on, Grants, Holds}
 use Rattle.memos.specs.Tracks.{is_marked, assigned_mark, Granted as GrantedPin, Like}
 use Rattle.memos.proofs.Tracking.{like_same}
 use Rattle.plays.proofs.Tracks.{pins_wide, procedure_tracked}
-use Rattle.plays.specs.Plays.{Ground, Settles, SumMarks, Passing}
+use Rattle.plays.specs.Plays.{Ground, Settles, SumMarks, Passed}
 use Rattle.plays.proofs.Summing.{usable, known_sum}
 use Rattle.plays.proofs.Entering.{kind_macro, kind_procedure}
 
@@ -161,30 +161,15 @@ Granted g sums i table given args pins left =
     (tabs : Tables) (s : State) → Marked g.waves tabs → Holds g.text pins given args g.signals table s → Grants tabs g.signals (sum_at sums i) s left
 
 module _ {g : Ground} {marks sums : List ℕ} {i t table : ℕ} {given args values : List ℕ} where
-  -- nothing was done
-  pub stays : {k : ℕ} → Passing g marks sums i t table given args values values (record { done = false; table = k })
-  stays = record {
-    long = refl;
-    rows = λ j h. refl;
-    untouched = λ e. refl;
-    room = λ e. absurd (never e);
-    told = λ e. absurd (never e);
-    tracks = λ e. absurd (never e);
-  }
-    where
-      never : false ≡ true → ⊥
-      never e = let z : ◌≡◌ {A = ℕ} 0 1 = cc in omega arith
-
   module _ (usable-is : usable marks i t ≡ true) (few : g.signals ≤ signals_most) (long : length values ≡ values_length) (there : i * row_size + row_size ≤ length sums) where
     pub passes_macro : {left values' : List ℕ} {k : ℕ} → i < first_procedure → Granted g sums i table given args values left → Settles g.signals left values values'
-        → table_of k ≡ or_table (sum_at sums i).table (table_of table) → Passing g marks sums i t table given args values values' (record { done = true; table = k })
+        → table_of k ≡ or_table (sum_at sums i).table (table_of table) → Passed g marks sums i t table given args values values' k
     unfolding entering
     passes_macro {left} {values'} {k} is-macro granted settles behind = record {
       long = settles.long;
       rows = λ j h. settles.else j (omega arith);
-      untouched = λ e. (let z : ◌≡◌ {A = ℕ} 0 1 = cc in absurd (omega arith));
-      room = λ e. there;
-      tracks = λ e E b us a s feeds level few_turns_lem m c shows marked. (
+      room = there;
+      tracks = λ E b us a s feeds level few_turns_lem m c shows marked. (
           let known = known_sum i t b us c.summed (omega arith) c.holds c.exact usable-is in
           let s' : State = record { pins = s.pins; table = s.table; args = a } in
           let holds : Holds g.text values given args g.signals table s' = record { pins_are = shows.pins_are; table_is = shows.table_is; args_are = c.supplied } in
@@ -196,7 +181,7 @@ module _ {g : Ground} {marks sums : List ℕ} {i t table : ℕ} {given args valu
                 (record { pins = z.pins; table = z.table; args = a }) (record { wide = q.wide; table_same = q.table_same; args_same = refl; pins_are = q.pins_are }) in
                 (r.0, record { wide = r.1; table_same = r.2; args_same = q.args_same; put = r.3; kept = r.4 }));
           }));
-      told = λ e E b us a s feeds level few_turns_lem p c shows. (
+      told = λ E b us a s feeds level few_turns_lem p c shows. (
           let known = known_sum i t b us c.summed (omega arith) c.holds c.exact usable-is in
           let holds : Holds g.text values given args g.signals table (record { pins = s.pins; table = s.table; args = a }) =
           record { pins_are = shows.pins_are; table_is = shows.table_is; args_are = c.supplied } in
@@ -214,29 +199,28 @@ module _ {g : Ground} {marks sums : List ℕ} {i t table : ℕ} {given args valu
     }
 
     -- a procedure begins with every signal unassigned, and what it leaves is the caller's
-    pub passes_procedure : {done : Bool} {left : List ℕ} → first_procedure ≤ i → i < bodies → (done ≡ true → Granted g sums i table given args (replicate signals_most 0) left)
-        → Passing g marks sums i t table given args values values (record { done = done; table = table })
+    pub passes_procedure : {left : List ℕ} → first_procedure ≤ i → i < bodies → Granted g sums i table given args (replicate signals_most 0) left
+        → Passed g marks sums i t table given args values values table
     unfolding entering bare
     passes_procedure is-procedure declared granted = record {
       long = refl;
       rows = λ j h. refl;
-      untouched = λ e. refl;
-      room = λ e. there;
-      tracks = λ e E b us a s feeds level few_turns_lem m c shows marked. (
+      room = there;
+      tracks = λ E b us a s feeds level few_turns_lem m c shows marked. (
           let known = known_sum i t b us c.summed declared c.holds c.exact usable-is in
           let wide = pins_wide shows (omega arith) in
           let s' : State = record { pins = bare s.pins; table = s.table; args = a } in
           let holds : Holds g.text (replicate signals_most 0) given args g.signals table s' =
           record { pins_are = ap (λ (n : ℕ). replicate n unassigned) wide ∙ sym (zeros_front g.signals signals_most few); table_is = shows.table_is; args_are = c.supplied } in
-          let grants = granted e E.tables s' (g.text, g.tplaces, g.known.tables, c.held) holds in
+          let grants = granted E.tables s' (g.text, g.tplaces, g.known.tables, c.held) holds in
           rw (kind_procedure i is-procedure) (procedure_tracked a (play_few few_turns_lem t b) wide (λ j l. (marked j l).comes_back is-procedure)
           (passed_none known.0 known.1 (length-replicate (length s.pins) unassigned ∙ wide) grants c.good few_turns_lem)));
-      told = λ e E b us a s feeds level few_turns_lem p c shows. (
+      told = λ E b us a s feeds level few_turns_lem p c shows. (
           let known = known_sum i t b us c.summed declared c.holds c.exact usable-is in
           let wide = pins_wide shows (omega arith) in
           let holds : Holds g.text (replicate signals_most 0) given args g.signals table (record { pins = bare s.pins; table = s.table; args = a }) =
           record { pins_are = ap (λ (n : ℕ). replicate n unassigned) wide ∙ sym (zeros_front g.signals signals_most few); table_is = shows.table_is; args_are = c.supplied } in
-          let grants = granted e E.tables (record { pins = bare s.pins; table = s.table; args = a }) (g.text, g.tplaces, g.known.tables, c.held) holds in
+          let grants = granted E.tables (record { pins = bare s.pins; table = s.table; args = a }) (g.text, g.tplaces, g.known.tables, c.held) holds in
           rw (kind_procedure i is-procedure) (record {
             fails = λ q. (let z : ◌≡◌ {A = ℕ} 0 1 = cc in absurd (omega arith));
             sound = λ q. passed_none known.0 known.1 (length-replicate (length s.pins) unassigned ∙ wide) grants c.good few_turns_lem;

@@ -27,19 +27,10 @@ use Rattle.texts.specs.declared.Parts.{Parts}
 use Rattle.texts.proofs.Runs.{list_from, list_cut, list_end}
 use Rattle.plays.specs.declared.Played.{Played}
 use Rattle.plays.specs.Plays.{Ground, grounded, Holding, Summed, Heads, Knows, Arrays, arrays, Sized}
-use Rattle.plays.specs.Run.{ListedAt, PlaysListed, Runs, SomeRun, Decides}
+use Rattle.plays.specs.Run.{ListedAt, PlaysListed, Runs, SomeRun}
 use Rattle.plays.proofs.Patterns.{Playing, patterns_fit}
 use Rattle.plays.proofs.Recalling.{heads_none, knows_sums}
 use Rattle.plays.proofs.Running.{Left, left_all, left_none, Next, next, next_fails, next_left, opening_long, good_listed}
-
--- ---- the answer
-
-module _ {d : Read} {run : Body} where
-  pub decides_failing : {p : ℕ} → first_failing d.tables (cycles_of (length d.signals) run) ≡ some p → Decides d run (record { failed = true; place = p })
-  decides_failing h = record { fails = λ e. h; sound = λ e. (let z : ◌≡◌ {A = ℕ} 0 1 = cc in absurd (omega arith)) }
-
-  pub decides_sound : {p : ℕ} → first_failing d.tables (cycles_of (length d.signals) run) ≡ none → Decides d run (record { failed = false; place = p })
-  decides_sound h = record { fails = λ e. (let z : ◌≡◌ {A = ℕ} 0 1 = cc in absurd (omega arith)); sound = λ e. h }
 
 -- ---- a text that the tables hold
 

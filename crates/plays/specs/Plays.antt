@@ -1,5 +1,5 @@
 -- What is promised of playing bodies where the text holds them.
-use Rattle.std.specs.Prelude.{ℕ, ◌+◌, ◌*◌, ◌-◌, ◌<◌, ◌≤◌, ◌≡◌, true, false, List, length, get_or}
+use Rattle.std.specs.Prelude.{ℕ, ◌+◌, ◌*◌, ◌-◌, ◌<◌, ◌≤◌, ◌≡◌, true, false, List, length, get_or, Option as Maybe, Some, None}
 use Rattle.std.proofs.Math.Option.{Option, none, some}
 use Rattle.tokens.specs.Tokens.{Toks, toks, left}
 use Rattle.meaning.specs.Bounds.{signals_most, tables_most, depth_most}
@@ -28,7 +28,6 @@ use Rattle.heads.specs.Heads.{kind_of}
 use Rattle.pins.specs.Shown.{table_of, Shows, Told, Roomy, Feeding, feed_at}
 use Rattle.plays.specs.declared.Ground.{Ground as Ours}
 use Rattle.plays.specs.declared.Played.{Played}
-use Rattle.plays.specs.declared.Passed.{Passed}
 use Rattle.memos.specs.declared.Use.{Use}
 use Rattle.memos.specs.Tracks.{is_marked, assigned_mark, tracks_length, marks_from, marks_at, Granted, Tracked, Tracking}
 use Rattle.memos.specs.Memo.{before_at, AtLevel, telling, Row, Finds}
@@ -450,15 +449,19 @@ pub record PassedMarks (sums : List ℕ) (i table j m : ℕ) : Type 0 where
   pub in_place : i < first_procedure → SumMarks (sum_at sums i) (table_of table) j m
   pub comes_back : first_procedure ≤ i → m ≡ 0
 
--- it was played without a failing cycle, or nothing was done
-pub record Passing (g : Ground) (marks sums : List ℕ) (i t table : ℕ) (given args values values' : List ℕ) (r : Passed) : Type 0 where
+-- it was played without a failing cycle, and this table is in force behind it
+pub record Passed (g : Ground) (marks sums : List ℕ) (i t table : ℕ) (given args values values' : List ℕ) (table' : ℕ) : Type 0 where
   pub long : length values' ≡ length values
   pub rows : (j : ℕ) → signals_most ≤ j → get_or values' j 0 ≡ get_or values j 0
-  pub untouched : r.done ≡ false → values' ≡ values
-  pub room : r.done ≡ true → i * row_size + row_size ≤ length sums
-  pub told : r.done ≡ true → (E : Env) (b : Body) (us : Toks) (a : Args) (s : State) (feeds : List ℕ) (level k p : ℕ)
+  pub room : i * row_size + row_size ≤ length sums
+  pub told : (E : Env) (b : Body) (us : Toks) (a : Args) (s : State) (feeds : List ℕ) (level k p : ℕ)
       → Calling g marks sums i t given args E b us a → Shows g.text g.signals values table feeds level s
-      → Told E.tables g.text g.signals values' r.table feeds level false p (entering (kind_of i) a (play_few k t b) s)
-  pub tracks : r.done ≡ true → (E : Env) (b : Body) (us : Toks) (a : Args) (s : State) (feeds : List ℕ) (level k : ℕ) (m : ℕ → ℕ)
+      → Told E.tables g.text g.signals values' table' feeds level false p (entering (kind_of i) a (play_few k t b) s)
+  pub tracks : (E : Env) (b : Body) (us : Toks) (a : Args) (s : State) (feeds : List ℕ) (level k : ℕ) (m : ℕ → ℕ)
       → Calling g marks sums i t given args E b us a → Shows g.text g.signals values table feeds level s → ((j : ℕ) → j < g.signals → PassedMarks sums i table j (m j))
       → Tracked E.tables g.signals m s (entering (kind_of i) a (play_few k t b))
+
+-- so it was, or nothing was done
+abbrev pub Passing : (g : Ground) (marks sums : List ℕ) (i t table : ℕ) (given args values values' : List ℕ) → Maybe ℕ → Type 0
+Passing g marks sums i t table given args values values' None = values' ≡ values
+Passing g marks sums i t table given args values values' (Some k) = Passed g marks sums i t table given args values values' k

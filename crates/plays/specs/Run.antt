@@ -1,5 +1,5 @@
 -- What is promised of playing the run: the listed patterns in order, each from its own first byte.
-use Rattle.std.specs.Prelude.{ℕ, ◌≤◌, ◌≡◌, true, false, List, [], length}
+use Rattle.std.specs.Prelude.{ℕ, ◌≤◌, ◌≡◌, true, false, List, [], length, Option as Maybe}
 use Rattle.std.proofs.Math.Option.{none, some}
 use Rattle.meaning.specs.Bounds.{patterns_most, depth_most}
 use Rattle.meaning.specs.Names.{find}
@@ -11,12 +11,12 @@ use Rattle.meaning.specs.Document.{Read}
 use Rattle.held.specs.Held.{Stands}
 use Rattle.turns.specs.Few.{play_few, open_most}
 use Rattle.words.specs.Table.{name_of}
+use Rattle.words.specs.Values.{value_of}
 use Rattle.measures.specs.Book.{first_pattern, Entry, Listed}
 use Rattle.heads.specs.declared.Known.{Known}
 use Rattle.texts.specs.declared.Parts.{Parts}
 use Rattle.texts.specs.Tables.{Tabled}
 use Rattle.plays.specs.declared.Played.{Played}
-use Rattle.plays.specs.declared.Failing.{Failing}
 use Rattle.plays.specs.Plays.{Ground, Holding, Heads, Knows, Fits, Arrays, Sized}
 
 -- ---- one listed pattern
@@ -67,9 +67,8 @@ pub record SomeRun (text places lists tplaces waves book rows list : List ℕ) (
   pub runs : Runs text places lists tplaces waves book rows list known signals listed patterns parts read body
 
 -- THE PROMISE: refusal 17, given exactly when a cycle of the run fails, with the place of the first one's V
-pub record Decides (d : Read) (run : Body) (r : Failing) : Type 0 where
-  pub fails : r.failed ≡ true → first_failing d.tables (cycles_of (length d.signals) run) ≡ some r.place
-  pub sound : r.failed ≡ false → first_failing d.tables (cycles_of (length d.signals) run) ≡ none
+abbrev pub Decides : Read → Body → Maybe ℕ → Type 0
+Decides d run r = first_failing d.tables (cycles_of (length d.signals) run) ≡ value_of r
 
 -- the same of a text and its tables as one
 abbrev pub RunsOn : Ground → List ℕ → (listed patterns : ℕ) → Parts → Read → Body → Type 0

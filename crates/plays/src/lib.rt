@@ -63,20 +63,6 @@ pub struct Played {
     pub ends: bool,
 }
 
-// Was a used body passed, and what table is in force behind it?
-#[derive(Clone, Copy)]
-pub struct Passed {
-    pub done: bool,
-    pub table: usize,
-}
-
-// Does a cycle of the run fail, and where does the first one's V stand?
-#[derive(Clone, Copy)]
-pub struct Failing {
-    pub failed: bool,
-    pub place: usize,
-}
-
 // ---- one statement
 
 // A statement was played in which no cycle fails, and statements go on.
@@ -374,14 +360,11 @@ fn settle(values: &mut [u8], left: &[u8], signals: usize)
     requires { (length values.old ≡ values_length) × (length left.now ≡ signals_most) × (signals ≤ signals_most) }
     ensures { Settles signals left.now values.old values.new }
 {
-    let mut s = 0;
-    while s < signals {
-        values[s] = left[s];
-        s += 1;
-    }
+    values[..signals].copy_from_slice(&left[..signals]);
 }
 
 // Macro or Call of the body of number i, whose sum may be known: where the state grants what that asks, no cycle of the body fails, and what it leaves is left.
+// The table in force behind it, if it is passed.
 fn pass<'a>(
     ground: &'a Ground<'a>,
     marks: &'a [u8],
@@ -392,16 +375,15 @@ fn pass<'a>(
     args: &[usize],
     table: usize,
     values: &mut [u8],
-) -> Passed
+) -> Option<usize>
     requires { (length ground.now.waves.now ≡ tables_most * table_size) × (ground.now.signals ≤ signals_most) × (i < bodies) × (length given.now ≡ signals_most) × (length args.now ≡ signals_most * 2) × (length values.old ≡ values_length) }
     ensures { Passing (ground_of ground.now) marks.now sums.now i t table given.now args.now values.old values.new result }
 {
-    let stay = Passed { done: false, table };
     if (marks.len() <= i) | (sums.len() < i * tallies::ROW + tallies::ROW) {
-        return stay;
+        return None;
     }
     if !tallies::usable(marks[i], t) {
-        return stay;
+        return None;
     }
     let mut left = [0; sets::MOST];
     if i < measures::PROCEDURES {
@@ -417,16 +399,13 @@ fn pass<'a>(
             values,
             &mut left,
         ) {
-            return stay;
+            return None;
         }
         settle(values, &left, ground.signals);
-        return Passed {
-            done: true,
-            table: tallies::table_behind(sums, i, table),
-        };
+        return Some(tallies::table_behind(sums, i, table));
     }
     let bare = [0; sets::MOST];
-    let done = tallies::asks(
+    if !tallies::asks(
         ground.declared.text,
         sums,
         i,
@@ -437,8 +416,10 @@ fn pass<'a>(
         table,
         &bare,
         &mut left,
-    );
-    Passed { done, table }
+    ) {
+        return None;
+    }
+    Some(table)
 }
 
 // The marks of a signal behind a body whose sum is known, before those of tables that the body chooses: is it assigned, and is what stood there before shown under the
@@ -460,10 +441,8 @@ fn sum_marks(sums: &[u8], r: usize, s: usize, table: usize) -> u16
 {
     let assigned = tallies::assigns(sums, r, s);
     let mut m = first_marks(assigned, tallies::shows(sums, r, s, timing::TABLES), table);
-    let mut t = 0;
-    while t < timing::TABLES {
+    for t in 0..timing::TABLES {
         m = memos::marked_if(m, t, tallies::shows(sums, r, s, t));
-        t += 1;
     }
     m
 }
@@ -476,10 +455,8 @@ fn mark_passed(memo: &mut [u16], level: usize, sums: &[u8], i: usize, table: usi
     if (measures::PROCEDURES <= i) | !memos::tracks(memo, level) {
         return;
     }
-    let mut s = 0;
-    while s < signals {
+    for s in 0..signals {
         memos::join_at(memo, level, s, sum_marks(sums, i, s, table));
-        s += 1;
     }
 }
 
@@ -521,12 +498,10 @@ fn pins_granted(memo: &[u16], from: usize, waves: &[u8], values: &[u8], signals:
     requires { (from + signals ≤ length memo.now) × (length waves.now ≡ tables_most * table_size) × (signals ≤ signals_most) × (signals ≤ length values.now) }
     ensures { result ≡ true → (tabs : Tables) → Marked waves.now tabs → (i : ℕ) → i < signals → Granted tabs (marks_from memo.now from i) i (get_or values.now i 0) }
 {
-    let mut s = 0;
-    while s < signals {
+    for s in 0..signals {
         if !pin_granted(waves, memos::marks(memo, from + s), s, values[s]) {
             return false;
         }
-        s += 1;
     }
     true
 }
@@ -636,10 +611,9 @@ fn uses<'a>(
     requires { (h : SomeInvoked (ground_of ground.now) c i t frame.depth frame.level table given.now (arrays values.old feeds.old args.old)) × Heads (ground_of ground.now) memo.old h.env × Behind (ground_of ground.now) c past }
     ensures { (result.cursor ≡ past) × (result.ends ≡ false) × Served (ground_of ground.now) marks.now sums.now memo.old memo.new c i t frame.depth frame.level table given.now (arrays values.old feeds.old args.old) (arrays values.new feeds.new args.new) frame.seconds result }
 {
-    let p = pass(ground, marks, sums, i, t, given, args, table, values);
-    if p.done {
+    if let Some(behind) = pass(ground, marks, sums, i, t, given, args, table, values) {
         mark_passed(memo, DEPTH - frame.depth, sums, i, table, ground.signals);
-        return goes_on(past, p.table);
+        return goes_on(past, behind);
     }
     let r = used(
         ground, c, past, marks, sums, frame, i, t, given, table, values, feeds, args, memo,
@@ -855,7 +829,7 @@ fn pattern<'a>(
     )
 }
 
-// The listed patterns in order: does a cycle fail, and where does the first one's V stand?
+// The listed patterns in order: where the V of the first cycle that fails stands.
 pub fn first_failing<'a>(
     ground: &'a Ground<'a>,
     marks: &'a [u8],
@@ -863,7 +837,7 @@ pub fn first_failing<'a>(
     list: &'a [usize],
     listed: usize,
     patterns: usize,
-) -> Failing
+) -> Option<usize>
     requires { SomeRunOn (ground_of ground.now) list.now listed patterns }
     ensures { (p : Parts) (d : Read) (run : Body) (h : RunsOn (ground_of ground.now) list.now listed patterns p d run) → Summed (ground_of ground.now) marks.now sums.now h.tabled.parts.env → Decides d run result }
 {
@@ -871,8 +845,7 @@ pub fn first_failing<'a>(
     let mut feeds = [0usize; pins::FEEDS];
     let mut args = [0usize; measures::ROW];
     let mut memo = [0u16; memos::MEMO];
-    let mut k = 0;
-    while k < listed {
+    for k in 0..listed {
         let r = pattern(
             ground,
             marks,
@@ -886,15 +859,8 @@ pub fn first_failing<'a>(
             &mut memo,
         );
         if r.failed {
-            return Failing {
-                failed: true,
-                place: r.place,
-            };
+            return Some(r.place);
         }
-        k += 1;
     }
-    Failing {
-        failed: false,
-        place: 0,
-    }
+    None
 }

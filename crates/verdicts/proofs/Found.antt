@@ -5,6 +5,7 @@ use mathlib.Core.Bool.{Bool, true, false, true≢false}
 use mathlib.Core.Option.{Option, none}
 use mathlib.Core.List.{List}
 use lib.ListN.{length}
+use Rattle.std.specs.Prelude.{Some, None}
 use Rattle.tokens.specs.Tokens.{Toks, toks}
 use Rattle.meaning.specs.Refusals.{not_playable, across_edge}
 use Rattle.meaning.specs.Reader.{ok}
@@ -25,7 +26,6 @@ use Rattle.texts.proofs.Meant.{meant}
 use Rattle.texts.proofs.Sounds.{sound_runs}
 use Rattle.texts.proofs.Deciding.{counted}
 use Rattle.plays.specs.Run.{Runs}
-use Rattle.plays.specs.declared.Failing.{Failing}
 use Rattle.verdicts.specs.Judged.{which_of}
 use Rattle.verdicts.specs.Found.{meant_by, Unplayable, Crosses}
 use Rattle.verdicts.specs.Judged.{numbered}
@@ -49,33 +49,28 @@ module _ {w : Watch} {text places lists tplaces waves book rows list : List ℕ}
   unfolding answering
   meant_by_lem = meant text ∙ ap (λ (a : Answer Sound). answering a played) f.is
 
-  pub meaning_failing : {a : Failing} → Unplayable text places lists tplaces waves book rows list v a → a.failed ≡ true → meaning text ≡ refused not_playable a.place
+  pub meaning_failing : {at : ℕ} → Unplayable text places lists tplaces waves book rows list v (Some at) → meaning text ≡ refused not_playable at
   unfolding played
-  meaning_failing p h = meant_by_lem ∙ rw ((p.decides f).fails h, played)
+  meaning_failing p = meant_by_lem ∙ rw (p.decides f, played)
 
-  module _ {a b : Failing} (p : Unplayable text places lists tplaces waves book rows list v a) (on : a.failed ≡ false) (q : Crosses text places lists tplaces waves book rows list v b) where
+  module _ (p : Unplayable text places lists tplaces waves book rows list v None) where
     -- the signals by their names alone are as many
     as_many : {o : Option ℕ} → first_in_run f.it.read.tables (length f.it.read.signals) f.it.run ≡ o
         → first_in_run f.it.read.tables (length (firsts f.it.read.signals)) f.it.run ≡ o
     as_many e = ap (λ (n : ℕ). first_in_run f.it.read.tables n f.it.run) (length_firsts f.it.read.signals) ∙ e
 
-    pub meaning_crossing : b.failed ≡ true → meaning text ≡ refused across_edge b.place
+    pub meaning_crossing : {at : ℕ} → Crosses text places lists tplaces waves book rows list v (Some at) → meaning text ≡ refused across_edge at
     unfolding played ordered
-    meaning_crossing h = meant_by_lem ∙ rw ((p.decides f).sound on, as_many ((q.decides f).fails h), played, ordered)
+    meaning_crossing q = meant_by_lem ∙ rw (p.decides f, as_many (q.decides f), played, ordered)
 
-    pub meaning_given : b.failed ≡ false → meaning text ≡ given (meant_by f.it)
+    pub meaning_given : Crosses text places lists tplaces waves book rows list v None → meaning text ≡ given (meant_by f.it)
     unfolding played ordered
-    meaning_given h = meant_by_lem ∙ rw ((p.decides f).sound on, as_many ((q.decides f).sound h), played, ordered)
+    meaning_given q = meant_by_lem ∙ rw (p.decides f, as_many (q.decides f), played, ordered)
 
   -- where every event lies within its own cycle no pair is out of order
   pub quiet_crosses : ((d : Read) (ts : Toks) → document (toks text 0) ≡ ok d ts → (n : ℕ) (run : Body) → first_in_run d.tables n run ≡ none)
-      → Crosses text places lists tplaces waves book rows list v (record { failed = false; place = 0 })
-  quiet_crosses q = record {
-    decides = λ g. record {
-      fails = λ h. absurd (true≢false (sym h));
-      sound = λ h. (let r = sound_runs text g.is in q g.it.read r.rest r.read (length g.it.read.signals) g.it.run);
-    };
-  }
+      → Crosses text places lists tplaces waves book rows list v None
+  quiet_crosses q = record { decides = λ g. (let r = sound_runs text g.is in q g.it.read r.rest r.read (length g.it.read.signals) g.it.run) }
 
   -- ---- the counts and the names
 

@@ -1,5 +1,5 @@
 -- A text that 1 to 16 leave, with the tables that hold it; and 17 and 25.
-use Rattle.std.specs.Prelude.{ℕ, ◌≡◌, List, length, Result, Ok, Err}
+use Rattle.std.specs.Prelude.{ℕ, ◌≡◌, List, length, Option, Result, Ok, Err}
 use Rattle.tokens.specs.declared.Refusal.{Refusal}
 use Rattle.meaning.specs.Bounds.{tables_most}
 use Rattle.meaning.specs.Meaning.{given, refused, Meaning, meaning_of, meaning}
@@ -10,7 +10,6 @@ use Rattle.texts.specs.Texts.{Sound}
 use Rattle.texts.specs.Tables.{Found, NotesSound}
 use Rattle.plays.specs.Run.{Decides}
 use Rattle.crossings.specs.Run.{Decides as DecidesPair}
-use Rattle.plays.specs.declared.Failing.{Failing}
 
 -- an accepted text
 abbrev pub meant_by : Sound → Meaning
@@ -28,11 +27,11 @@ pub record SomeFound (text places lists tplaces waves book rows list used : List
   pub long : length used ≡ table_size
 
 -- the first cycle of its run that fails, or that there is none
-pub record Unplayable (text places lists tplaces waves book rows list : List ℕ) (v : Verdict) (r : Failing) : Type 0 where
+pub record Unplayable (text places lists tplaces waves book rows list : List ℕ) (v : Verdict) (r : Option ℕ) : Type 0 where
   pub decides : {w : Watch} (f : Found text w places lists tplaces waves book rows list v) → Decides f.it.read f.it.run r
 
 -- the first pair of neighbouring cycles that is not in order, or that there is none
-pub record Crosses (text places lists tplaces waves book rows list : List ℕ) (v : Verdict) (r : Failing) : Type 0 where
+pub record Crosses (text places lists tplaces waves book rows list : List ℕ) (v : Verdict) (r : Option ℕ) : Type 0 where
   pub decides : {w : Watch} (f : Found text w places lists tplaces waves book rows list v) → DecidesPair f.it.read f.it.run r
 
 -- THE PROMISE of judging its run: it is accepted, or refused, 17 or 25

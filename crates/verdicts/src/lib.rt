@@ -13,7 +13,7 @@ ghost use Rattle.verdicts.specs.Judged.{named_of, numbered, Judges, Copies};
 ghost use Rattle.verdicts.specs.Found.{no_waveform, SomeFound, Unplayable, Crosses, Plays};
 
 use heads::Declared;
-use plays::{Failing, Ground};
+use plays::Ground;
 use texts::{Counts, Verdict};
 use timing::Watch;
 use tokens::Refusal;
@@ -133,7 +133,7 @@ fn summed<'a>(
     rows: &'a [u16],
     list: &'a [usize],
     v: Verdict,
-) -> Failing
+) -> Option<usize>
     requires { (w : Watch) × Found text.now w places.now lists.now tplaces.now waves.now book.now rows.now list.now v }
     ensures { Unplayable text.now places.now lists.now tplaces.now waves.now book.now rows.now list.now v result }
 {
@@ -162,10 +162,7 @@ fn summed<'a>(
         &mut sums,
     );
     if granted {
-        return Failing {
-            failed: false,
-            place: 0,
-        };
+        return None;
     }
     plays::first_failing(&ground, &marks, &sums, list, parts.listed, parts.patterns)
 }
@@ -182,7 +179,7 @@ fn unplayable<'a>(
     list: &'a [usize],
     used: &'a [u8],
     v: Verdict,
-) -> Failing
+) -> Option<usize>
     requires { SomeFound text.now places.now lists.now tplaces.now waves.now book.now rows.now list.now used.now v }
     ensures { Unplayable text.now places.now lists.now tplaces.now waves.now book.now rows.now list.now v result }
 {
@@ -199,10 +196,7 @@ fn unplayable<'a>(
     ) {
         return summed(text, places, lists, tplaces, waves, book, rows, list, v);
     }
-    Failing {
-        failed: false,
-        place: 0,
-    }
+    None
 }
 
 // The first pair of neighbouring cycles of a text's run that is not in order, searched for by playing it. Its tables take 2.5 MB: where two functions call it, they
@@ -217,7 +211,7 @@ fn crossing<'a>(
     rows: &'a [u16],
     list: &'a [usize],
     v: Verdict,
-) -> Failing
+) -> Option<usize>
     requires { (w : Watch) × Found text.now w places.now lists.now tplaces.now waves.now book.now rows.now list.now v }
     ensures { Crosses text.now places.now lists.now tplaces.now waves.now book.now rows.now list.now v result }
 {
@@ -266,23 +260,21 @@ pub fn failing<'a>(
     requires { SomeFound text.now places.now lists.now tplaces.now waves.now book.now rows.now list.now used.now v }
     ensures { Plays text.now places.now lists.now tplaces.now waves.now book.now rows.now list.now v result }
 {
-    let cycle = unplayable(
+    if let Some(cycle) = unplayable(
         text, places, lists, tplaces, waves, book, rows, list, used, v,
-    );
-    if cycle.failed {
+    ) {
         return Err(Refusal {
             no: NOT_PLAYABLE,
-            place: cycle.place,
+            place: cycle,
         });
     }
     if quiet::is_quiet(text) {
         return Ok(());
     }
-    let pair = crossing(text, places, lists, tplaces, waves, book, rows, list, v);
-    if pair.failed {
+    if let Some(pair) = crossing(text, places, lists, tplaces, waves, book, rows, list, v) {
         return Err(Refusal {
             no: ACROSS_EDGE,
-            place: pair.place,
+            place: pair,
         });
     }
     Ok(())
@@ -305,23 +297,21 @@ fn play<'a>(
     requires { Found text.now wanted.watch places.now lists.now tplaces.now waves.now book.now rows.now list.now v × NotesSound text.now used.now v × (length used.now ≡ table_size) }
     ensures { Judges text.now wanted result }
 {
-    let f = unplayable(
+    if let Some(place) = unplayable(
         text, places, lists, tplaces, waves, book, rows, list, used, v,
-    );
-    if f.failed {
+    ) {
         return Err(Refusal {
             no: NOT_PLAYABLE,
-            place: f.place,
+            place,
         });
     }
     if quiet::is_quiet(text) {
         return Ok(told(text, places, tplaces, v, wanted));
     }
-    let x = crossing(text, places, lists, tplaces, waves, book, rows, list, v);
-    if x.failed {
+    if let Some(place) = crossing(text, places, lists, tplaces, waves, book, rows, list, v) {
         return Err(Refusal {
             no: ACROSS_EDGE,
-            place: x.place,
+            place,
         });
     }
     Ok(told(text, places, tplaces, v, wanted))

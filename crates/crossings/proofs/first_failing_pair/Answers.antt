@@ -5,7 +5,7 @@ use lib.ListN.{length-replicate}
 use Rattle.meaning.specs.Bounds.{signals_most}
 use Rattle.plays.proofs.Texts.{listed_any, opening_sized}
 use Rattle.crossings.specs.Rows.{rows_most}
-use Rattle.crossings.proofs.Running.{run_timed, run_begins, run_sound, run_fails, run_left, decides_failing, decides_sound}
+use Rattle.crossings.proofs.Running.{run_timed, run_begins, run_sound, run_fails, run_left}
 use Rattle.crossings.proofs.first_failing_pair.Goals as goal
 
 pub loop-k-init : goal.loop-k-init
@@ -32,7 +32,7 @@ pattern-r-requires c =
     }
 
 pub returns-then-r : goal.returns-then-r
-returns-then-r c = λ p d run h m. decides_failing (run_fails _ _ _ _ _ _ _ _ _ _ _ _ h (c.loop-k.invariant.left p d run h m) c.loop-k-test.true c.pattern-r.ensures m c.if-r.true)
+returns-then-r c = λ p d run h m. run_fails _ _ _ _ _ _ _ _ _ _ _ _ h (c.loop-k.invariant.left p d run h m) c.loop-k-test.true c.pattern-r.ensures m c.if-r.true
 
 pub overflow_add-k : goal.overflow_add-k
 overflow_add-k c = omega (arith, c.ranges.listed)
@@ -46,4 +46,4 @@ loop-k-preserved c =
     }
 
 pub returns : goal.returns
-returns c = λ p d run h m. decides_sound (run_sound _ _ _ _ _ _ _ _ _ _ _ _ h (c.loop-k.invariant.left p d run h m) c.loop-k-test.false)
+returns c = λ p d run h m. run_sound _ _ _ _ _ _ _ _ _ _ _ _ h (c.loop-k.invariant.left p d run h m) c.loop-k-test.false

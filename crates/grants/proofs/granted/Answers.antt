@@ -13,12 +13,6 @@ pattern-one-requires c = some_pattern _ _ _ _ _ _ _ _ _ _ _ _ c.requires.0 c.loo
 pub loop-k-preserved : goal.loop-k-preserved
 loop-k-preserved c = granted_next _ _ _ _ _ _ _ _ _ _ _ _ c.loop-k.invariant c.loop-k-test.true c.pattern-one.ensures
 
-pub shape_of-marks : goal.shape_of-marks
-shape_of-marks c = c.loop-k.invariant.roomy.marks_long ∙ sym c.requires.1.marks_long
-
-pub shape_of-sums : goal.shape_of-sums
-shape_of-sums c = c.loop-k.invariant.roomy.sums_long ∙ sym c.requires.1.sums_long
-
 pub returns : goal.returns
 returns c =
     let u = c.loop-k.invariant in (

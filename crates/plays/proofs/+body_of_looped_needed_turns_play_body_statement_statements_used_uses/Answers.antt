@@ -2,8 +2,9 @@
 -- enters one; at each turn of a body's statements fewer tokens are left.
 use Prim.Native.Nat.{◌-◌}
 use native.Mathlib.Omega.{arith}
-use mathlib.Core.Path.{refl, sym, ◌∙◌}
+use mathlib.Core.Path.{refl, sym, ap, ◌∙◌}
 use mathlib.Core.List.{[]}
+use lib.ListN.{length, get_or}
 use borrow.Author.Tests.{eq-eqb}
 use Rattle.tokens.proofs.Bools.{true_false}
 use Rattle.meaning.specs.Run.{bare}
@@ -882,8 +883,8 @@ used-returns t c =
           )));
     }
 
-pub uses-pass-p-requires : goal.uses-pass-p-requires
-uses-pass-p-requires t c =
+pub uses-pass-requires : goal.uses-pass-requires
+uses-pass-requires t c =
     let s = c.requires.0 in
     (s.sized.waves_long, s.sized.roomy.few, s.invoking.declared, s.given_long, s.sized.args_long, s.sized.roomy.values_long)
 
@@ -892,17 +893,15 @@ uses-overflow_sub-frame t c = omega (arith, c.requires.0.invoking.fits.levels, c
 
 pub uses-mark_passed-requires : goal.uses-mark_passed-requires
 uses-mark_passed-requires t c =
-    let q = c.pass-p.ensures in
-    (nest_fits _, c.requires.0.sized.roomy.few, q.room c.if-p.true)
+    (nest_fits _, c.requires.0.sized.roomy.few, c.in-Some.ensures.room)
 
-pub uses-returns-then-p : goal.uses-returns-then-p
-uses-returns-then-p t c =
+pub uses-returns-in-Some : goal.uses-returns-in-Some
+uses-returns-in-Some t c =
     let start = c.requires in
     let depth = c.args.frame.depth in
     let sized = start.0.sized in
     let few = sized.roomy.few in
-    let q = c.pass-p.ensures in
-    let taken = c.if-p.true in
+    let q = c.in-Some.ensures in
     let w = c.mark_passed.ensures in
     rw c.goes_on.ensures (
       refl,
@@ -910,13 +909,13 @@ uses-returns-then-p t c =
       record {
         kept = kept_passed sized sized.args_long q.long q.rows;
         own = λ s h. refl;
-        told = λ E b us a s v m. q.told taken E b us a s _ _ _ 0 (invoked_calling v m.summed) v.shows;
+        told = λ E b us a s v m. q.told E b us a s _ _ _ 0 (invoked_calling v m.summed) v.shows;
         memo_long = w.0.long;
         below = below_tracked (nest_of depth) w.0;
         heads = λ E b us a s v hs. heads_tracked (nest_of depth) hs few (nest_fits depth) w.0;
         learnt = λ E b us a s v m. knows_tracked m (nest_of depth) few (nest_fits depth) w.0;
         tracks = λ E b us a s v m e. tracking_joined {m = λ j. (w.1 j).0} (λ some room. (
-          q.tracks taken E b us a s _ _ _ (λ j. (w.1 j).0) (invoked_calling v m.summed) v.shows (λ j l. ((w.1 j).1 some room l).0),
+          q.tracks E b us a s _ _ _ (λ j. (w.1 j).0) (invoked_calling v m.summed) v.shows (λ j l. ((w.1 j).1 some room l).0),
           λ j l. ((w.1 j).1 some room l).1,
         ));
       },
@@ -926,7 +925,7 @@ pub uses-used-r-requires : goal.uses-used-r-requires
 uses-used-r-requires t c =
     let start = c.requires in
     let s = start.0 in
-    let q = c.pass-p.ensures in (
+    let same = c.in_default.ensures in (
       omega arith,
       (
         record {
@@ -935,8 +934,8 @@ uses-used-r-requires t c =
           rest = s.rest;
           arguments = s.arguments;
           state = s.state;
-          invoking = invoking_untouched s.invoking (q.untouched c.if-p.false);
-          sized = sized_kept s.sized (kept_passed s.sized s.sized.args_long q.long q.rows);
+          invoking = invoking_untouched s.invoking same;
+          sized = sized_kept s.sized (kept_passed s.sized s.sized.args_long (ap length same) (λ j h. ap (λ l. get_or l j 0) same));
           given_long = s.given_long;
         },
         start.1,
@@ -947,13 +946,12 @@ uses-used-r-requires t c =
 pub uses-returns : goal.uses-returns
 uses-returns t c =
     let sized = c.requires.0.sized in
-    let q = c.pass-p.ensures in
-    let same = q.untouched c.if-p.false in
+    let same = c.in_default.ensures in
     let v = c.used-r.ensures in (
       refl,
       refl,
       record {
-        kept = kept_then (kept_passed sized sized.args_long q.long q.rows) v.kept;
+        kept = kept_then (kept_passed sized sized.args_long (ap length same) (λ j h. ap (λ l. get_or l j 0) same)) v.kept;
         own = v.own;
         told = λ E b us a s i m. v.told E b us a s (invoking_untouched i same) m;
         memo_long = v.memo_long;

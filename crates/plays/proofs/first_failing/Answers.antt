@@ -1,11 +1,10 @@
 -- The run meets refusal 17: behind the patterns that were played nothing failed, and the rest of the list is left.
 use Prim.Native.Nat.{ℕ}
-use native.Mathlib.Omega.{arith}
 use mathlib.Core.Path.{sym, ◌∙◌}
 use lib.ListN.{length-replicate}
 use Rattle.words.proofs.Words.{zeros}
 use Rattle.memos.specs.Memo.{memo_length}
-use Rattle.plays.proofs.Texts.{decides_failing, decides_sound, listed_any, run_fails, run_learnt, run_left, run_sound, unplayed}
+use Rattle.plays.proofs.Texts.{listed_any, run_fails, run_learnt, run_left, run_sound, unplayed}
 use Rattle.plays.proofs.first_failing.Goals as goal
 
 pub loop-k-init : goal.loop-k-init
@@ -37,12 +36,7 @@ returns-then-r c =
     let loop' = c.loop-k in
     let loop-test' = c.loop-k-test in
     let pattern' = c.pattern-r in
-    λ p d run h m. (let l = loop'.invariant.1.left p d run h m in decides_failing (run_fails _ _ _ _ _ _ _ _ _ _ _ _ h l.0 loop-test'.true pattern'.ensures l.1 c.if-r.true))
-
-pub overflow_add-k : goal.overflow_add-k
-overflow_add-k c =
-    let fits' = c.ranges in
-    omega (arith, fits'.listed)
+    λ p d run h m. (let l = loop'.invariant.1.left p d run h m in run_fails _ _ _ _ _ _ _ _ _ _ _ _ h l.0 loop-test'.true pattern'.ensures l.1 c.if-r.true)
 
 pub loop-k-preserved : goal.loop-k-preserved
 loop-k-preserved c =
@@ -62,4 +56,4 @@ loop-k-preserved c =
 pub returns : goal.returns
 returns c =
     let loop' = c.loop-k in
-    λ p d run h m. decides_sound (run_sound _ _ _ _ _ _ _ _ _ _ _ _ h (loop'.invariant.1.left p d run h m).0 c.loop-k-test.false)
+    λ p d run h m. run_sound _ _ _ _ _ _ _ _ _ _ _ _ h (loop'.invariant.1.left p d run h m).0 c.loop-k-test.false

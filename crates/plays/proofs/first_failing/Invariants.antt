@@ -1,4 +1,3 @@
-use Prim.Native.Nat.{◌-◌}
 use mathlib.Core.Path.{◌≡◌}
 use lib.ListN.{length}
 use Rattle.memos.specs.Memo.{memo_length}
@@ -8,6 +7,3 @@ use Rattle.plays.proofs.first_failing.Given as goal
 
 abbrev pub invariant-loop-k : goal.invariant-loop-k
 invariant-loop-k l = (memo_length ≡ length l.memo) × Unplayed l.ground.declared.text.now l.ground.declared.places.now l.ground.declared.lists.now l.ground.declared.tplaces.now l.ground.waves.now l.ground.declared.book.now l.ground.declared.rows.now l.list l.ground.declared.known l.ground.signals l.listed l.patterns l.marks l.sums l.memo l.k (arrays l.values l.feeds l.args)
-
-abbrev pub decreases-loop-k : goal.decreases-loop-k
-decreases-loop-k l = l.listed - l.k

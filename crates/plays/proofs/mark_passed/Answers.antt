@@ -11,34 +11,18 @@ returns-then-i-tracks c =
 
 pub loop-s-init : goal.loop-s-init
 loop-s-init c =
-    (omega arith, joined_some_none)
-
-pub sum_marks-requires : goal.sum_marks-requires
-sum_marks-requires c =
-    (c.requires.2, omega (arith, c.requires.1))
+    joined_some_none
 
 pub join_at-requires : goal.join_at-requires
 join_at-requires c =
-    (c.requires.0, omega (arith, c.requires.1), omega (arith, (c.tracks.ensures.0 (passed_on c.args.i _ c.if-i-tracks.false).1).1, c.loop-s.invariant.1.writes.long), c.sum_marks.ensures.0)
-
-pub overflow_add-s : goal.overflow_add-s
-overflow_add-s c =
-    omega arith
-
-pub loop-s-smaller : goal.loop-s-smaller
-loop-s-smaller c =
-    omega arith
+    (c.requires.0, omega (arith, c.requires.1), omega (arith, (c.tracks.ensures.0 (passed_on c.args.i _ c.if-i-tracks.false).1).1, c.loop-s.invariant.writes.long), c.sum_marks.ensures.0)
 
 pub loop-s-preserved : goal.loop-s-preserved
 loop-s-preserved c =
     let on = passed_on c.args.i _ c.if-i-tracks.false in
     let j = c.join_at.ensures in
-    (omega arith, joined_some_next c.sum_marks.result j.0 c.loop-s.invariant.1 (omega (arith, c.requires.1)) (omega (arith, (c.tracks.ensures.0 on.1).1, c.loop-s.invariant.1.writes.long, c.requires.0, c.requires.1)) j.1 j.2 (record { in_place = λ l. c.sum_marks.ensures.1; comes_back = λ l. absurd (omega (arith, on.0)) }) j.3)
-
-pub shape_of-memo : goal.shape_of-memo
-shape_of-memo c =
-    c.loop-s.invariant.1.writes.long
+    joined_some_next c.sum_marks.result j.0 c.loop-s.invariant (omega (arith, c.requires.1)) (omega (arith, (c.tracks.ensures.0 on.1).1, c.loop-s.invariant.writes.long, c.requires.0, c.requires.1)) j.1 j.2 (record { in_place = λ l. c.sum_marks.ensures.1; comes_back = λ l. absurd (omega (arith, on.0)) }) j.3
 
 pub returns : goal.returns
 returns c =
-    (c.loop-s.invariant.1.writes, λ s. ((c.loop-s.invariant.1.each s).0, λ some long h. (c.loop-s.invariant.1.each s).1 (omega arith)))
+    (c.loop-s.invariant.writes, λ s. ((c.loop-s.invariant.each s).0, λ some long h. (c.loop-s.invariant.each s).1 (omega arith)))

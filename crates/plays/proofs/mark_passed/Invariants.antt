@@ -1,4 +1,4 @@
-use Prim.Native.Nat.{◌-◌, ◌*◌, ◌≤◌}
+use Prim.Native.Nat.{◌*◌}
 use Rattle.meaning.specs.Bounds.{signals_most}
 use Rattle.plays.specs.Plays.{PassedMarks}
 use Rattle.memos.proofs.Marking.{JoinedSome}
@@ -6,8 +6,4 @@ use Rattle.plays.proofs.mark_passed.Given as goal
 
 abbrev pub invariant-loop-s : goal.invariant-loop-s
 invariant-loop-s l =
-    (l.s ≤ l.signals) × JoinedSome (λ j b. PassedMarks l.sums l.i l.table j b) (l.level * signals_most) l.s l.initial.memo l.memo
-
-abbrev pub decreases-loop-s : goal.decreases-loop-s
-decreases-loop-s l =
-    l.signals - l.s
+    JoinedSome (λ j b. PassedMarks l.sums l.i l.table j b) (l.level * signals_most) l.s l.initial.memo l.memo

@@ -4,19 +4,13 @@ use native.Mathlib.Omega.{arith}
 use mathlib.Core.Path.{sym, ◌∙◌}
 use lib.ListN.{length-replicate}
 use Rattle.meaning.specs.Bounds.{signals_most}
-use Rattle.plays.proofs.Passing.{room, stays, passes_macro, passes_procedure}
+use Rattle.plays.proofs.Passing.{room, passes_macro, passes_procedure}
 use Rattle.plays.proofs.pass.Goals as goal
-
-pub returns-then-marks-i : goal.returns-then-marks-i
-returns-then-marks-i c = stays
 
 pub bounds-marks-i : goal.bounds-marks-i
 bounds-marks-i c =
     let args' = c.args in
     (room args'.marks.now args'.sums.now args'.i c.if-marks-i.false).0
-
-pub returns-then-not-usable : goal.returns-then-not-usable
-returns-then-not-usable c = stays
 
 pub asks-requires : goal.asks-requires
 asks-requires c =
@@ -24,9 +18,6 @@ asks-requires c =
     let args' = c.args in
     let if1' = c.if-marks-i in
     ((room args'.marks.now args'.sums.now args'.i if1'.false).1, pre'.0, pre'.1, pre'.3, pre'.4, omega (arith, pre'.5), length-replicate {A = ℕ} signals_most 0)
-
-pub returns-then-not-asks : goal.returns-then-not-asks
-returns-then-not-asks c = stays
 
 pub table_behind-requires : goal.table_behind-requires
 table_behind-requires c =
@@ -46,8 +37,8 @@ returns-then-i-lt-PROCEDURES c =
     let Known-is = sym usable'.ensures ∙ if2'.false in
     passes_macro Known-is pre'.1 pre'.5 (room c.args.marks.now c.args.sums.now c.args.i c.if-marks-i.false).1 if3'.true (asks'.ensures.1 if4'.false) settle'.ensures c.table_behind.ensures.0
 
-pub asks-done-requires : goal.asks-done-requires
-asks-done-requires c =
+pub asks-requires-2 : goal.asks-requires-2
+asks-requires-2 c =
     let pre' = c.requires in
     let args' = c.args in
     let if1' = c.if-marks-i in
@@ -59,6 +50,6 @@ returns c =
     let usable' = c.usable in
     let if2' = c.if-not-usable in
     let if3' = c.if-i-lt-PROCEDURES in
-    let asks2' = c.asks-done in
+    let asks2' = c.asks-2 in
     let Known-is = sym usable'.ensures ∙ if2'.false in
-    passes_procedure Known-is pre'.1 pre'.5 (room c.args.marks.now c.args.sums.now c.args.i c.if-marks-i.false).1 if3'.false pre'.2 asks2'.ensures.1
+    passes_procedure Known-is pre'.1 pre'.5 (room c.args.marks.now c.args.sums.now c.args.i c.if-marks-i.false).1 if3'.false pre'.2 (asks2'.ensures.1 c.if-not-asks-2.false)

@@ -1,11 +1,10 @@
 -- `failing` meets its contract: 17, behind it 25, or the text is accepted.
-use mathlib.Core.Path.{refl}
 use Rattle.texts.proofs.Sounds.{sound_runs}
 use Rattle.verdicts.proofs.Found.{meaning_failing, meaning_crossing, meaning_given, quiet_crosses}
 use Rattle.verdicts.proofs.failing.Goals as goal
 
-pub returns-then-cycle : goal.returns-then-cycle
-returns-then-cycle c = λ w f. meaning_failing f c.unplayable-cycle.ensures c.if-cycle.true
+pub returns-in-Some : goal.returns-in-Some
+returns-in-Some c = λ w f. meaning_failing f c.in-Some.ensures
 
 pub is_quiet-requires : goal.is_quiet-requires
 is_quiet-requires c =
@@ -14,13 +13,13 @@ is_quiet-requires c =
     (found.it.read, read.rest, read.read)
 
 pub returns-then-is_quiet : goal.returns-then-is_quiet
-returns-then-is_quiet c = λ w f. meaning_given f c.unplayable-cycle.ensures c.if-cycle.false (quiet_crosses f (c.is_quiet.ensures c.if-is_quiet.true)) refl
+returns-then-is_quiet c = λ w f. meaning_given f c.in_default.ensures (quiet_crosses f (c.is_quiet.ensures c.if-is_quiet.true))
 
-pub crossing-pair-requires : goal.crossing-pair-requires
-crossing-pair-requires c = (_, c.requires.found)
+pub crossing-requires : goal.crossing-requires
+crossing-requires c = (_, c.requires.found)
 
-pub returns-then-pair : goal.returns-then-pair
-returns-then-pair c = λ w f. meaning_crossing f c.unplayable-cycle.ensures c.if-cycle.false c.crossing-pair.ensures c.if-pair.true
+pub returns-in-Some-2 : goal.returns-in-Some-2
+returns-in-Some-2 c = λ w f. meaning_crossing f c.in_default.ensures c.in-Some-2.ensures
 
 pub returns : goal.returns
-returns c = λ w f. meaning_given f c.unplayable-cycle.ensures c.if-cycle.false c.crossing-pair.ensures c.if-pair.false
+returns c = λ w f. meaning_given f c.in_default.ensures c.in_default-2.ensures

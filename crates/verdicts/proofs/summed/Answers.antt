@@ -6,7 +6,6 @@ use Rattle.words.proofs.Words.{zeros}
 use Rattle.measures.specs.Book.{bodies}
 use Rattle.tallies.specs.Rows.{row_size}
 use Rattle.grants.specs.Grants.{rows}
-use Rattle.plays.proofs.Texts.{decides_sound}
 use Rattle.verdicts.proofs.Found.{runs}
 use Rattle.verdicts.proofs.summed.Goals as goal
 
@@ -17,7 +16,7 @@ granted-granted-requires c = (
 )
 
 pub returns-then-granted : goal.returns-then-granted
-returns-then-granted c = record { decides = λ f. decides_sound ((c.granted-granted.ensures.2 _ _ _ (runs f)).1 c.if-granted.true) }
+returns-then-granted c = record { decides = λ f. (c.granted-granted.ensures.2 _ _ _ (runs f)).1 c.if-granted.true }
 
 pub first_failing-requires : goal.first_failing-requires
 first_failing-requires c = record { parts = _; read = _; body = _; runs = runs c.requires.1 }

@@ -1,5 +1,4 @@
 -- `unplayable` meets its contract: no cycle of a plain text fails, and any other is summed up.
-use Rattle.plays.proofs.Texts.{decides_sound}
 use Rattle.verdicts.proofs.Found.{runs}
 use Rattle.verdicts.proofs.unplayable.Goals as goal
 
@@ -22,8 +21,4 @@ returns-then-not-plain c = c.summed.ensures
 
 pub returns : goal.returns
 returns c =
-    record {
-      decides = λ f.
-          decides_sound
-          (c.plain.ensures c.if-not-plain.false _ _ _ _ _ _ _ _ (runs f) (c.requires.notes.noted f.it f.is));
-    }
+    record { decides = λ f. c.plain.ensures c.if-not-plain.false _ _ _ _ _ _ _ _ (runs f) (c.requires.notes.noted f.it f.is) }
