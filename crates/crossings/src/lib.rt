@@ -70,11 +70,7 @@ fn copy_pins(values: &[u8], signals: usize, shown: &mut [u8], at: usize)
     requires { (signals ≤ length values.now) × (at + signals ≤ length shown.old) }
     ensures { Copied signals values.now at shown.old shown.new }
 {
-    let mut s = 0;
-    while s < signals {
-        shown[at + s] = values[s];
-        s += 1;
-    }
+    shown[at..at + signals].copy_from_slice(&values[..signals]);
 }
 
 fn put_marks(marks: &mut [usize], row: usize, table: usize, place: usize)
@@ -144,10 +140,8 @@ fn note(
     requires { (signals ≤ signals_most) × (signals_most ≤ length values.now) × Ample (seen shown.old marks.old) × (rows ≤ rows_most) }
     ensures { Long (seen shown.old marks.old) (seen shown.new marks.new) × Noted signals rows (seen shown.old marks.old) (seen shown.new marks.new) (cycle_in signals place table values.now 0 ∷ []) }
 {
-    let mut i = 1;
-    while i < rows {
+    for i in 1..rows {
         note_first(values, signals, table, place, shown, marks, i);
-        i += 1;
     }
     store(values, signals, table, place, shown, marks, 0);
 }
@@ -176,12 +170,10 @@ fn in_order<'a>(
     if TABLES <= k {
         return true;
     }
-    let mut s = 0;
-    while s < signals {
+    for s in 0..signals {
         if !spans::fine(firsts, lasts, periods, j, k, s, first[a + s], second[b + s]) {
             return false;
         }
-        s += 1;
     }
     true
 }
@@ -280,14 +272,7 @@ fn same(
         return false;
     }
     let at = row * sets::MOST;
-    let mut s = 0;
-    while s < signals {
-        if shown[at + s] != values[s] {
-            return false;
-        }
-        s += 1;
-    }
-    true
+    shown[at..at + signals] == values[..signals]
 }
 
 // The turn's first cycle once more behind its last one.
@@ -346,15 +331,13 @@ fn vectors<'a>(
     requires { Roomy signals values.old feeds.old level × (length given.now ≡ signals_most) × Sized firsts.now lasts.now periods.now × Ample (seen shown.old marks.old) × (used ≤ rows_most) }
     ensures { Others level values.old values.new feeds.old feeds.new × Long (seen shown.old marks.old) (seen shown.new marks.new) × Vectored text.now given.now (clock firsts.now lasts.now periods.now) signals level table place t used values.old values.new feeds.old feeds.new (seen shown.old marks.old) (seen shown.new marks.new) result }
 {
-    let mut i = 0;
-    while i < t {
+    for _ in 0..t {
         pins::put(text, given, values, feeds, level, signals);
         if cycle(
             firsts, lasts, periods, values, signals, table, place, shown, marks, used,
         ) {
             return true;
         }
-        i += 1;
     }
     false
 }
@@ -719,8 +702,7 @@ pub fn first_failing_pair<'a>(
     let mut args = [0usize; measures::ROW];
     let mut shown = [0u8; ROWS * sets::MOST];
     let mut marks = [0usize; ROWS * NUMBERS];
-    let mut k = 0;
-    while k < listed {
+    for k in 0..listed {
         let r = pattern(
             ground,
             list,
@@ -738,7 +720,6 @@ pub fn first_failing_pair<'a>(
         if r.failed {
             return Some(r.place);
         }
-        k += 1;
     }
     None
 }

@@ -7,8 +7,8 @@ use mathlib.Core.Logic.{◌⊎◌, inl, inr}
 use mathlib.Core.Bool.{Bool, true, false, not, ◌&&◌, and-false}
 use mathlib.Core.List.{List, [], ◌∷◌, ◌++◌, append_assoc}
 use lib.Dec.{leb, eqb}
-use lib.ListN.{length, get_or, take, set, length-append}
-use lib.Seq.{ext_get_or, get_or-take, length-take-le, get_or-set_same, get_or-set_other}
+use lib.ListN.{length, get_or, take, length-append}
+use lib.Seq.{ext_get_or, get_or-take, length-take-le}
 use borrow.Author.Tests.{lt-leb, leb-true, eqb-true, eqb-false}
 use Rattle.tokens.proofs.Bools.{both}
 use Rattle.meaning.specs.Body.{Body}
@@ -28,24 +28,9 @@ use Rattle.steps.specs.Walks.{Alike, Repeated}
 
 -- ---- a turn that leaves the pins and the table that it found
 
-pub alike_none : {v w : List ℕ} → Alike 0 v w
-alike_none = record { each = λ i h. absurd (omega arith) }
-
-pub alike_next : {s : ℕ} {v w : List ℕ} → Alike s v w → get_or v s 0 ≡ get_or w s 0 → Alike (s + 1) v w
-alike_next {s} {v} {w} x e = record { each = λ i h. by i h (eqb i s) refl }
-  where
-    by : (i : ℕ) → i < s + 1 → (z : Bool) → eqb i s ≡ z → get_or v i 0 ≡ get_or w i 0
-    by i h true q = rw (eqb-true i s q) e
-    by i h false q = let o = eqb-false i s q in x.each i (omega arith)
-
--- stored from there
-pub alike_stored : {s : ℕ} {v w : List ℕ} → Alike s v w → s < length v → Alike (s + 1) (set v s (get_or w s 0)) w
-alike_stored {s} {v} {w} x h =
-    alike_next (record { each = λ i l. get_or-set_other v s i (get_or w s 0) 0 (λ e. omega arith) ∙ x.each i l }) (get_or-set_same v s (get_or w s 0) 0 h)
-
--- all of them
-pub alike_all : {s n : ℕ} {v w : List ℕ} → s ≡ n → Alike s v w → Alike n v w
-alike_all e x = record { each = λ i h. x.each i (omega arith) }
+pub alike_taken : (n : ℕ) (v w : List ℕ) → take n v ≡ take n w → Alike n v w
+alike_taken n v w e =
+    record { each = λ i h. sym (get_or-take n v i 0 h) ∙ ap (λ (l : List ℕ). get_or l i 0) e ∙ get_or-take n w i 0 h }
 
 alike_front : (n : ℕ) (v w : List ℕ) → n ≤ length v → n ≤ length w → Alike n v w → take n v ≡ take n w
 alike_front n v w l m x =

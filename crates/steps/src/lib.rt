@@ -95,11 +95,7 @@ fn keep(values: &[u8], kept: &mut [u8], signals: usize)
     requires { (signals ≤ length values.now) × (signals ≤ length kept.old) }
     ensures { (length kept.new ≡ length kept.old) × Alike signals kept.new values.now }
 {
-    let mut s = 0;
-    while s < signals {
-        kept[s] = values[s];
-        s += 1;
-    }
+    kept[..signals].copy_from_slice(&values[..signals]);
 }
 
 // Are the pins behind it the same?
@@ -107,14 +103,7 @@ fn same_pins(values: &[u8], kept: &[u8], signals: usize) -> bool
     requires { (signals ≤ length values.now) × (signals ≤ length kept.now) }
     ensures { result ≡ true → Alike signals values.now kept.now }
 {
-    let mut s = 0;
-    while s < signals {
-        if values[s] != kept[s] {
-            return false;
-        }
-        s += 1;
-    }
-    true
+    values[..signals] == kept[..signals]
 }
 
 // So many turns behind one that leaves what it found: the rows of that turn, those from the row `shown` on, again. Where it has none nothing is to be done.
@@ -153,11 +142,10 @@ fn turns<'a>(
         depth: frame.depth - 1,
         level: frame.level,
     };
-    let mut i = 0;
     let mut w = walk;
     let mut chosen = table;
     let mut cursor = c;
-    while i < n {
+    for i in 0..n {
         let start = w;
         let before = chosen;
         let mut kept = [0u8; sets::MOST];
@@ -169,10 +157,9 @@ fn turns<'a>(
         if rows::over(w) {
             break;
         }
-        i += 1;
         let same = same_pins(values, &kept, ground.signals);
         if (start.pass == 0) & (chosen == before) & same {
-            w = repeated(w, start.row, n - i, ground.signals, buffer);
+            w = repeated(w, start.row, n - (i + 1), ground.signals, buffer);
             break;
         }
     }

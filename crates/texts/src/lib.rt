@@ -274,8 +274,7 @@ fn run_of<'a>(
 {
     let names = &book[measures::PATTERNS * 2..];
     let mut measure = measures::nothing();
-    let mut k = 0;
-    while k < listed {
+    for k in 0..listed {
         let i = words::find(text, words::name_bytes(text, list, k), names, patterns);
         if patterns <= i {
             return Err(Refusal {
@@ -285,7 +284,6 @@ fn run_of<'a>(
         }
         let x = measures::measure_at(book, measures::PATTERNS + i);
         measure = measures::plus(measure, measures::used(0, x));
-        k += 1;
     }
     Ok(measure)
 }

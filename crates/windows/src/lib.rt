@@ -91,8 +91,7 @@ pub fn window<'a>(
         walking: true,
         mark,
     };
-    let mut k = 0;
-    while k < listed {
+    for k in 0..listed {
         w = pattern(
             ground,
             list,
@@ -107,7 +106,6 @@ pub fn window<'a>(
         if rows::over(w) {
             break;
         }
-        k += 1;
     }
     budget - w.budget
 }

@@ -34,9 +34,6 @@ pattern-r-requires c =
 pub returns-then-r : goal.returns-then-r
 returns-then-r c = λ p d run h m. run_fails _ _ _ _ _ _ _ _ _ _ _ _ h (c.loop-k.invariant.left p d run h m) c.loop-k-test.true c.pattern-r.ensures m c.if-r.true
 
-pub overflow_add-k : goal.overflow_add-k
-overflow_add-k c = omega (arith, c.ranges.listed)
-
 pub loop-k-preserved : goal.loop-k-preserved
 loop-k-preserved c =
     record {

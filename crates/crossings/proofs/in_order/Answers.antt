@@ -12,34 +12,16 @@ pub returns-then-k-ge-TABLES : goal.returns-then-k-ge-TABLES
 returns-then-k-ge-TABLES c = λ tabs h p q. sym (second_none tabs c.args.signals p c.args.j c.args.first.now c.args.a q c.args.k c.args.second.now c.args.b (omega arith))
 
 pub loop-s-init : goal.loop-s-init
-loop-s-init c = (omega arith, λ tabs h p q. looked_none tabs c.args.signals p c.args.j c.args.first.now c.args.a q c.args.k c.args.second.now c.args.b (omega arith) (omega arith))
-
-pub overflow_add-a : goal.overflow_add-a
-overflow_add-a c = omega arith
-
-pub bounds-first-a : goal.bounds-first-a
-bounds-first-a c = omega arith
-
-pub overflow_add-b : goal.overflow_add-b
-overflow_add-b c = omega arith
-
-pub bounds-second-b : goal.bounds-second-b
-bounds-second-b c = omega arith
+loop-s-init c = λ tabs h p q. looked_none tabs c.args.signals p c.args.j c.args.first.now c.args.a q c.args.k c.args.second.now c.args.b (omega arith) (omega arith)
 
 pub fine-requires : goal.fine-requires
 fine-requires c = (c.requires.0, omega arith, omega arith, omega arith)
 
 pub returns-then-not-fine : goal.returns-then-not-fine
-returns-then-not-fine c = λ tabs h p q. sym (looked_fails (c.loop-s.invariant.1 tabs h p q) (omega arith) (omega arith) (omega arith) (c.fine.ensures tabs h) (ap not c.if-not-fine.true))
-
-pub overflow_add-s : goal.overflow_add-s
-overflow_add-s c = omega arith
-
-pub loop-s-smaller : goal.loop-s-smaller
-loop-s-smaller c = omega arith
+returns-then-not-fine c = λ tabs h p q. sym (looked_fails (c.loop-s.invariant tabs h p q) (omega arith) (omega arith) (omega arith) (c.fine.ensures tabs h) (ap not c.if-not-fine.true))
 
 pub loop-s-preserved : goal.loop-s-preserved
-loop-s-preserved c = (omega arith, λ tabs h p q. looked_next (c.loop-s.invariant.1 tabs h p q) (omega arith) (omega arith) (omega arith) (c.fine.ensures tabs h) (ap not c.if-not-fine.false))
+loop-s-preserved c = λ tabs h p q. looked_next (c.loop-s.invariant tabs h p q) (omega arith) (omega arith) (omega arith) (c.fine.ensures tabs h) (ap not c.if-not-fine.false)
 
 pub returns : goal.returns
-returns c = λ tabs h p q. sym (looked_all (c.loop-s.invariant.1 tabs h p q) (omega arith) (omega arith) (omega arith))
+returns c = λ tabs h p q. sym (looked_all (c.loop-s.invariant tabs h p q) (omega arith) (omega arith) (omega arith))

@@ -1,10 +1,6 @@
-use Prim.Native.Nat.{◌-◌, ◌<◌}
 use Rattle.crossings.specs.Rows.{seen, cycle_in}
 use Rattle.crossings.proofs.Storing.{Noting}
 use Rattle.crossings.proofs.note.Given as goal
 
 abbrev pub invariant-loop-i : goal.invariant-loop-i
-invariant-loop-i l = (0 < l.i) × Noting l.signals l.i (seen l.initial.shown l.initial.marks) (seen l.shown l.marks) (cycle_in l.signals l.place l.table l.values 0)
-
-abbrev pub decreases-loop-i : goal.decreases-loop-i
-decreases-loop-i l = l.rows - l.i
+invariant-loop-i l = Noting l.signals l.i (seen l.initial.shown l.initial.marks) (seen l.shown l.marks) (cycle_in l.signals l.place l.table l.values 0)

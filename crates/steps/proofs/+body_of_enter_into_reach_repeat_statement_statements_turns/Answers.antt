@@ -759,21 +759,16 @@ statements-loop-frame-preserved t c =
           onward_next o (step.steps E o.rest us o.state o.standing o.ready) more);
     }
 
-pub turns-overflow_sub-inner : goal.turns-overflow_sub-inner
-turns-overflow_sub-inner t c =
-    let pre' = c.requires in
-    omega (arith, pre'.1)
-
 pub turns-loop-i-init : goal.turns-loop-i-init
 turns-loop-i-init t c =
     let pre' = c.requires in
-    (omega arith, repeats_begin pre'.2.going)
+    repeats_begin pre'.2.going
 
 pub turns-keep-requires : goal.turns-keep-requires
 turns-keep-requires t c =
     let pre' = c.requires in
     let loop' = c.loop-i in
-    let roomy = (sized_kept pre'.2.sized loop'.invariant.1.kept).roomy in
+    let roomy = (sized_kept pre'.2.sized loop'.invariant.kept).roomy in
     (omega (arith, roomy.few, roomy.values_long), omega (arith, roomy.few))
 
 pub turns-statements-r-requires : goal.turns-statements-r-requires
@@ -781,14 +776,7 @@ turns-statements-r-requires t c =
     let pre' = c.requires in
     let loop' = c.loop-i in
     let loop-test' = c.loop-i-test in
-    (omega (arith, c.decreases, pre'.1), (pre'.0, turn_stood pre'.2 loop'.invariant.1 loop-test'.true))
-
-pub turns-overflow_add-i : goal.turns-overflow_add-i
-turns-overflow_add-i t c =
-    let fits' = c.ranges in
-    let loop-test' = c.loop-i-test in
-    let fits = fits' in
-    omega (arith, loop-test'.true)
+    (omega (arith, c.decreases, pre'.1), (pre'.0, turn_stood pre'.2 loop'.invariant loop-test'.true))
 
 pub turns-same_pins-same-requires : goal.turns-same_pins-same-requires
 turns-same_pins-same-requires t c =
@@ -796,13 +784,8 @@ turns-same_pins-same-requires t c =
     let loop' = c.loop-i in
     let statements' = c.statements-r in
     let keep' = c.keep in
-    let roomy = (sized_kept pre'.2.sized loop'.invariant.1.kept).roomy in
+    let roomy = (sized_kept pre'.2.sized loop'.invariant.kept).roomy in
     (omega (arith, roomy.few, roomy.values_long, statements'.ensures.kept.values_long), omega (arith, roomy.few, keep'.ensures.0))
-
-pub turns-overflow_sub-n : goal.turns-overflow_sub-n
-turns-overflow_sub-n t c =
-    let loop-test' = c.loop-i-test in
-    omega (arith, loop-test'.true)
 
 pub turns-repeated-w-requires : goal.turns-repeated-w-requires
 turns-repeated-w-requires t c =
@@ -814,12 +797,7 @@ turns-repeated-w-requires t c =
     let over' = c.over in
     let if1' = c.if-over in
     let told = all_told loop'.w.pass statements'.result.table loop'.chosen _ if2'.true in
-    (turn_rows pre'.2 loop'.invariant.1 loop-test'.true statements'.ensures, turn_copiable pre'.2 loop'.invariant.1 loop-test'.true statements'.ensures (sym over'.ensures ∙ if1'.false) told.0)
-
-pub turns-loop-i-smaller : goal.turns-loop-i-smaller
-turns-loop-i-smaller t c =
-    let loop-test' = c.loop-i-test in
-    omega (arith, loop-test'.true)
+    (turn_rows pre'.2 loop'.invariant loop-test'.true statements'.ensures, turn_copiable pre'.2 loop'.invariant loop-test'.true statements'.ensures (sym over'.ensures ∙ if1'.false) told.0)
 
 pub turns-loop-i-preserved : goal.turns-loop-i-preserved
 turns-loop-i-preserved t c =
@@ -829,34 +807,14 @@ turns-loop-i-preserved t c =
     let statements' = c.statements-r in
     let over' = c.over in
     let if1' = c.if-over in
-    (omega (arith, loop-test'.true), turned_once pre'.2 loop'.invariant.1 loop-test'.true statements'.ensures (sym over'.ensures ∙ if1'.false))
-
-pub turns-shape_of-values-after-loop-i : goal.turns-shape_of-values-after-loop-i
-turns-shape_of-values-after-loop-i t c =
-    let loop' = c.loop-i in
-    loop'.invariant.1.kept.values_long
-
-pub turns-shape_of-feeds-after-loop-i : goal.turns-shape_of-feeds-after-loop-i
-turns-shape_of-feeds-after-loop-i t c =
-    let loop' = c.loop-i in
-    loop'.invariant.1.kept.feeds_long
-
-pub turns-shape_of-args-after-loop-i : goal.turns-shape_of-args-after-loop-i
-turns-shape_of-args-after-loop-i t c =
-    let loop' = c.loop-i in
-    loop'.invariant.1.kept.args_long
-
-pub turns-shape_of-buffer-after-loop-i : goal.turns-shape_of-buffer-after-loop-i
-turns-shape_of-buffer-after-loop-i t c =
-    let loop' = c.loop-i in
-    loop'.invariant.1.long
+    turned_once pre'.2 loop'.invariant loop-test'.true statements'.ensures (sym over'.ensures ∙ if1'.false)
 
 pub turns-returns-after-loop-i : goal.turns-returns-after-loop-i
 turns-returns-after-loop-i t c =
     let pre' = c.requires in
     let loop' = c.loop-i in
     let loop-test' = c.loop-i-test in
-    turned_all pre'.2 loop'.invariant.1 loop-test'.false loop'.invariant.0
+    turned_all pre'.2 loop'.invariant loop-test'.false (omega arith)
 
 pub turns-shape_of-values-then-over : goal.turns-shape_of-values-then-over
 turns-shape_of-values-then-over t c =
@@ -864,7 +822,7 @@ turns-shape_of-values-then-over t c =
     let loop' = c.loop-i in
     let loop-test' = c.loop-i-test in
     let statements' = c.statements-r in
-    (turn_kept pre'.2 loop'.invariant.1 loop-test'.true statements'.ensures).values_long
+    (turn_kept pre'.2 loop'.invariant loop-test'.true statements'.ensures).values_long
 
 pub turns-shape_of-feeds-then-over : goal.turns-shape_of-feeds-then-over
 turns-shape_of-feeds-then-over t c =
@@ -872,7 +830,7 @@ turns-shape_of-feeds-then-over t c =
     let loop' = c.loop-i in
     let loop-test' = c.loop-i-test in
     let statements' = c.statements-r in
-    (turn_kept pre'.2 loop'.invariant.1 loop-test'.true statements'.ensures).feeds_long
+    (turn_kept pre'.2 loop'.invariant loop-test'.true statements'.ensures).feeds_long
 
 pub turns-shape_of-args-then-over : goal.turns-shape_of-args-then-over
 turns-shape_of-args-then-over t c =
@@ -880,7 +838,7 @@ turns-shape_of-args-then-over t c =
     let loop' = c.loop-i in
     let loop-test' = c.loop-i-test in
     let statements' = c.statements-r in
-    (turn_kept pre'.2 loop'.invariant.1 loop-test'.true statements'.ensures).args_long
+    (turn_kept pre'.2 loop'.invariant loop-test'.true statements'.ensures).args_long
 
 pub turns-shape_of-buffer-then-over : goal.turns-shape_of-buffer-then-over
 turns-shape_of-buffer-then-over t c =
@@ -888,7 +846,7 @@ turns-shape_of-buffer-then-over t c =
     let loop' = c.loop-i in
     let loop-test' = c.loop-i-test in
     let statements' = c.statements-r in
-    turn_long pre'.2 loop'.invariant.1 loop-test'.true statements'.ensures
+    turn_long pre'.2 loop'.invariant loop-test'.true statements'.ensures
 
 pub turns-returns-then-over : goal.turns-returns-then-over
 turns-returns-then-over t c =
@@ -898,7 +856,7 @@ turns-returns-then-over t c =
     let statements' = c.statements-r in
     let over' = c.over in
     let if1' = c.if-over in
-    turned_over pre'.2 loop'.invariant.1 loop-test'.true statements'.ensures (sym over'.ensures ∙ if1'.true)
+    turned_over pre'.2 loop'.invariant loop-test'.true statements'.ensures (sym over'.ensures ∙ if1'.true)
 
 pub turns-shape_of-values-then-start-chosen : goal.turns-shape_of-values-then-start-chosen
 turns-shape_of-values-then-start-chosen t c =
@@ -906,7 +864,7 @@ turns-shape_of-values-then-start-chosen t c =
     let loop' = c.loop-i in
     let loop-test' = c.loop-i-test in
     let statements' = c.statements-r in
-    (turn_kept pre'.2 loop'.invariant.1 loop-test'.true statements'.ensures).values_long
+    (turn_kept pre'.2 loop'.invariant loop-test'.true statements'.ensures).values_long
 
 pub turns-shape_of-feeds-then-start-chosen : goal.turns-shape_of-feeds-then-start-chosen
 turns-shape_of-feeds-then-start-chosen t c =
@@ -914,7 +872,7 @@ turns-shape_of-feeds-then-start-chosen t c =
     let loop' = c.loop-i in
     let loop-test' = c.loop-i-test in
     let statements' = c.statements-r in
-    (turn_kept pre'.2 loop'.invariant.1 loop-test'.true statements'.ensures).feeds_long
+    (turn_kept pre'.2 loop'.invariant loop-test'.true statements'.ensures).feeds_long
 
 pub turns-shape_of-args-then-start-chosen : goal.turns-shape_of-args-then-start-chosen
 turns-shape_of-args-then-start-chosen t c =
@@ -922,7 +880,7 @@ turns-shape_of-args-then-start-chosen t c =
     let loop' = c.loop-i in
     let loop-test' = c.loop-i-test in
     let statements' = c.statements-r in
-    (turn_kept pre'.2 loop'.invariant.1 loop-test'.true statements'.ensures).args_long
+    (turn_kept pre'.2 loop'.invariant loop-test'.true statements'.ensures).args_long
 
 pub turns-shape_of-buffer-then-start-chosen : goal.turns-shape_of-buffer-then-start-chosen
 turns-shape_of-buffer-then-start-chosen t c =
@@ -931,7 +889,7 @@ turns-shape_of-buffer-then-start-chosen t c =
     let loop' = c.loop-i in
     let loop-test' = c.loop-i-test in
     let statements' = c.statements-r in
-    repeated'.ensures.long ∙ turn_long pre'.2 loop'.invariant.1 loop-test'.true statements'.ensures
+    repeated'.ensures.long ∙ turn_long pre'.2 loop'.invariant loop-test'.true statements'.ensures
 
 pub turns-returns-then-start-chosen : goal.turns-returns-then-start-chosen
 turns-returns-then-start-chosen t c =
@@ -945,6 +903,6 @@ turns-returns-then-start-chosen t c =
     let keep' = c.keep in
     let same-pins' = c.same_pins-same in
     let repeated' = c.repeated-w in
-    let roomy = (sized_kept pre'.2.sized loop'.invariant.1.kept).roomy in
+    let roomy = (sized_kept pre'.2.sized loop'.invariant.kept).roomy in
     let told = all_told loop'.w.pass statements'.result.table loop'.chosen _ if2'.true in
-    turned_copied pre'.2 loop'.invariant.1 loop-test'.true statements'.ensures (sym over'.ensures ∙ if1'.false) told.0 (omega (arith, roomy.few, keep'.ensures.0)) (same-pins'.ensures told.2) keep'.ensures.1 told.1 repeated'.ensures
+    turned_copied pre'.2 loop'.invariant loop-test'.true statements'.ensures (sym over'.ensures ∙ if1'.false) told.0 (omega (arith, roomy.few, keep'.ensures.0)) (same-pins'.ensures told.2) keep'.ensures.1 told.1 repeated'.ensures

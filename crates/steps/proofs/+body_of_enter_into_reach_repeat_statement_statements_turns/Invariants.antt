@@ -1,4 +1,4 @@
-use Prim.Native.Nat.{◌+◌, ◌*◌, ◌-◌, ◌≤◌}
+use Prim.Native.Nat.{◌+◌, ◌*◌}
 use Rattle.tokens.specs.Tokens.{left}
 use Rattle.words.specs.Cursor.{stream}
 use Rattle.plays.specs.Plays.{ground_of, arrays}
@@ -42,10 +42,5 @@ decreases-statements-loop-frame l =
 
 abbrev pub invariant-turns-loop-i : goal.invariant-turns-loop-i
 invariant-turns-loop-i l =
-    (l.i ≤ l.n)
-    × Repeats (ground_of l.ground) (stream l.ground.declared.text.now l.c) l.inner.depth l.inner.level l.inner.turns l.n l.initial.chosen (arrays l.initial.values l.initial.feeds l.initial.args) l.initial.w l.initial.buffer
+    Repeats (ground_of l.ground) (stream l.ground.declared.text.now l.c) l.inner.depth l.inner.level l.inner.turns l.n l.initial.chosen (arrays l.initial.values l.initial.feeds l.initial.args) l.initial.w l.initial.buffer
     l.i l.chosen (arrays l.values l.feeds l.args) l.w l.buffer l.cursor
-
-abbrev pub decreases-turns-loop-i : goal.decreases-turns-loop-i
-decreases-turns-loop-i l =
-    l.n - l.i

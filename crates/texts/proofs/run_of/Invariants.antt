@@ -1,4 +1,4 @@
-use Prim.Native.Nat.{◌-◌, ◌*◌}
+use Prim.Native.Nat.{◌*◌}
 use mathlib.Core.Path.{◌≡◌}
 use lib.ListN.{length, drop}
 use Rattle.meaning.specs.Statements.{Decls}
@@ -12,6 +12,3 @@ invariant-loop-k l =
     (l.names ≡ drop (first_pattern * 2) l.book)
     × ((ps : Decls) → Listed (Entry l.text l.book) first_pattern ps → length ps ≡ l.patterns
     → Running ps (listed_in l.text l.list l.listed) (list_from l.text l.list l.listed l.k) l.measure)
-
-abbrev pub decreases-loop-k : goal.decreases-loop-k
-decreases-loop-k l = l.listed - l.k

@@ -10,7 +10,7 @@ use Rattle.plays.proofs.Running.{opening_long}
 use Rattle.rows.specs.Went.{Went}
 use Rattle.windows.specs.Run.{Accepts}
 use Rattle.windows.proofs.Running.{next_ready}
-use Rattle.windows.proofs.Texts.{outset, size_fits, few_listed, run_gone, upcoming, listed_next, run_left, run_over, windows_are, unseen}
+use Rattle.windows.proofs.Texts.{outset, size_fits, run_gone, upcoming, listed_next, run_left, run_over, windows_are, unseen}
 use Rattle.windows.proofs.window.Goals as goal
 use Rattle.windows.proofs.window.Goals.{Left-loop-k, else-loop-k-test, then-loop-k-test+then-over}
 
@@ -37,9 +37,6 @@ pattern-w-requires c =
       sized = inv.arrays_sized;
       going = b.going;
     }
-
-pub overflow_add-k : goal.overflow_add-k
-overflow_add-k c = record { fits = omega (arith, c.loop-k-test.true, few_listed c.requires.accepts) }
 
 pub loop-k-preserved : goal.loop-k-preserved
 loop-k-preserved c =
