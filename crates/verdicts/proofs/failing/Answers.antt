@@ -18,8 +18,8 @@ returns-then-is_quiet c = λ w f. meaning_given f c.in_default.ensures (quiet_cr
 pub crossing-requires : goal.crossing-requires
 crossing-requires c = (_, c.requires.found)
 
-pub returns-in-Some-2 : goal.returns-in-Some-2
-returns-in-Some-2 c = λ w f. meaning_crossing f c.in_default.ensures c.in-Some-2.ensures
+pub returns-in-Some-crossing : goal.returns-in-Some-crossing
+returns-in-Some-crossing c = λ w f. meaning_crossing f c.in_default.ensures c.in-Some-crossing.ensures
 
 pub returns : goal.returns
-returns c = λ w f. meaning_given f c.in_default.ensures c.in_default-2.ensures
+returns c = λ w f. meaning_given f c.in_default.ensures c.in_default-crossing.ensures

@@ -22,8 +22,8 @@ returns-then-is_quiet c =
 pub crossing-requires : goal.crossing-requires
 crossing-requires c = (_, c.requires.0)
 
-pub returns-in-Some-2 : goal.returns-in-Some-2
-returns-in-Some-2 c = meaning_crossing c.requires.0 c.in_default.ensures c.in-Some-2.ensures
+pub returns-in-Some-crossing : goal.returns-in-Some-crossing
+returns-in-Some-crossing c = meaning_crossing c.requires.0 c.in_default.ensures c.in-Some-crossing.ensures
 
 pub told-requires-2 : goal.told-requires-2
 told-requires-2 c =
@@ -33,4 +33,4 @@ told-requires-2 c =
 pub returns : goal.returns
 returns c =
     let found = c.requires.0 in
-    played_judged c.args.wanted found (meaning_given found c.in_default.ensures c.in_default-2.ensures) c.told-2.ensures
+    played_judged c.args.wanted found (meaning_given found c.in_default.ensures c.in_default-crossing.ensures) c.told-2.ensures
