@@ -47,7 +47,7 @@ fn shown<'a>(
             known.tables,
             total.cycles,
         ),
-        Err(refusal) => sections::refused(page, text, refusal.no, refusal.place),
+        Err(failing) => sections::refused(page, text, failing.no, failing.place),
     }
 }
 
