@@ -14,7 +14,8 @@ use Rattle.plays.specs.declared.Played.{Played}
 use Rattle.plays.specs.Plays.{Ground, Arrays, arrays, Sized, Kept, Using}
 use Rattle.plays.proofs.Keeping.{feeding_kept}
 use Rattle.plays.proofs.Entering.{pins_back}
-use Rattle.crossings.specs.Rows.{rows_of, Seen}
+use Rattle.crossings.specs.declared.Seen.{Seen}
+use Rattle.crossings.specs.Rows.{rows_of}
 use Rattle.crossings.specs.Crossings.{Tells, Plays}
 use Rattle.crossings.proofs.Passing.{passed_less}
 

@@ -12,7 +12,8 @@ use Rattle.words.specs.declared.Cursor.{Cursor}
 use Rattle.plays.specs.declared.Played.{Played}
 use Rattle.plays.specs.Plays.{Ground, Arrays, Standing, Kept}
 use Rattle.tokens.proofs.Bools.{neither}
-use Rattle.crossings.specs.Rows.{rows_of, Seen, Long, Passed, Clock, Timed}
+use Rattle.crossings.specs.declared.Seen.{Seen}
+use Rattle.crossings.specs.Rows.{rows_of, Long, Passed, Clock, Timed}
 use Rattle.crossings.specs.Crossings.{Plays, Goes, Steps}
 use Rattle.crossings.proofs.Passing.{passed_both, passed_failing}
 

@@ -22,7 +22,8 @@ use Rattle.plays.specs.declared.Played.{Played}
 use Rattle.plays.specs.Plays.{Ground, Arrays, Showing, Standing}
 use Rattle.tokens.proofs.Bools.{neither}
 use Rattle.plays.proofs.Fitting.{fits_again}
-use Rattle.crossings.specs.Rows.{rows_most, rows_of, Seen, Ample, cycle_in, row_of, row_at, Stored, first_seen, at_most_one, Noted, Passed, Closed}
+use Rattle.crossings.specs.declared.Seen.{Seen}
+use Rattle.crossings.specs.Rows.{rows_most, rows_of, Ample, cycle_in, row_of, row_at, Stored, first_seen, at_most_one, Noted, Passed, Closed}
 use Rattle.crossings.specs.Crossings.{Plays}
 use Rattle.crossings.proofs.Storing.{window}
 use Rattle.crossings.proofs.Stepping.{same_played}

@@ -11,7 +11,8 @@ use Rattle.meaning.specs.Timing.{Tables}
 use Rattle.meaning.specs.Run.{Cycle}
 use Rattle.meaning.specs.Edges.{last_behind, in_order, fine_behind, failing_behind}
 use Rattle.edges.proofs.Behind.{last-++, failing-++}
-use Rattle.crossings.specs.Rows.{rows_most, Seen, seen, Ample, cycle_in, row_at, Stored, first_seen, at_most_one, Noted, Long, Passed, Fine, Closed}
+use Rattle.crossings.specs.declared.Seen.{Seen}
+use Rattle.crossings.specs.Rows.{rows_most, seen, Ample, cycle_in, row_at, Stored, first_seen, at_most_one, Noted, Long, Passed, Fine, Closed}
 use Rattle.crossings.proofs.Storing.{cycle_there, row_seen, row_unseen}
 
 -- ---- a pair

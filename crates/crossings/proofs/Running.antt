@@ -25,7 +25,8 @@ use Rattle.plays.specs.Plays.{Ground, grounded, Arrays, Sized}
 use Rattle.plays.specs.Run.{ListedAt, Runs}
 use Rattle.plays.proofs.Running.{opening_long}
 use Rattle.plays.proofs.Texts.{is_whole, is_listed, listed_at}
-use Rattle.crossings.specs.Rows.{Seen, Ample, Clock, Timed}
+use Rattle.crossings.specs.declared.Seen.{Seen}
+use Rattle.crossings.specs.Rows.{Ample, Clock, Timed}
 use Rattle.crossings.specs.Run.{PlaysListed}
 
 -- ---- one listed pattern

@@ -34,7 +34,8 @@ use Rattle.words.proofs.Flow.{went}
 use Rattle.plays.proofs.Heading.{head_token, vector_place, end_due, fine_head, met_split, met_fine, met_less}
 use Rattle.plays.proofs.Shifting.{token_at_lem, tells_given}
 use Rattle.plays.proofs.Stepping.{vec_playable, set_playable, meets, Inside, Called, one_vector}
-use Rattle.crossings.specs.Rows.{rows_of, Seen, row_at, Clock, Timed}
+use Rattle.crossings.specs.declared.Seen.{Seen}
+use Rattle.crossings.specs.Rows.{rows_of, row_at, Clock, Timed}
 use Rattle.crossings.specs.Crossings.{Told, Tells, Plays, Vectored, Steps}
 use Rattle.crossings.proofs.Passing.{passed_none, passed_as, stays_failing}
 

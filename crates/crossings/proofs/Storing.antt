@@ -14,7 +14,8 @@ use Rattle.meaning.specs.Bounds.{signals_most}
 use Rattle.meaning.specs.Run.{Cycle}
 use Rattle.meaning.specs.Edges.{last_behind}
 use Rattle.pins.specs.Shown.{table_of}
-use Rattle.crossings.specs.Rows.{rows_most, Seen, seen, Ample, cycle_in, row_of, row_at, Copied, Marked, Stored, first_seen, Noted, Long}
+use Rattle.crossings.specs.declared.Seen.{Seen}
+use Rattle.crossings.specs.Rows.{rows_most, seen, Ample, cycle_in, row_of, row_at, Copied, Marked, Stored, first_seen, Noted, Long}
 
 above : (q row : ℕ) → row ≤ q → (q ≡ row → ⊥) → row < q
 above q row h d = omega (arith, h, d)

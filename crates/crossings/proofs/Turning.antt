@@ -10,7 +10,8 @@ use Rattle.meaning.specs.Run.{State, Cycle, Played, puts, cycle_at, follow, agai
 use Rattle.measures.specs.Uses.{Given}
 use Rattle.pins.specs.Shown.{Shows, Playable, Others, vector}
 use Rattle.pins.proofs.Callers.{playable_puts, others_none, others_then}
-use Rattle.crossings.specs.Rows.{Seen, cycle_in, Long, Passed, Clock, Timed}
+use Rattle.crossings.specs.declared.Seen.{Seen}
+use Rattle.crossings.specs.Rows.{cycle_in, Long, Passed, Clock, Timed}
 use Rattle.crossings.specs.Crossings.{Told, Vectored}
 use Rattle.crossings.proofs.Passing.{long_none, long_then, passed_none, passed_both, stays_failing, passed_failing}
 

@@ -14,7 +14,8 @@ use Rattle.heads.specs.Heads.{kind_of}
 use Rattle.pins.specs.Shown.{Shows, Playable, vector}
 use Rattle.plays.specs.declared.Played.{Played}
 use Rattle.plays.specs.Plays.{Ground, Arrays, Sized, Standing, Kept, Using}
-use Rattle.crossings.specs.Rows.{rows_of, Seen, Ample, row_at, Long, Passed, Clock, Timed, Fitted}
+use Rattle.crossings.specs.declared.Seen.{Seen}
+use Rattle.crossings.specs.Rows.{rows_of, Ample, row_at, Long, Passed, Clock, Timed, Fitted}
 
 -- ---- what is played
 

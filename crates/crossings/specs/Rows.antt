@@ -7,6 +7,8 @@ use Rattle.meaning.specs.Run.{Cycle}
 use Rattle.meaning.specs.Edges.{last_behind, fine_behind, failing_behind}
 use Rattle.pins.specs.Shown.{table_of}
 use Rattle.spans.specs.Spans.{Spans, Sized}
+use Rattle.spans.specs.declared.Times.{Times}
+use Rattle.crossings.specs.declared.Seen.{Seen}
 
 -- ---- rows
 
@@ -19,10 +21,6 @@ abbrev pub rows_of : ℕ → ℕ
 rows_of more = (depth_most - more) * 2 + 1
 
 -- the pins of all rows, and three numbers for each: the table, the place of the V, and whether there is a cycle
-pub record Seen : Type 0 where
-  pub pins : List ℕ
-  pub marks : List ℕ
-
 abbrev pub seen : List ℕ → List ℕ → Seen
 seen pins marks = record { pins = pins; marks = marks }
 
@@ -102,6 +100,10 @@ pub record Clock : Type 0 where
 
 abbrev pub clock : List ℕ → List ℕ → List ℕ → Clock
 clock firsts lasts periods = record { firsts = firsts; lasts = lasts; periods = periods }
+
+-- as the code has it
+abbrev pub clock_of : Times → Clock
+clock_of t = clock t.firsts.now t.lasts.now t.periods.now
 
 abbrev pub Timed : Tables → Clock → Type 0
 Timed tabs k = Spans tabs k.firsts k.lasts k.periods

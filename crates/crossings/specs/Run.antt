@@ -10,7 +10,8 @@ use Rattle.words.specs.Values.{value_of}
 use Rattle.plays.specs.declared.Played.{Played}
 use Rattle.plays.specs.Plays.{Ground, Arrays, Sized}
 use Rattle.plays.specs.Run.{ListedAt}
-use Rattle.crossings.specs.Rows.{Seen, Ample, Clock, Timed, Fitted}
+use Rattle.crossings.specs.declared.Seen.{Seen}
+use Rattle.crossings.specs.Rows.{Ample, Clock, Timed, Fitted}
 
 -- ---- one listed pattern
 

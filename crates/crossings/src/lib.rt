@@ -9,19 +9,19 @@ ghost use Rattle.words.specs.Cursor.{alive, stream};
 ghost use Rattle.meaning.specs.Bounds.{signals_most, depth_most};
 ghost use Rattle.meaning.specs.Timing.{Tables};
 ghost use Rattle.meaning.specs.Edges.{in_order};
-ghost use Rattle.spans.specs.Spans.{Spans, Sized};
 ghost use Rattle.pins.specs.Shown.{Roomy, Others};
 ghost use Rattle.plays.specs.Plays.{ground_of, arrays};
 ghost use Rattle.plays.specs.Run.{SomeRunOn, RunsOn};
 ghost use Rattle.meaning.specs.Body.{Body};
 ghost use Rattle.meaning.specs.Document.{Read};
 ghost use Rattle.texts.specs.declared.Parts.{Parts};
-ghost use Rattle.crossings.specs.Rows.{rows_most, seen, Ample, cycle_in, row_at, first_seen, Copied, Marked, Stored, Noted, Long, Passed, clock, Fine, Closed, rows_of};
+ghost use Rattle.crossings.specs.Rows.{rows_most, Ample, cycle_in, row_at, first_seen, Copied, Marked, Stored, Noted, Long, Passed, clock_of, Timed, Fitted, Fine, Closed, rows_of};
 ghost use Rattle.crossings.specs.Crossings.{Stood, Promised, Vectored, Stepped, Shifted, Looped, Used, Entered};
 ghost use Rattle.crossings.specs.Run.{SomeListed, PlaysListed, Decides};
 
 use measures::DEPTH;
 use plays::{Ground, Played};
+use spans::Times;
 use timing::TABLES;
 use words::Cursor;
 
@@ -29,6 +29,13 @@ use words::Cursor;
 const ROWS: usize = DEPTH * 2 + 1;
 // Of each row its table, the place of its V, and whether there is a cycle.
 const NUMBERS: usize = 3;
+
+// The cycles that are needed again, a row for each: its pins, and its numbers.
+#[derive(Drop)]
+struct Seen {
+    pins: [u8; ROWS * sets::MOST],
+    marks: [usize; ROWS * NUMBERS],
+}
 
 // How a body is played: its Shift so often, in so many levels of bodies at most, at a level of its own.
 #[derive(Clone, Copy)]
@@ -84,28 +91,20 @@ fn put_marks(marks: &mut [usize], row: usize, table: usize, place: usize)
 }
 
 // A cycle with these pins, in a row.
-fn store(
-    values: &[u8],
-    signals: usize,
-    table: usize,
-    place: usize,
-    shown: &mut [u8],
-    marks: &mut [usize],
-    row: usize,
-)
-    requires { (signals ≤ signals_most) × (signals_most ≤ length values.now) × Ample (seen shown.old marks.old) × (row < rows_most) }
-    ensures { Stored signals row (some (cycle_in signals place table values.now 0)) (seen shown.old marks.old) (seen shown.new marks.new) }
+fn store(values: &[u8], signals: usize, table: usize, place: usize, seen: &mut Seen, row: usize)
+    requires { (signals ≤ signals_most) × (signals_most ≤ length values.now) × Ample seen.old × (row < rows_most) }
+    ensures { Stored signals row (some (cycle_in signals place table values.now 0)) seen.old seen.new }
 {
-    copy_pins(values, signals, shown, row * sets::MOST);
-    put_marks(marks, row, table, place);
+    copy_pins(values, signals, &mut seen.pins, row * sets::MOST);
+    put_marks(&mut seen.marks, row, table, place);
 }
 
 // No cycle, in a row.
-fn forget(marks: &mut [usize], row: usize)
-    requires { (length marks.old ≡ rows_most * 3) × (row < rows_most) }
-    ensures { (n : ℕ) (shown : List ℕ) → Stored n row none (seen shown marks.old) (seen shown marks.new) }
+fn forget(seen: &mut Seen, row: usize)
+    requires { (length seen.old.marks ≡ rows_most * 3) × (row < rows_most) }
+    ensures { (n : ℕ) → Stored n row none seen.old seen.new }
 {
-    marks[row * NUMBERS + 2] = 0;
+    seen.marks[row * NUMBERS + 2] = 0;
 }
 
 // The cycle is the first one, if none was seen.
@@ -114,45 +113,34 @@ fn note_first(
     signals: usize,
     table: usize,
     place: usize,
-    shown: &mut [u8],
-    marks: &mut [usize],
+    seen: &mut Seen,
     row: usize,
 )
-    requires { (signals ≤ signals_most) × (signals_most ≤ length values.now) × Ample (seen shown.old marks.old) × (row < rows_most) }
-    ensures { Stored signals row (first_seen (row_at signals (seen shown.old marks.old) row) (cycle_in signals place table values.now 0 ∷ [])) (seen shown.old marks.old) (seen shown.new marks.new) }
+    requires { (signals ≤ signals_most) × (signals_most ≤ length values.now) × Ample seen.old × (row < rows_most) }
+    ensures { Stored signals row (first_seen (row_at signals seen.old row) (cycle_in signals place table values.now 0 ∷ [])) seen.old seen.new }
 {
-    if marks[row * NUMBERS + 2] != 0 {
+    if seen.marks[row * NUMBERS + 2] != 0 {
         return;
     }
-    store(values, signals, table, place, shown, marks, row);
+    store(values, signals, table, place, seen, row);
 }
 
 // The cycle becomes the last one, and the first one where none was seen.
-fn note(
-    values: &[u8],
-    signals: usize,
-    table: usize,
-    place: usize,
-    shown: &mut [u8],
-    marks: &mut [usize],
-    rows: usize,
-)
-    requires { (signals ≤ signals_most) × (signals_most ≤ length values.now) × Ample (seen shown.old marks.old) × (rows ≤ rows_most) }
-    ensures { Long (seen shown.old marks.old) (seen shown.new marks.new) × Noted signals rows (seen shown.old marks.old) (seen shown.new marks.new) (cycle_in signals place table values.now 0 ∷ []) }
+fn note(values: &[u8], signals: usize, table: usize, place: usize, seen: &mut Seen, rows: usize)
+    requires { (signals ≤ signals_most) × (signals_most ≤ length values.now) × Ample seen.old × (rows ≤ rows_most) }
+    ensures { Long seen.old seen.new × Noted signals rows seen.old seen.new (cycle_in signals place table values.now 0 ∷ []) }
 {
     for i in 1..rows {
-        note_first(values, signals, table, place, shown, marks, i);
+        note_first(values, signals, table, place, seen, i);
     }
-    store(values, signals, table, place, shown, marks, 0);
+    store(values, signals, table, place, seen, 0);
 }
 
 // ---- a pair
 
 // Is the cycle whose pins stand from b on, under table k, in order behind that from a on, under table j?
 fn in_order<'a>(
-    firsts: &'a [u32],
-    lasts: &'a [u32],
-    periods: &'a [u64],
+    times: &'a Times<'a>,
     first: &[u8],
     a: usize,
     j: usize,
@@ -161,8 +149,8 @@ fn in_order<'a>(
     k: usize,
     signals: usize,
 ) -> bool
-    requires { Sized firsts.now lasts.now periods.now × (signals ≤ signals_most) × (a + signals ≤ length first.now) × (b + signals ≤ length second.now) }
-    ensures { (tabs : Tables) → Spans tabs firsts.now lasts.now periods.now → (p q : ℕ) → result ≡ in_order tabs (cycle_in signals p j first.now a) (cycle_in signals q k second.now b) }
+    requires { Fitted (clock_of times.now) × (signals ≤ signals_most) × (a + signals ≤ length first.now) × (b + signals ≤ length second.now) }
+    ensures { (tabs : Tables) → Timed tabs (clock_of times.now) → (p q : ℕ) → result ≡ in_order tabs (cycle_in signals p j first.now a) (cycle_in signals q k second.now b) }
 {
     if TABLES <= j {
         return true;
@@ -171,7 +159,7 @@ fn in_order<'a>(
         return true;
     }
     for s in 0..signals {
-        if !spans::fine(firsts, lasts, periods, j, k, s, first[a + s], second[b + s]) {
+        if !spans::fine(times, j, k, s, first[a + s], second[b + s]) {
             return false;
         }
     }
@@ -180,121 +168,86 @@ fn in_order<'a>(
 
 // Is it in order behind the last one, if any?
 fn held<'a>(
-    firsts: &'a [u32],
-    lasts: &'a [u32],
-    periods: &'a [u64],
-    shown: &[u8],
-    marks: &[usize],
+    times: &'a Times<'a>,
+    seen: &Seen,
     pins: &[u8],
     at: usize,
     table: usize,
     signals: usize,
 ) -> bool
-    requires { Sized firsts.now lasts.now periods.now × (signals ≤ signals_most) × Ample (seen shown.now marks.now) × (at + signals ≤ length pins.now) }
-    ensures { (tabs : Tables) → Spans tabs firsts.now lasts.now periods.now → (p : ℕ) → Fine tabs signals (seen shown.now marks.now) (cycle_in signals p table pins.now at) result }
+    requires { Fitted (clock_of times.now) × (signals ≤ signals_most) × Ample seen.now × (at + signals ≤ length pins.now) }
+    ensures { (tabs : Tables) → Timed tabs (clock_of times.now) → (p : ℕ) → Fine tabs signals seen.now (cycle_in signals p table pins.now at) result }
 {
-    if marks[2] == 0 {
+    if seen.marks[2] == 0 {
         return true;
     }
     in_order(
-        firsts, lasts, periods, shown, 0, marks[0], pins, at, table, signals,
-    )
-}
-
-// A cycle is played: is it not in order behind the last one? If it is, it is noted.
-fn cycle<'a>(
-    firsts: &'a [u32],
-    lasts: &'a [u32],
-    periods: &'a [u64],
-    values: &[u8],
-    signals: usize,
-    table: usize,
-    place: usize,
-    shown: &mut [u8],
-    marks: &mut [usize],
-    rows: usize,
-) -> bool
-    requires { Sized firsts.now lasts.now periods.now × (signals ≤ signals_most) × (signals_most ≤ length values.now) × Ample (seen shown.old marks.old) × (rows ≤ rows_most) }
-    ensures { Long (seen shown.old marks.old) (seen shown.new marks.new) × ((tabs : Tables) → Spans tabs firsts.now lasts.now periods.now → Passed tabs signals rows (seen shown.old marks.old) (seen shown.new marks.new) result place (cycle_in signals place table values.now 0 ∷ [])) }
-{
-    if !held(
-        firsts, lasts, periods, shown, marks, values, 0, table, signals,
-    ) {
-        return true;
-    }
-    note(values, signals, table, place, shown, marks, rows);
-    false
-}
-
-// The first cycle of a turn once more behind its last, as the next turn begins: is it not in order?
-fn closes<'a>(
-    firsts: &'a [u32],
-    lasts: &'a [u32],
-    periods: &'a [u64],
-    shown: &[u8],
-    marks: &[usize],
-    row: usize,
-    signals: usize,
-) -> bool
-    requires { Sized firsts.now lasts.now periods.now × (signals ≤ signals_most) × Ample (seen shown.now marks.now) × (row < rows_most) }
-    ensures { (tabs : Tables) → Spans tabs firsts.now lasts.now periods.now → Closed tabs signals row (seen shown.now marks.now) result (get_or marks.now (row * 3 + 1) 0) }
-{
-    if marks[row * NUMBERS + 2] == 0 {
-        return false;
-    }
-    let table = marks[row * NUMBERS];
-    !held(
-        firsts,
-        lasts,
-        periods,
-        shown,
-        marks,
-        shown,
-        row * sets::MOST,
+        times,
+        &seen.pins,
+        0,
+        seen.marks[0],
+        pins,
+        at,
         table,
         signals,
     )
 }
 
-// Are the pins and the table those of a row?
-fn same(
+// A cycle is played: is it not in order behind the last one? If it is, it is noted.
+fn cycle<'a>(
+    times: &'a Times<'a>,
     values: &[u8],
-    table: usize,
-    shown: &[u8],
-    marks: &[usize],
-    row: usize,
     signals: usize,
+    table: usize,
+    place: usize,
+    seen: &mut Seen,
+    rows: usize,
 ) -> bool
-    requires { (signals ≤ signals_most) × (signals_most ≤ length values.now) × Ample (seen shown.now marks.now) × (row < rows_most) }
-    ensures { result ≡ true → (get_or marks.now (row * 3) 0 ≡ table) × ((s : ℕ) → s < signals → get_or shown.now (row * signals_most + s) 0 ≡ get_or values.now s 0) }
+    requires { Fitted (clock_of times.now) × (signals ≤ signals_most) × (signals_most ≤ length values.now) × Ample seen.old × (rows ≤ rows_most) }
+    ensures { Long seen.old seen.new × ((tabs : Tables) → Timed tabs (clock_of times.now) → Passed tabs signals rows seen.old seen.new result place (cycle_in signals place table values.now 0 ∷ [])) }
 {
-    if marks[row * NUMBERS] != table {
+    if !held(times, seen, values, 0, table, signals) {
+        return true;
+    }
+    note(values, signals, table, place, seen, rows);
+    false
+}
+
+// The first cycle of a turn once more behind its last, as the next turn begins: is it not in order?
+fn closes<'a>(times: &'a Times<'a>, seen: &Seen, row: usize, signals: usize) -> bool
+    requires { Fitted (clock_of times.now) × (signals ≤ signals_most) × Ample seen.now × (row < rows_most) }
+    ensures { (tabs : Tables) → Timed tabs (clock_of times.now) → Closed tabs signals row seen.now result (get_or seen.now.marks (row * 3 + 1) 0) }
+{
+    if seen.marks[row * NUMBERS + 2] == 0 {
+        return false;
+    }
+    let table = seen.marks[row * NUMBERS];
+    !held(times, seen, &seen.pins, row * sets::MOST, table, signals)
+}
+
+// Are the pins and the table those of a row?
+fn same(values: &[u8], table: usize, seen: &Seen, row: usize, signals: usize) -> bool
+    requires { (signals ≤ signals_most) × (signals_most ≤ length values.now) × Ample seen.now × (row < rows_most) }
+    ensures { result ≡ true → (get_or seen.now.marks (row * 3) 0 ≡ table) × ((s : ℕ) → s < signals → get_or seen.now.pins (row * signals_most + s) 0 ≡ get_or values.now s 0) }
+{
+    if seen.marks[row * NUMBERS] != table {
         return false;
     }
     let at = row * sets::MOST;
-    shown[at..at + signals] == values[..signals]
+    seen.pins[at..at + signals] == values[..signals]
 }
 
 // The turn's first cycle once more behind its last one.
-fn finish<'a>(
-    firsts: &'a [u32],
-    lasts: &'a [u32],
-    periods: &'a [u64],
-    shown: &[u8],
-    marks: &[usize],
-    row: usize,
-    signals: usize,
-    r: Played,
-) -> Played
-    requires { Sized firsts.now lasts.now periods.now × (signals ≤ signals_most) × Ample (seen shown.now marks.now) × (row < rows_most) }
-    ensures { (result.cursor ≡ r.cursor) × (result.table ≡ r.table) × ((tabs : Tables) → Spans tabs firsts.now lasts.now periods.now → Closed tabs signals row (seen shown.now marks.now) result.failed result.place) }
+fn finish<'a>(times: &'a Times<'a>, seen: &Seen, row: usize, signals: usize, r: Played) -> Played
+    requires { Fitted (clock_of times.now) × (signals ≤ signals_most) × Ample seen.now × (row < rows_most) }
+    ensures { (result.cursor ≡ r.cursor) × (result.table ≡ r.table) × ((tabs : Tables) → Timed tabs (clock_of times.now) → Closed tabs signals row seen.now result.failed result.place) }
 {
     let cursor = r.cursor;
-    let failed = closes(firsts, lasts, periods, shown, marks, row, signals);
+    let failed = closes(times, seen, row, signals);
     Played {
         cursor,
         failed,
-        place: marks[row * NUMBERS + 1],
+        place: seen.marks[row * NUMBERS + 1],
         table: r.table,
         ends: false,
     }
@@ -321,21 +274,16 @@ fn vectors<'a>(
     table: usize,
     place: usize,
     t: usize,
-    firsts: &'a [u32],
-    lasts: &'a [u32],
-    periods: &'a [u64],
-    shown: &mut [u8],
-    marks: &mut [usize],
+    times: &'a Times<'a>,
+    seen: &mut Seen,
     used: usize,
 ) -> bool
-    requires { Roomy signals values.old feeds.old level × (length given.now ≡ signals_most) × Sized firsts.now lasts.now periods.now × Ample (seen shown.old marks.old) × (used ≤ rows_most) }
-    ensures { Others level values.old values.new feeds.old feeds.new × Long (seen shown.old marks.old) (seen shown.new marks.new) × Vectored text.now given.now (clock firsts.now lasts.now periods.now) signals level table place t used values.old values.new feeds.old feeds.new (seen shown.old marks.old) (seen shown.new marks.new) result }
+    requires { Roomy signals values.old feeds.old level × (length given.now ≡ signals_most) × Fitted (clock_of times.now) × Ample seen.old × (used ≤ rows_most) }
+    ensures { Others level values.old values.new feeds.old feeds.new × Long seen.old seen.new × Vectored text.now given.now (clock_of times.now) signals level table place t used values.old values.new feeds.old feeds.new seen.old seen.new result }
 {
     for _ in 0..t {
         pins::put(text, given, values, feeds, level, signals);
-        if cycle(
-            firsts, lasts, periods, values, signals, table, place, shown, marks, used,
-        ) {
+        if cycle(times, values, signals, table, place, seen, used) {
             return true;
         }
     }
@@ -346,19 +294,16 @@ fn vectors<'a>(
 fn shift<'a>(
     ground: &'a Ground<'a>,
     c: Cursor,
-    firsts: &'a [u32],
-    lasts: &'a [u32],
-    periods: &'a [u64],
+    times: &'a Times<'a>,
     frame: Frame,
     table: usize,
     values: &mut [u8],
     feeds: &mut [usize],
     args: &mut [usize],
-    shown: &mut [u8],
-    marks: &mut [usize],
+    seen: &mut Seen,
 ) -> Played
-    requires { (alive c ≡ true) × Stood (ground_of ground.now) (clock firsts.now lasts.now periods.now) (stream ground.now.declared.text.now c) frame.depth frame.level table (arrays values.old feeds.old args.old) (seen shown.old marks.old) }
-    ensures { Shifted (ground_of ground.now) (clock firsts.now lasts.now periods.now) (stream ground.now.declared.text.now c) frame.depth frame.level table frame.turns (arrays values.old feeds.old args.old) (arrays values.new feeds.new args.new) (seen shown.old marks.old) (seen shown.new marks.new) result }
+    requires { (alive c ≡ true) × Stood (ground_of ground.now) (clock_of times.now) (stream ground.now.declared.text.now c) frame.depth frame.level table (arrays values.old feeds.old args.old) seen.old }
+    ensures { Shifted (ground_of ground.now) (clock_of times.now) (stream ground.now.declared.text.now c) frame.depth frame.level table frame.turns (arrays values.old feeds.old args.old) (arrays values.new feeds.new args.new) seen.old seen.new result }
 {
     let mut given = [0; sets::MOST];
     let h = heads::head(&ground.declared, c, true, DEPTH, false, &mut given, args);
@@ -372,11 +317,8 @@ fn shift<'a>(
         table,
         c.at,
         frame.turns,
-        firsts,
-        lasts,
-        periods,
-        shown,
-        marks,
+        times,
+        seen,
         rows_of(frame.depth),
     );
     let behind = h.cursor;
@@ -395,20 +337,17 @@ fn shift<'a>(
 fn turns<'a>(
     ground: &'a Ground<'a>,
     c: Cursor,
-    firsts: &'a [u32],
-    lasts: &'a [u32],
-    periods: &'a [u64],
+    times: &'a Times<'a>,
     frame: Frame,
     n: usize,
     table: usize,
     values: &mut [u8],
     feeds: &mut [usize],
     args: &mut [usize],
-    shown: &mut [u8],
-    marks: &mut [usize],
+    seen: &mut Seen,
 ) -> Played
-    requires { (alive c ≡ true) × (0 < n) × (0 < frame.depth) × (frame.depth ≤ depth_most) × Stood (ground_of ground.now) (clock firsts.now lasts.now periods.now) (stream ground.now.declared.text.now c) (frame.depth - 1) frame.level table (arrays values.old feeds.old args.old) (seen shown.old marks.old) }
-    ensures { Looped (ground_of ground.now) (clock firsts.now lasts.now periods.now) (stream ground.now.declared.text.now c) frame.depth frame.level table frame.turns n (arrays values.old feeds.old args.old) (arrays values.new feeds.new args.new) (seen shown.old marks.old) (seen shown.new marks.new) result }
+    requires { (alive c ≡ true) × (0 < n) × (0 < frame.depth) × (frame.depth ≤ depth_most) × Stood (ground_of ground.now) (clock_of times.now) (stream ground.now.declared.text.now c) (frame.depth - 1) frame.level table (arrays values.old feeds.old args.old) seen.old }
+    ensures { Looped (ground_of ground.now) (clock_of times.now) (stream ground.now.declared.text.now c) frame.depth frame.level table frame.turns n (arrays values.old feeds.old args.old) (arrays values.new feeds.new args.new) seen.old seen.new result }
 {
     let inner = Frame {
         turns: frame.turns,
@@ -416,52 +355,28 @@ fn turns<'a>(
         level: frame.level,
     };
     let first = rows_of(frame.depth);
-    forget(marks, first);
-    store(values, ground.signals, table, 0, shown, marks, first + 1);
-    let a = statements(
-        ground, c, firsts, lasts, periods, inner, table, values, feeds, args, shown, marks,
-    );
+    forget(seen, first);
+    store(values, ground.signals, table, 0, seen, first + 1);
+    let a = statements(ground, c, times, inner, table, values, feeds, args, seen);
     if a.failed | (n < 2) {
         return a;
     }
-    if same(values, a.table, shown, marks, first + 1, ground.signals) {
-        return finish(
-            firsts,
-            lasts,
-            periods,
-            shown,
-            marks,
-            first,
-            ground.signals,
-            a,
-        );
+    if same(values, a.table, seen, first + 1, ground.signals) {
+        return finish(times, seen, first, ground.signals, a);
     }
-    forget(marks, first);
-    let b = statements(
-        ground, c, firsts, lasts, periods, inner, a.table, values, feeds, args, shown, marks,
-    );
+    forget(seen, first);
+    let b = statements(ground, c, times, inner, a.table, values, feeds, args, seen);
     if b.failed | (n < 3) {
         return b;
     }
-    finish(
-        firsts,
-        lasts,
-        periods,
-        shown,
-        marks,
-        first,
-        ground.signals,
-        b,
-    )
+    finish(times, seen, first, ground.signals, b)
 }
 
 // Macro or Call: the body of number i, its Shift played t times, from its own first byte. A macro runs in place; from a procedure the caller's pins and table come back.
 #[cycle(enter_statement_statements_turns)]
 fn enter<'a>(
     ground: &'a Ground<'a>,
-    firsts: &'a [u32],
-    lasts: &'a [u32],
-    periods: &'a [u64],
+    times: &'a Times<'a>,
     frame: Frame,
     i: usize,
     t: usize,
@@ -469,11 +384,10 @@ fn enter<'a>(
     values: &mut [u8],
     feeds: &mut [usize],
     args: &mut [usize],
-    shown: &mut [u8],
-    marks: &mut [usize],
+    seen: &mut Seen,
 ) -> Played
-    requires { Used (ground_of ground.now) (clock firsts.now lasts.now periods.now) i frame.depth frame.level table (arrays values.old feeds.old args.old) (seen shown.old marks.old) }
-    ensures { Entered (ground_of ground.now) (clock firsts.now lasts.now periods.now) i frame.depth frame.level table t (arrays values.old feeds.old args.old) (arrays values.new feeds.new args.new) (seen shown.old marks.old) (seen shown.new marks.new) result }
+    requires { Used (ground_of ground.now) (clock_of times.now) i frame.depth frame.level table (arrays values.old feeds.old args.old) seen.old }
+    ensures { Entered (ground_of ground.now) (clock_of times.now) i frame.depth frame.level table t (arrays values.old feeds.old args.old) (arrays values.new feeds.new args.new) seen.old seen.new result }
 {
     let inner = Frame {
         turns: t,
@@ -485,14 +399,10 @@ fn enter<'a>(
         measures::start_at(ground.declared.book, i),
     );
     if i < measures::PROCEDURES {
-        return statements(
-            ground, c, firsts, lasts, periods, inner, table, values, feeds, args, shown, marks,
-        );
+        return statements(ground, c, times, inner, table, values, feeds, args, seen);
     }
     pins::leave(values, inner.level);
-    let r = statements(
-        ground, c, firsts, lasts, periods, inner, table, values, feeds, args, shown, marks,
-    );
+    let r = statements(ground, c, times, inner, table, values, feeds, args, seen);
     pins::come_back(values, inner.level);
     let cursor = r.cursor;
     Played {
@@ -509,19 +419,16 @@ fn enter<'a>(
 fn statement<'a>(
     ground: &'a Ground<'a>,
     c: Cursor,
-    firsts: &'a [u32],
-    lasts: &'a [u32],
-    periods: &'a [u64],
+    times: &'a Times<'a>,
     frame: Frame,
     table: usize,
     values: &mut [u8],
     feeds: &mut [usize],
     args: &mut [usize],
-    shown: &mut [u8],
-    marks: &mut [usize],
+    seen: &mut Seen,
 ) -> Played
-    requires { (alive c ≡ true) × Stood (ground_of ground.now) (clock firsts.now lasts.now periods.now) (stream ground.now.declared.text.now c) frame.depth frame.level table (arrays values.old feeds.old args.old) (seen shown.old marks.old) }
-    ensures { Stepped (ground_of ground.now) (clock firsts.now lasts.now periods.now) (stream ground.now.declared.text.now c) frame.depth frame.level table frame.turns (arrays values.old feeds.old args.old) (arrays values.new feeds.new args.new) (seen shown.old marks.old) (seen shown.new marks.new) result }
+    requires { (alive c ≡ true) × Stood (ground_of ground.now) (clock_of times.now) (stream ground.now.declared.text.now c) frame.depth frame.level table (arrays values.old feeds.old args.old) seen.old }
+    ensures { Stepped (ground_of ground.now) (clock_of times.now) (stream ground.now.declared.text.now c) frame.depth frame.level table frame.turns (arrays values.old feeds.old args.old) (arrays values.new feeds.new args.new) seen.old seen.new result }
 {
     let mut given = [0; sets::MOST];
     let h = heads::head(&ground.declared, c, true, DEPTH, false, &mut given, args);
@@ -546,11 +453,8 @@ fn statement<'a>(
                 table,
                 place,
                 1,
-                firsts,
-                lasts,
-                periods,
-                shown,
-                marks,
+                times,
+                seen,
                 rows_of(frame.depth),
             );
             Played {
@@ -575,21 +479,17 @@ fn statement<'a>(
         heads::What::Chooses(k) => gone(cursor, k),
         heads::What::Loops(n) => {
             let r = turns(
-                ground, cursor, firsts, lasts, periods, frame, n, table, values, feeds, args,
-                shown, marks,
+                ground, cursor, times, frame, n, table, values, feeds, args, seen,
             );
             let behind = r.cursor;
             on_to(behind, r)
         }
         heads::What::Shifts => shift(
-            ground, cursor, firsts, lasts, periods, frame, table, values, feeds, args, shown, marks,
+            ground, cursor, times, frame, table, values, feeds, args, seen,
         ),
         heads::What::Uses(i, t) => {
             pins::supply(&given, args, feeds, frame.level + 1);
-            let r = enter(
-                ground, firsts, lasts, periods, frame, i, t, table, values, feeds, args, shown,
-                marks,
-            );
+            let r = enter(ground, times, frame, i, t, table, values, feeds, args, seen);
             on_to(cursor, r)
         }
     }
@@ -600,26 +500,22 @@ fn statement<'a>(
 fn statements<'a>(
     ground: &'a Ground<'a>,
     c: Cursor,
-    firsts: &'a [u32],
-    lasts: &'a [u32],
-    periods: &'a [u64],
+    times: &'a Times<'a>,
     frame: Frame,
     table: usize,
     values: &mut [u8],
     feeds: &mut [usize],
     args: &mut [usize],
-    shown: &mut [u8],
-    marks: &mut [usize],
+    seen: &mut Seen,
 ) -> Played
-    requires { (alive c ≡ true) × Stood (ground_of ground.now) (clock firsts.now lasts.now periods.now) (stream ground.now.declared.text.now c) frame.depth frame.level table (arrays values.old feeds.old args.old) (seen shown.old marks.old) }
-    ensures { Promised (ground_of ground.now) (clock firsts.now lasts.now periods.now) (stream ground.now.declared.text.now c) frame.depth frame.level table frame.turns (arrays values.old feeds.old args.old) (arrays values.new feeds.new args.new) (seen shown.old marks.old) (seen shown.new marks.new) result }
+    requires { (alive c ≡ true) × Stood (ground_of ground.now) (clock_of times.now) (stream ground.now.declared.text.now c) frame.depth frame.level table (arrays values.old feeds.old args.old) seen.old }
+    ensures { Promised (ground_of ground.now) (clock_of times.now) (stream ground.now.declared.text.now c) frame.depth frame.level table frame.turns (arrays values.old feeds.old args.old) (arrays values.new feeds.new args.new) seen.old seen.new result }
 {
     let mut cursor = c;
     let mut chosen = table;
     loop {
         let r = statement(
-            ground, cursor, firsts, lasts, periods, frame, chosen, values, feeds, args, shown,
-            marks,
+            ground, cursor, times, frame, chosen, values, feeds, args, seen,
         );
         if r.failed | r.ends {
             return r;
@@ -635,19 +531,16 @@ fn statements<'a>(
 fn pattern<'a>(
     ground: &'a Ground<'a>,
     list: &'a [usize],
-    firsts: &'a [u32],
-    lasts: &'a [u32],
-    periods: &'a [u64],
+    times: &'a Times<'a>,
     patterns: usize,
     k: usize,
     values: &mut [u8],
     feeds: &mut [usize],
     args: &mut [usize],
-    shown: &mut [u8],
-    marks: &mut [usize],
+    seen: &mut Seen,
 ) -> Played
-    requires { SomeListed (ground_of ground.now) (clock firsts.now lasts.now periods.now) list.now patterns k (arrays values.old feeds.old args.old) (seen shown.old marks.old) }
-    ensures { PlaysListed (ground_of ground.now) (clock firsts.now lasts.now periods.now) list.now patterns k (arrays values.new feeds.new args.new) (seen shown.new marks.new) result }
+    requires { SomeListed (ground_of ground.now) (clock_of times.now) list.now patterns k (arrays values.old feeds.old args.old) seen.old }
+    ensures { PlaysListed (ground_of ground.now) (clock_of times.now) list.now patterns k (arrays values.new feeds.new args.new) seen.new result }
 {
     let names = &ground.declared.book[measures::PATTERNS * 2..];
     let i = words::find(
@@ -666,20 +559,17 @@ fn pattern<'a>(
         level: 0,
     };
     pins::leave(values, 0);
-    forget(marks, 0);
+    forget(seen, 0);
     statements(
         ground,
         c,
-        firsts,
-        lasts,
-        periods,
+        times,
         frame,
         pins::NONE,
         values,
         feeds,
         args,
-        shown,
-        marks,
+        seen,
     )
 }
 
@@ -689,33 +579,30 @@ pub fn first_failing_pair<'a>(
     list: &'a [usize],
     listed: usize,
     patterns: usize,
-    firsts: &'a [u32],
-    lasts: &'a [u32],
-    periods: &'a [u64],
+    times: &'a Times<'a>,
 ) -> Option<usize>
-    requires sized { Sized firsts.now lasts.now periods.now }
-    requires spans { (h : SomeRunOn (ground_of ground.now) list.now listed patterns) × Spans h.read.tables firsts.now lasts.now periods.now }
-    ensures { (p : Parts) (d : Read) (run : Body) → RunsOn (ground_of ground.now) list.now listed patterns p d run → Spans d.tables firsts.now lasts.now periods.now → Decides d run result }
+    requires sized { Fitted (clock_of times.now) }
+    requires spans { (h : SomeRunOn (ground_of ground.now) list.now listed patterns) × Timed h.read.tables (clock_of times.now) }
+    ensures { (p : Parts) (d : Read) (run : Body) → RunsOn (ground_of ground.now) list.now listed patterns p d run → Timed d.tables (clock_of times.now) → Decides d run result }
 {
     let mut values = [0u8; pins::VALUES];
     let mut feeds = [0usize; pins::FEEDS];
     let mut args = [0usize; measures::ROW];
-    let mut shown = [0u8; ROWS * sets::MOST];
-    let mut marks = [0usize; ROWS * NUMBERS];
+    let mut seen = Seen {
+        pins: [0u8; ROWS * sets::MOST],
+        marks: [0usize; ROWS * NUMBERS],
+    };
     for k in 0..listed {
         let r = pattern(
             ground,
             list,
-            firsts,
-            lasts,
-            periods,
+            times,
             patterns,
             k,
             &mut values,
             &mut feeds,
             &mut args,
-            &mut shown,
-            &mut marks,
+            &mut seen,
         );
         if r.failed {
             return Some(r.place);

@@ -35,6 +35,14 @@ pub const TIMES: usize = timing::TABLES * TABLE * 2;
 
 pub const PERIODS: usize = timing::TABLES;
 
+// The three arrays, filled.
+#[derive(Clone, Copy)]
+pub struct Times<'a> {
+    pub firsts: &'a [u32],
+    pub lasts: &'a [u32],
+    pub periods: &'a [u64],
+}
+
 // ---- looking
 
 fn inside(b: u8) -> bool
@@ -69,22 +77,21 @@ fn time(row: &[u32], j: usize, s: usize, c: u8, side: usize) -> u32
 }
 
 // Does signal s, with c under table j in one cycle and d under table k in the next, have its events in order?
-pub fn fine<'a>(
-    firsts: &'a [u32],
-    lasts: &'a [u32],
-    periods: &'a [u64],
-    j: usize,
-    k: usize,
-    s: usize,
-    c: u8,
-    d: u8,
-) -> bool
-    requires { Sized firsts.now lasts.now periods.now × (s < signals_most) × (j < tables_most) × (k < tables_most) }
-    ensures { (tabs : Tables) → Spans tabs firsts.now lasts.now periods.now → result ≡ follows (period_at tabs j) (events_of s c (table_at tabs j)) (events_of s d (table_at tabs k)) }
+pub fn fine<'a>(times: &'a Times<'a>, j: usize, k: usize, s: usize, c: u8, d: u8) -> bool
+    requires { Sized times.now.firsts.now times.now.lasts.now times.now.periods.now × (s < signals_most) × (j < tables_most) × (k < tables_most) }
+    ensures { (tabs : Tables) → Spans tabs times.now.firsts.now times.now.lasts.now times.now.periods.now → result ≡ follows (period_at tabs j) (events_of s c (table_at tabs j)) (events_of s d (table_at tabs k)) }
 {
-    let period = periods[j];
-    let drives = apart(period, time(lasts, j, s, c, 0), time(firsts, k, s, d, 0));
-    let compares = apart(period, time(lasts, j, s, c, 1), time(firsts, k, s, d, 1));
+    let period = times.periods[j];
+    let drives = apart(
+        period,
+        time(times.lasts, j, s, c, 0),
+        time(times.firsts, k, s, d, 0),
+    );
+    let compares = apart(
+        period,
+        time(times.lasts, j, s, c, 1),
+        time(times.firsts, k, s, d, 1),
+    );
     drives & compares
 }
 

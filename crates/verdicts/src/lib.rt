@@ -14,6 +14,7 @@ ghost use Rattle.verdicts.specs.Found.{no_waveform, SomeFound, Unplayable, Cross
 
 use heads::Declared;
 use plays::Ground;
+use spans::Times;
 use texts::{Counts, Verdict};
 use timing::Watch;
 use tokens::Refusal;
@@ -233,15 +234,12 @@ fn crossing<'a>(
     let mut lasts = [0u32; spans::TIMES];
     let mut periods = [0u64; spans::PERIODS];
     spans::of_text(text, &mut firsts, &mut lasts, &mut periods);
-    crossings::first_failing_pair(
-        &ground,
-        list,
-        parts.listed,
-        parts.patterns,
-        &firsts,
-        &lasts,
-        &periods,
-    )
+    let times = Times {
+        firsts: &firsts,
+        lasts: &lasts,
+        periods: &periods,
+    };
+    crossings::first_failing_pair(&ground, list, parts.listed, parts.patterns, &times)
 }
 
 // What 17 and 25 say of a text's run, where 1 to 16 leave the text. In most texts every event lies within its own cycle, and nothing is played for 25.

@@ -2,7 +2,6 @@
 -- enters one; at each turn of a body's statements fewer tokens are left.
 use native.Mathlib.Omega.{arith}
 use mathlib.Core.Path.{refl, sym, ◌∙◌}
-use mathlib.Core.List.{[]}
 use borrow.Author.Tests.{eq-eqb}
 use Rattle.meaning.specs.Run.{bare, play}
 use Rattle.assigns.proofs.Table.{gave_zeros}
@@ -55,12 +54,6 @@ enter-shape_of-feeds-then-i-lt-PROCEDURES t c = c.statements.ensures.kept.feeds_
 pub enter-shape_of-args-then-i-lt-PROCEDURES : goal.enter-shape_of-args-then-i-lt-PROCEDURES
 enter-shape_of-args-then-i-lt-PROCEDURES t c = c.statements.ensures.kept.args_long
 
-pub enter-shape_of-shown-then-i-lt-PROCEDURES : goal.enter-shape_of-shown-then-i-lt-PROCEDURES
-enter-shape_of-shown-then-i-lt-PROCEDURES t c = c.statements.ensures.long.pins_long
-
-pub enter-shape_of-marks-then-i-lt-PROCEDURES : goal.enter-shape_of-marks-then-i-lt-PROCEDURES
-enter-shape_of-marks-then-i-lt-PROCEDURES t c = c.statements.ensures.long.marks_long
-
 pub enter-returns-then-i-lt-PROCEDURES : goal.enter-returns-then-i-lt-PROCEDURES
 enter-returns-then-i-lt-PROCEDURES t c =
     let u = c.requires.use' in
@@ -108,12 +101,6 @@ enter-shape_of-feeds t c = c.statements-r.ensures.kept.feeds_long
 
 pub enter-shape_of-args : goal.enter-shape_of-args
 enter-shape_of-args t c = c.statements-r.ensures.kept.args_long
-
-pub enter-shape_of-shown : goal.enter-shape_of-shown
-enter-shape_of-shown t c = c.statements-r.ensures.long.pins_long
-
-pub enter-shape_of-marks : goal.enter-shape_of-marks
-enter-shape_of-marks t c = c.statements-r.ensures.long.marks_long
 
 pub enter-returns : goal.enter-returns
 enter-returns t c =
@@ -239,12 +226,6 @@ statement-shape_of-feeds-in-Vector t c = c.vectors-failed.ensures.0.feeds_long
 pub statement-shape_of-args-in-Vector : goal.statement-shape_of-args-in-Vector
 statement-shape_of-args-in-Vector t c = c.head-h.ensures.1 ∙ sym c.requires.1.sized.args_long
 
-pub statement-shape_of-shown-in-Vector : goal.statement-shape_of-shown-in-Vector
-statement-shape_of-shown-in-Vector t c = c.vectors-failed.ensures.1.pins_long
-
-pub statement-shape_of-marks-in-Vector : goal.statement-shape_of-marks-in-Vector
-statement-shape_of-marks-in-Vector t c = c.vectors-failed.ensures.1.marks_long
-
 pub statement-returns-in-Vector : goal.statement-returns-in-Vector
 statement-returns-in-Vector t c =
     let h = c.head-h.ensures in
@@ -295,12 +276,6 @@ statement-shape_of-feeds-in-Loops t c = c.turns-r.ensures.kept.feeds_long
 pub statement-shape_of-args-in-Loops : goal.statement-shape_of-args-in-Loops
 statement-shape_of-args-in-Loops t c = c.turns-r.ensures.kept.args_long ∙ c.head-h.ensures.1 ∙ sym c.requires.1.sized.args_long
 
-pub statement-shape_of-shown-in-Loops : goal.statement-shape_of-shown-in-Loops
-statement-shape_of-shown-in-Loops t c = c.turns-r.ensures.long.pins_long
-
-pub statement-shape_of-marks-in-Loops : goal.statement-shape_of-marks-in-Loops
-statement-shape_of-marks-in-Loops t c = c.turns-r.ensures.long.marks_long
-
 pub statement-returns-in-Loops : goal.statement-returns-in-Loops
 statement-returns-in-Loops t c =
     let h = c.head-h.ensures in
@@ -323,12 +298,6 @@ statement-shape_of-feeds-in-Shifts t c = c.shift.ensures.kept.feeds_long
 pub statement-shape_of-args-in-Shifts : goal.statement-shape_of-args-in-Shifts
 statement-shape_of-args-in-Shifts t c = c.shift.ensures.kept.args_long ∙ c.head-h.ensures.1 ∙ sym c.requires.1.sized.args_long
 
-pub statement-shape_of-shown-in-Shifts : goal.statement-shape_of-shown-in-Shifts
-statement-shape_of-shown-in-Shifts t c = c.shift.ensures.long.pins_long
-
-pub statement-shape_of-marks-in-Shifts : goal.statement-shape_of-marks-in-Shifts
-statement-shape_of-marks-in-Shifts t c = c.shift.ensures.long.marks_long
-
 pub statement-returns-in-Shifts : goal.statement-returns-in-Shifts
 statement-returns-in-Shifts t c =
     let h = c.head-h.ensures in
@@ -349,12 +318,6 @@ statement-shape_of-feeds-in-Uses t c = c.enter-r.ensures.kept.feeds_long ∙ c.s
 
 pub statement-shape_of-args-in-Uses : goal.statement-shape_of-args-in-Uses
 statement-shape_of-args-in-Uses t c = c.enter-r.ensures.kept.args_long ∙ c.head-h.ensures.1 ∙ sym c.requires.1.sized.args_long
-
-pub statement-shape_of-shown-in-Uses : goal.statement-shape_of-shown-in-Uses
-statement-shape_of-shown-in-Uses t c = c.enter-r.ensures.long.pins_long
-
-pub statement-shape_of-marks-in-Uses : goal.statement-shape_of-marks-in-Uses
-statement-shape_of-marks-in-Uses t c = c.enter-r.ensures.long.marks_long
 
 pub statement-returns-in-Uses : goal.statement-returns-in-Uses
 statement-returns-in-Uses t c =
@@ -403,12 +366,6 @@ statements-shape_of-feeds-then-r t c = c.statement-r.ensures.kept.feeds_long ∙
 pub statements-shape_of-args-then-r : goal.statements-shape_of-args-then-r
 statements-shape_of-args-then-r t c = c.statement-r.ensures.kept.args_long ∙ c.loop-frame.invariant.kept.args_long
 
-pub statements-shape_of-shown-then-r : goal.statements-shape_of-shown-then-r
-statements-shape_of-shown-then-r t c = c.statement-r.ensures.long.pins_long ∙ c.loop-frame.invariant.long.pins_long
-
-pub statements-shape_of-marks-then-r : goal.statements-shape_of-marks-then-r
-statements-shape_of-marks-then-r t c = c.statement-r.ensures.long.marks_long ∙ c.loop-frame.invariant.long.marks_long
-
 pub statements-returns-then-r : goal.statements-returns-then-r
 statements-returns-then-r t c =
     let inv = c.loop-frame.invariant in
@@ -450,7 +407,7 @@ turns-overflow_add-first t c = omega (arith, c.rows_of-first.ensures)
 pub turns-store-requires : goal.turns-store-requires
 turns-store-requires t c =
     let stood = c.requires.4 in
-    (stood.sized.roomy.few, omega (arith, stood.sized.roomy.values_long), long_ample (long_stored (c.forget.ensures c.args.ground.now.signals c.args.shown.now)) stood.ample, omega (arith, c.rows_of-first.ensures, c.requires.2))
+    (stood.sized.roomy.few, omega (arith, stood.sized.roomy.values_long), long_ample (long_stored (c.forget.ensures c.args.ground.now.signals)) stood.ample, omega (arith, c.rows_of-first.ensures, c.requires.2))
 
 pub turns-statements-a-requires : goal.turns-statements-a-requires
 turns-statements-a-requires t c =
@@ -467,7 +424,7 @@ turns-statements-a-requires t c =
           timed = stood.timed;
           sized = stood.sized;
           fitted = stood.fitted;
-          ample = long_ample (long_then (long_stored (c.forget.ensures c.args.ground.now.signals c.args.shown.now)) (long_stored c.store.ensures)) c.requires.4.ample;
+          ample = long_ample (long_then (long_stored (c.forget.ensures c.args.ground.now.signals)) (long_stored c.store.ensures)) c.requires.4.ample;
         },
       ),
     )
@@ -481,19 +438,13 @@ turns-shape_of-feeds-then-a-n t c = c.statements-a.ensures.kept.feeds_long
 pub turns-shape_of-args-then-a-n : goal.turns-shape_of-args-then-a-n
 turns-shape_of-args-then-a-n t c = c.statements-a.ensures.kept.args_long
 
-pub turns-shape_of-shown-then-a-n : goal.turns-shape_of-shown-then-a-n
-turns-shape_of-shown-then-a-n t c = c.statements-a.ensures.long.pins_long ∙ c.store.ensures.pins_long
-
-pub turns-shape_of-marks-then-a-n : goal.turns-shape_of-marks-then-a-n
-turns-shape_of-marks-then-a-n t c = c.statements-a.ensures.long.marks_long ∙ c.store.ensures.marks_long ∙ (c.forget.ensures 0 []).marks_long
-
 pub turns-returns-then-a-n : goal.turns-returns-then-a-n
 turns-returns-then-a-n t c =
     let a = c.statements-a.ensures in
     record {
       kept = a.kept;
-      long = long_then (long_stored (c.forget.ensures c.args.ground.now.signals c.args.shown.now)) (long_then (long_stored c.store.ensures) a.long);
-      plays = λ E b us s st plain runs. turned_once c.args.frame.turns c.args.n c.args.frame.depth b s c.requires.2 c.requires.3 (rw c.rows_of-first.ensures at (c.forget.ensures c.args.ground.now.signals c.args.shown.now)) (rw c.rows_of-first.ensures at c.store.ensures) (a.plays E b us s st runs) c.requires.1 c.if-a-n.true;
+      long = long_then (long_stored (c.forget.ensures c.args.ground.now.signals)) (long_then (long_stored c.store.ensures) a.long);
+      plays = λ E b us s st plain runs. turned_once c.args.frame.turns c.args.n c.args.frame.depth b s c.requires.2 c.requires.3 (rw c.rows_of-first.ensures at (c.forget.ensures c.args.ground.now.signals)) (rw c.rows_of-first.ensures at c.store.ensures) (a.plays E b us s st runs) c.requires.1 c.if-a-n.true;
     }
 
 pub turns-overflow_add-first-2 : goal.turns-overflow_add-first-2
@@ -503,12 +454,12 @@ pub turns-same-requires : goal.turns-same-requires
 turns-same-requires t c =
     let stood = c.requires.4 in
     let sized = sized_kept stood.sized c.statements-a.ensures.kept in
-    (sized.roomy.few, omega (arith, sized.roomy.values_long), long_ample c.statements-a.ensures.long (long_ample (long_then (long_stored (c.forget.ensures c.args.ground.now.signals c.args.shown.now)) (long_stored c.store.ensures)) c.requires.4.ample), omega (arith, c.rows_of-first.ensures, c.requires.2))
+    (sized.roomy.few, omega (arith, sized.roomy.values_long), long_ample c.statements-a.ensures.long (long_ample (long_then (long_stored (c.forget.ensures c.args.ground.now.signals)) (long_stored c.store.ensures)) c.requires.4.ample), omega (arith, c.rows_of-first.ensures, c.requires.2))
 
 pub turns-finish-requires : goal.turns-finish-requires
 turns-finish-requires t c =
     let stood = c.requires.4 in
-    (stood.fitted, stood.sized.roomy.few, long_ample c.statements-a.ensures.long (long_ample (long_then (long_stored (c.forget.ensures c.args.ground.now.signals c.args.shown.now)) (long_stored c.store.ensures)) c.requires.4.ample), omega (arith, c.rows_of-first.ensures, c.requires.2))
+    (stood.fitted, stood.sized.roomy.few, long_ample c.statements-a.ensures.long (long_ample (long_then (long_stored (c.forget.ensures c.args.ground.now.signals)) (long_stored c.store.ensures)) c.requires.4.ample), omega (arith, c.rows_of-first.ensures, c.requires.2))
 
 pub turns-shape_of-values-then-same : goal.turns-shape_of-values-then-same
 turns-shape_of-values-then-same t c = c.statements-a.ensures.kept.values_long
@@ -519,30 +470,24 @@ turns-shape_of-feeds-then-same t c = c.statements-a.ensures.kept.feeds_long
 pub turns-shape_of-args-then-same : goal.turns-shape_of-args-then-same
 turns-shape_of-args-then-same t c = c.statements-a.ensures.kept.args_long
 
-pub turns-shape_of-shown-then-same : goal.turns-shape_of-shown-then-same
-turns-shape_of-shown-then-same t c = c.statements-a.ensures.long.pins_long ∙ c.store.ensures.pins_long
-
-pub turns-shape_of-marks-then-same : goal.turns-shape_of-marks-then-same
-turns-shape_of-marks-then-same t c = c.statements-a.ensures.long.marks_long ∙ c.store.ensures.marks_long ∙ (c.forget.ensures 0 []).marks_long
-
 pub turns-returns-then-same : goal.turns-returns-then-same
 turns-returns-then-same t c =
     let a = c.statements-a.ensures in
     let stood = c.requires.4 in
-    let ample = long_ample a.long (long_ample (long_then (long_stored (c.forget.ensures c.args.ground.now.signals c.args.shown.now)) (long_stored c.store.ensures)) c.requires.4.ample) in
+    let ample = long_ample a.long (long_ample (long_then (long_stored (c.forget.ensures c.args.ground.now.signals)) (long_stored c.store.ensures)) c.requires.4.ample) in
     record {
       kept = a.kept;
-      long = long_then (long_stored (c.forget.ensures c.args.ground.now.signals c.args.shown.now)) (long_then (long_stored c.store.ensures) a.long);
+      long = long_then (long_stored (c.forget.ensures c.args.ground.now.signals)) (long_then (long_stored c.store.ensures) a.long);
       plays = λ E b us s st plain runs. (
           let p = a.plays E b us s st runs in
           let sound = (neither _ _ c.if-a-n.false).0 in
-          let row = still_found c.args.frame.turns c.args.n c.args.frame.depth b s c.requires.2 c.requires.3 (rw c.rows_of-first.ensures at (c.forget.ensures c.args.ground.now.signals c.args.shown.now)) (rw c.rows_of-first.ensures at c.store.ensures) p c.if-a-n.false refl in
+          let row = still_found c.args.frame.turns c.args.n c.args.frame.depth b s c.requires.2 c.requires.3 (rw c.rows_of-first.ensures at (c.forget.ensures c.args.ground.now.signals)) (rw c.rows_of-first.ensures at c.store.ensures) p c.if-a-n.false refl in
           let same = turn_same c.args.frame.turns _ b s plain st.shows (p.tells.shows sound) row (sized_kept stood.sized a.kept).roomy ample (omega (arith, c.requires.2)) (rw c.rows_of-first.ensures at (c.same.ensures c.if-same.true)) in
-          turned_steady c.args.frame.turns c.args.n c.args.frame.depth b s c.requires.2 c.requires.3 (rw c.rows_of-first.ensures at (c.forget.ensures c.args.ground.now.signals c.args.shown.now)) (rw c.rows_of-first.ensures at c.store.ensures) p c.if-a-n.false same c.finish.ensures.0 c.finish.ensures.1 (rw c.rows_of-first.ensures at (c.finish.ensures.2 E.tables runs)));
+          turned_steady c.args.frame.turns c.args.n c.args.frame.depth b s c.requires.2 c.requires.3 (rw c.rows_of-first.ensures at (c.forget.ensures c.args.ground.now.signals)) (rw c.rows_of-first.ensures at c.store.ensures) p c.if-a-n.false same c.finish.ensures.0 c.finish.ensures.1 (rw c.rows_of-first.ensures at (c.finish.ensures.2 E.tables runs)));
     }
 
 pub turns-forget-requires-2 : goal.turns-forget-requires-2
-turns-forget-requires-2 t c = ((long_ample c.statements-a.ensures.long (long_ample (long_then (long_stored (c.forget.ensures c.args.ground.now.signals c.args.shown.now)) (long_stored c.store.ensures)) c.requires.4.ample)).marks_long, omega (arith, c.rows_of-first.ensures, c.requires.2))
+turns-forget-requires-2 t c = ((long_ample c.statements-a.ensures.long (long_ample (long_then (long_stored (c.forget.ensures c.args.ground.now.signals)) (long_stored c.store.ensures)) c.requires.4.ample)).marks_long, omega (arith, c.rows_of-first.ensures, c.requires.2))
 
 pub turns-statements-b-requires : goal.turns-statements-b-requires
 turns-statements-b-requires t c =
@@ -561,7 +506,7 @@ turns-statements-b-requires t c =
           timed = stood.timed;
           sized = sized_kept stood.sized a.kept;
           fitted = stood.fitted;
-          ample = long_ample (long_stored (c.forget-2.ensures c.args.ground.now.signals _)) (long_ample a.long (long_ample (long_then (long_stored (c.forget.ensures c.args.ground.now.signals c.args.shown.now)) (long_stored c.store.ensures)) c.requires.4.ample));
+          ample = long_ample (long_stored (c.forget-2.ensures c.args.ground.now.signals)) (long_ample a.long (long_ample (long_then (long_stored (c.forget.ensures c.args.ground.now.signals)) (long_stored c.store.ensures)) c.requires.4.ample));
         },
       ),
     )
@@ -575,29 +520,23 @@ turns-shape_of-feeds-then-b-n t c = c.statements-b.ensures.kept.feeds_long ∙ c
 pub turns-shape_of-args-then-b-n : goal.turns-shape_of-args-then-b-n
 turns-shape_of-args-then-b-n t c = c.statements-b.ensures.kept.args_long ∙ c.statements-a.ensures.kept.args_long
 
-pub turns-shape_of-shown-then-b-n : goal.turns-shape_of-shown-then-b-n
-turns-shape_of-shown-then-b-n t c = c.statements-b.ensures.long.pins_long ∙ c.statements-a.ensures.long.pins_long ∙ c.store.ensures.pins_long
-
-pub turns-shape_of-marks-then-b-n : goal.turns-shape_of-marks-then-b-n
-turns-shape_of-marks-then-b-n t c = c.statements-b.ensures.long.marks_long ∙ (c.forget-2.ensures 0 []).marks_long ∙ c.statements-a.ensures.long.marks_long ∙ c.store.ensures.marks_long ∙ (c.forget.ensures 0 []).marks_long
-
 pub turns-returns-then-b-n : goal.turns-returns-then-b-n
 turns-returns-then-b-n t c =
     let a = c.statements-a.ensures in
     let z = c.statements-b.ensures in
     record {
       kept = kept_then a.kept z.kept;
-      long = long_then (long_then (long_stored (c.forget.ensures c.args.ground.now.signals c.args.shown.now)) (long_then (long_stored c.store.ensures) a.long)) (long_then (long_stored (c.forget-2.ensures c.args.ground.now.signals _)) z.long);
+      long = long_then (long_then (long_stored (c.forget.ensures c.args.ground.now.signals)) (long_then (long_stored c.store.ensures) a.long)) (long_then (long_stored (c.forget-2.ensures c.args.ground.now.signals)) z.long);
       plays = λ E b us s st plain runs. (
           let p = a.plays E b us s st runs in
           let q = z.plays E b us _ (turned_standing _ st p (neither _ _ c.if-a-n.false).0) runs in
-          turned_twice c.args.frame.turns c.args.n c.args.frame.depth b s c.requires.2 c.requires.3 (rw c.rows_of-first.ensures at (c.forget.ensures c.args.ground.now.signals c.args.shown.now)) (rw c.rows_of-first.ensures at c.store.ensures) p c.if-a-n.false (stored_at c.rows_of-first.ensures (c.forget-2.ensures _ _)) q c.if-b-n.true);
+          turned_twice c.args.frame.turns c.args.n c.args.frame.depth b s c.requires.2 c.requires.3 (rw c.rows_of-first.ensures at (c.forget.ensures c.args.ground.now.signals)) (rw c.rows_of-first.ensures at c.store.ensures) p c.if-a-n.false (stored_at c.rows_of-first.ensures (c.forget-2.ensures _)) q c.if-b-n.true);
     }
 
 pub turns-finish-requires-2 : goal.turns-finish-requires-2
 turns-finish-requires-2 t c =
     let stood = c.requires.4 in
-    (stood.fitted, stood.sized.roomy.few, long_ample c.statements-b.ensures.long (long_ample (long_stored (c.forget-2.ensures c.args.ground.now.signals _)) (long_ample c.statements-a.ensures.long (long_ample (long_then (long_stored (c.forget.ensures c.args.ground.now.signals c.args.shown.now)) (long_stored c.store.ensures)) c.requires.4.ample))), omega (arith, c.rows_of-first.ensures, c.requires.2))
+    (stood.fitted, stood.sized.roomy.few, long_ample c.statements-b.ensures.long (long_ample (long_stored (c.forget-2.ensures c.args.ground.now.signals)) (long_ample c.statements-a.ensures.long (long_ample (long_then (long_stored (c.forget.ensures c.args.ground.now.signals)) (long_stored c.store.ensures)) c.requires.4.ample))), omega (arith, c.rows_of-first.ensures, c.requires.2))
 
 pub turns-shape_of-values : goal.turns-shape_of-values
 turns-shape_of-values t c = c.statements-b.ensures.kept.values_long ∙ c.statements-a.ensures.kept.values_long
@@ -608,21 +547,15 @@ turns-shape_of-feeds t c = c.statements-b.ensures.kept.feeds_long ∙ c.statemen
 pub turns-shape_of-args : goal.turns-shape_of-args
 turns-shape_of-args t c = c.statements-b.ensures.kept.args_long ∙ c.statements-a.ensures.kept.args_long
 
-pub turns-shape_of-shown : goal.turns-shape_of-shown
-turns-shape_of-shown t c = c.statements-b.ensures.long.pins_long ∙ c.statements-a.ensures.long.pins_long ∙ c.store.ensures.pins_long
-
-pub turns-shape_of-marks : goal.turns-shape_of-marks
-turns-shape_of-marks t c = c.statements-b.ensures.long.marks_long ∙ (c.forget-2.ensures 0 []).marks_long ∙ c.statements-a.ensures.long.marks_long ∙ c.store.ensures.marks_long ∙ (c.forget.ensures 0 []).marks_long
-
 pub turns-returns : goal.turns-returns
 turns-returns t c =
     let a = c.statements-a.ensures in
     let z = c.statements-b.ensures in
     record {
       kept = kept_then a.kept z.kept;
-      long = long_then (long_then (long_stored (c.forget.ensures c.args.ground.now.signals c.args.shown.now)) (long_then (long_stored c.store.ensures) a.long)) (long_then (long_stored (c.forget-2.ensures c.args.ground.now.signals _)) z.long);
+      long = long_then (long_then (long_stored (c.forget.ensures c.args.ground.now.signals)) (long_then (long_stored c.store.ensures) a.long)) (long_then (long_stored (c.forget-2.ensures c.args.ground.now.signals)) z.long);
       plays = λ E b us s st plain runs. (
           let p = a.plays E b us s st runs in
           let q = z.plays E b us _ (turned_standing _ st p (neither _ _ c.if-a-n.false).0) runs in
-          turned_on c.args.frame.turns c.args.n c.args.frame.depth b s c.requires.2 c.requires.3 (rw c.rows_of-first.ensures at (c.forget.ensures c.args.ground.now.signals c.args.shown.now)) (rw c.rows_of-first.ensures at c.store.ensures) p c.if-a-n.false (stored_at c.rows_of-first.ensures (c.forget-2.ensures _ _)) q c.if-b-n.false plain c.finish-2.ensures.0 c.finish-2.ensures.1 (rw c.rows_of-first.ensures at (c.finish-2.ensures.2 E.tables runs)));
+          turned_on c.args.frame.turns c.args.n c.args.frame.depth b s c.requires.2 c.requires.3 (rw c.rows_of-first.ensures at (c.forget.ensures c.args.ground.now.signals)) (rw c.rows_of-first.ensures at c.store.ensures) p c.if-a-n.false (stored_at c.rows_of-first.ensures (c.forget-2.ensures _)) q c.if-b-n.false plain c.finish-2.ensures.0 c.finish-2.ensures.1 (rw c.rows_of-first.ensures at (c.finish-2.ensures.2 E.tables runs)));
     }

@@ -2,12 +2,12 @@ use Prim.Native.Nat.{◌+◌, ◌*◌}
 use Rattle.tokens.specs.Tokens.{left}
 use Rattle.words.specs.Cursor.{stream}
 use Rattle.plays.specs.Plays.{ground_of, arrays}
-use Rattle.crossings.specs.Rows.{seen, clock}
+use Rattle.crossings.specs.Rows.{clock_of}
 use Rattle.crossings.proofs.Going.{Underway}
 use Rattle.crossings.proofs.+enter_statement_statements_turns.Given as goal
 
 abbrev pub invariant-statements-loop-frame : goal.invariant-statements-loop-frame
-invariant-statements-loop-frame l = Underway (ground_of l.ground) (clock l.firsts l.lasts l.periods) l.frame.depth l.frame.level l.frame.turns l.initial.cursor l.initial.chosen (arrays l.initial.values l.initial.feeds l.initial.args) (seen l.initial.shown l.initial.marks) l.cursor l.chosen (arrays l.values l.feeds l.args) (seen l.shown l.marks)
+invariant-statements-loop-frame l = Underway (ground_of l.ground) (clock_of l.times) l.frame.depth l.frame.level l.frame.turns l.initial.cursor l.initial.chosen (arrays l.initial.values l.initial.feeds l.initial.args) l.initial.seen l.cursor l.chosen (arrays l.values l.feeds l.args) l.seen
 
 abbrev pub decreases-statements-loop-frame : goal.decreases-statements-loop-frame
 decreases-statements-loop-frame l = left (stream l.ground.declared.text.now l.cursor)

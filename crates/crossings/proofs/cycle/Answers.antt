@@ -8,23 +8,11 @@ use Rattle.crossings.proofs.cycle.Goals as goal
 pub held-requires : goal.held-requires
 held-requires c = (c.requires.0, c.requires.1, c.requires.3, omega (arith, c.requires.1, c.requires.2))
 
-pub shape_of-shown-then-not-held : goal.shape_of-shown-then-not-held
-shape_of-shown-then-not-held c = refl
-
-pub shape_of-marks-then-not-held : goal.shape_of-marks-then-not-held
-shape_of-marks-then-not-held c = refl
-
 pub returns-then-not-held : goal.returns-then-not-held
 returns-then-not-held c = (record { pins_long = refl; marks_long = refl }, λ tabs h. cycle_fails (c.held.ensures tabs h _) (ap not c.if-not-held.true))
 
 pub note-requires : goal.note-requires
 note-requires c = (c.requires.1, c.requires.2, c.requires.3, c.requires.4)
-
-pub shape_of-shown : goal.shape_of-shown
-shape_of-shown c = c.note.ensures.0.pins_long
-
-pub shape_of-marks : goal.shape_of-marks
-shape_of-marks c = c.note.ensures.0.marks_long
 
 pub returns : goal.returns
 returns c = (c.note.ensures.0, λ tabs h. cycle_noted (c.held.ensures tabs h c.args.place) (ap not c.if-not-held.false) c.note.ensures.1)

@@ -1,6 +1,5 @@
 -- The run meets refusal 25: in the patterns that were played each pair is in order, and the rest of the list is left.
 use Prim.Native.Nat.{ℕ, ◌*◌}
-use native.Mathlib.Omega.{arith}
 use lib.ListN.{length-replicate}
 use Rattle.meaning.specs.Bounds.{signals_most}
 use Rattle.plays.proofs.Texts.{listed_any, opening_sized}

@@ -41,7 +41,7 @@ statements-requires c =
         timed = c.requires.timed;
         sized = sized_left c.requires.sized c.leave.ensures;
         fitted = c.requires.fitted;
-        ample = long_ample (long_stored (c.forget.ensures c.args.ground.now.signals c.args.shown.now)) c.requires.ample;
+        ample = long_ample (long_stored (c.forget.ensures c.args.ground.now.signals)) c.requires.ample;
       }),
     )
 
@@ -54,22 +54,16 @@ shape_of-feeds c = c.statements.ensures.kept.feeds_long
 pub shape_of-args : goal.shape_of-args
 shape_of-args c = c.statements.ensures.kept.args_long
 
-pub shape_of-shown : goal.shape_of-shown
-shape_of-shown c = c.statements.ensures.long.pins_long
-
-pub shape_of-marks : goal.shape_of-marks
-shape_of-marks c = c.statements.ensures.long.marks_long ∙ (c.forget.ensures 0 []).marks_long
-
 pub returns : goal.returns
 returns c =
     let n = c.requires.listed_at in
     let x = found_at n c.find-i.result (rest c.args.ground.now.declared.book.now (first_pattern * 2)) c.name_bytes.ensures c.find-i.ensures in
     let at = c.start_at.ensures (omega (arith, x.0, n.few)) in
     let p = rw (c.cursor_at-c.ensures.there, at) at c.statements.ensures in
-    let none_yet = (c.forget.ensures c.args.ground.now.signals c.args.shown.now).here in
+    let none_yet = (c.forget.ensures c.args.ground.now.signals).here in
     record {
       sized = sized_kept (sized_left c.requires.sized c.leave.ensures) p.kept;
-      ample = long_ample p.long (long_ample (long_stored (c.forget.ensures c.args.ground.now.signals c.args.shown.now)) c.requires.ample);
+      ample = long_ample p.long (long_ample (long_stored (c.forget.ensures c.args.ground.now.signals)) c.requires.ample);
       fails = λ E ps d m runs s l q. (
           let y = found_at m c.find-i.result (rest c.args.ground.now.declared.book.now (first_pattern * 2)) c.name_bytes.ensures c.find-i.ensures in
           sym (pattern_pair E.tables d.body s none_yet) ∙ (p.plays E d.body m.stands.0 _ (pattern_standing m c.find-i.result y.2 c.requires.sized c.leave.ensures s l) runs).tells.passed.fails q);

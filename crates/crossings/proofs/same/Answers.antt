@@ -6,4 +6,4 @@ use Rattle.crossings.proofs.Storing.{same_taken}
 use Rattle.crossings.proofs.same.Goals as goal
 
 pub returns : goal.returns
-returns c = λ e. (c.if-marks-row.false, same_taken _ _ _ (omega arith) (same_text _ _ (sym e ∙ c.eq.ensures)))
+returns c = λ e. (c.if-seen-row.false, same_taken _ _ _ (omega arith) (same_text _ _ (sym e ∙ c.eq.ensures)))

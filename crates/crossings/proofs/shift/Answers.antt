@@ -29,12 +29,6 @@ shape_of-feeds c = c.vectors-failed.ensures.0.feeds_long
 pub shape_of-args : goal.shape_of-args
 shape_of-args c = c.head-h.ensures.1 ∙ sym c.requires.1.sized.args_long
 
-pub shape_of-shown : goal.shape_of-shown
-shape_of-shown c = c.vectors-failed.ensures.1.pins_long
-
-pub shape_of-marks : goal.shape_of-marks
-shape_of-marks c = c.vectors-failed.ensures.1.marks_long
-
 pub returns : goal.returns
 unfolding bytes
 returns c =

@@ -9,11 +9,5 @@ copy_pins-requires c = (omega arith, omega (arith, c.requires.2.pins_long))
 pub put_marks-requires : goal.put_marks-requires
 put_marks-requires c = omega (arith, c.requires.2.marks_long)
 
-pub shape_of-shown : goal.shape_of-shown
-shape_of-shown c = c.copy_pins.ensures.long
-
-pub shape_of-marks : goal.shape_of-marks
-shape_of-marks c = c.put_marks.ensures.long
-
 pub returns : goal.returns
 returns c = stored c.requires.0 c.requires.1 c.requires.2 c.requires.3 c.copy_pins.ensures c.put_marks.ensures

@@ -23,12 +23,6 @@ shape_of-values-then-cycle c = c.put.ensures.0.values_long ∙ c.loop.invariant.
 pub shape_of-feeds-then-cycle : goal.shape_of-feeds-then-cycle
 shape_of-feeds-then-cycle c = c.put.ensures.0.feeds_long ∙ c.loop.invariant.others.feeds_long
 
-pub shape_of-shown-then-cycle : goal.shape_of-shown-then-cycle
-shape_of-shown-then-cycle c = c.cycle.ensures.0.pins_long ∙ c.loop.invariant.long.pins_long
-
-pub shape_of-marks-then-cycle : goal.shape_of-marks-then-cycle
-shape_of-marks-then-cycle c = c.cycle.ensures.0.marks_long ∙ c.loop.invariant.long.marks_long
-
 pub returns-then-cycle : goal.returns-then-cycle
 returns-then-cycle c = (others_then c.loop.invariant.others c.put.ensures.0, long_then c.loop.invariant.long c.cycle.ensures.0, after_fails c.loop.invariant (omega arith) c.put.ensures.0 c.put.ensures.1 c.cycle.ensures.0 c.cycle.ensures.1 c.if-cycle.true)
 
