@@ -3,13 +3,14 @@ use Prim.Native.Nat.{ℕ, suc, ◌+◌, ◌-◌, ◌≤◌, ◌<◌}
 use native.Mathlib.Omega.{arith}
 use mathlib.Core.Path.{◌≡◌, refl, sym, ap, ◌∙◌, subst}
 use mathlib.Core.Bool.{Bool, true, false, not, ◌&&◌, ◌||◌}
-use Rattle.std.specs.Prelude.{Option as Maybe, Some, None}
+use Rattle.std.specs.Prelude.{Option as Maybe, Some, None, IfSome}
+use Rattle.std.specs.Option.{is_some, unwrap_or}
 use Rattle.words.specs.Values.{value_of}
 use mathlib.Core.Option.{Option, none, some}
 use mathlib.Core.List.{List, [], ◌∷◌, ◌++◌, append_assoc, append-nil}
 use lib.Dec.{leb, ltb, eqb}
 use lib.ListN.{length, length-append}
-use borrow.Author.Tests.{lt-leb, leb-false, ltb-true, ltb-false, eqb-true, eqb-false, not-false}
+use borrow.Author.Tests.{lt-leb, ltb-true, ltb-false, eqb-true, eqb-false}
 use Rattle.tokens.specs.Written.{bytes}
 use Rattle.tokens.specs.Tokens.{Toks}
 use Rattle.tokens.proofs.Bools.{neither, never}
@@ -23,8 +24,6 @@ use Rattle.words.specs.Values.{told}
 use Rattle.words.specs.declared.Cursor.{Cursor}
 use Rattle.words.proofs.Flow.{from_on, from_stop, given as gives, then}
 use Rattle.words.proofs.Loops.{Leads, turned}
-use Rattle.references.specs.Filled.{past_of}
-use Rattle.references.specs.declared.Before.{Before}
 use Rattle.reports.specs.Report.{Signals, Offset, Record, Fail, not_in_pattern, head, one_more, one_record, offsets_of, answered_of, answered_all}
 use Rattle.reports.specs.Read.{earlier, first_outside, Places}
 use Rattle.reports.specs.declared.Placed.{Placed}
@@ -38,10 +37,6 @@ use Rattle.fails.specs.declared.Room.{Room}
 -- the word that a reference is looked up by
 pub at_word : {o : Option ℕ} {v w : List ℕ} (past : List ℕ → Option ℕ) → o ≡ past v → v ≡ w → o ≡ past w
 at_word past e q = e ∙ ap past q
-
--- no cycle is left behind a known reference, where as many come before it
-pub none_left : (x : Bool) (n m : ℕ) → (x && leb n m) ≡ false → x ≡ true → 0 ≡ m - n
-none_left x n m e q = omega (arith, leb-false n m (sym (ap (λ (y : Bool). y && leb n m) q) ∙ e))
 
 -- ---- room
 
@@ -87,21 +82,40 @@ pub record_goes : {report : List ℕ} {c d r : Cursor} {s : ℕ} {os : List Offs
 unfolding one_record
 record_goes ss g p l = then _ g (then _ p gives)
 
-module _ {report : List ℕ} {c a : Cursor} (ss : Signals) (cycles : ℕ) (past : List ℕ → Option ℕ) {s left : ℕ} {p : Placed} (b : Before)
-    (g : Goes report c (head ss) a (ahead report c, s)) (os : Places report a left p) (k : past_of b ≡ past (span report c.at c.end))
-    (l : b.known ≡ true → left ≡ cycles - b.cycles) where
+-- how many cycles come before a reference that is known, and before one that isn't
+none_there : (r : Maybe ℕ) → is_some r ≡ false → value_of r ≡ none
+none_there None e = refl
+none_there (Some n) e = never (sym e)
+
+value_there : (r : Maybe ℕ) → is_some r ≡ true → value_of r ≡ some (unwrap_or r 0)
+value_there None e = never e
+value_there (Some n) e = refl
+
+left_there : (r : Maybe ℕ) (cycles : ℕ) {left : ℕ} → is_some r ≡ true → IfSome r (λ n. left ≡ cycles - n) → left ≡ cycles - unwrap_or r 0
+left_there None cycles e h = never e
+left_there (Some n) cycles e h = h
+
+module _ {report : List ℕ} {c a : Cursor} (ss : Signals) (cycles : ℕ) (past : List ℕ → Option ℕ) {s left : ℕ} {p : Placed} (r : Maybe ℕ) (missing : Bool) (m : is_some r ≡ not missing)
+    (g : Goes report c (head ss) a (ahead report c, s)) (os : Places report a left p) (k : value_of r ≡ past (span report c.at c.end))
+    (l : IfSome r (λ n. left ≡ cycles - n)) where
   abbrev it : Record
   it = record { reference = ahead report c; signal = s; offsets = os.list }
 
-  known : {x : Bool} → b.known ≡ x → past (span report c.at c.end) ≡ told x b.cycles
-  known e = sym k ∙ ap (λ (x : Bool). told x b.cycles) e
+  abbrev before : ℕ
+  before = unwrap_or r 0
+
+  unknown : missing ≡ true → past (span report c.at c.end) ≡ none
+  unknown e = sym k ∙ none_there r (m ∙ ap not e)
+
+  known : missing ≡ false → past (span report c.at c.end) ≡ some before
+  known e = sym k ∙ value_there r (m ∙ ap not e)
 
   -- its answers, by the first offset that falls outside
-  by_offsets : b.known ≡ true → (first : ℕ)
-      → answered_of first cycles past it ≡ answered_by (first_outside left (offsets_of (ahead report c) os.list)) (fails_from (first + b.cycles) s (offsets_of (ahead report c) os.list))
+  by_offsets : missing ≡ false → (first : ℕ)
+      → answered_of first cycles past it ≡ answered_by (first_outside left (offsets_of (ahead report c) os.list)) (fails_from (first + before) s (offsets_of (ahead report c) os.list))
   by_offsets e first =
       answered_known first cycles past it (known e)
-      ∙ ap (λ (n : ℕ). answered_by (first_outside n (offsets_of (ahead report c) os.list)) (fails_from (first + b.cycles) s (offsets_of (ahead report c) os.list))) (sym (l e))
+      ∙ ap (λ (n : ℕ). answered_by (first_outside n (offsets_of (ahead report c) os.list)) (fails_from (first + before) s (offsets_of (ahead report c) os.list))) (sym (left_there r cycles (m ∙ ap not e) l))
 
   none_listed : p.count ≡ 0 → os.list ≡ []
   none_listed e = by os.list (sym os.many ∙ e)
@@ -119,42 +133,42 @@ module _ {report : List ℕ} {c a : Cursor} (ss : Signals) (cycles : ℕ) (past 
       by (x ∷ xs) q = refl
 
   -- without offsets: by the cycles that are left
-  alone_by : b.known ≡ true → p.count ≡ 0 → {x : Bool} → leb left 0 ≡ x → (first : ℕ)
-      → answered_of first cycles past it ≡ answered_by (told x c.at) (record { cycle = first + b.cycles + 0; signal = s; letter = 0 } ∷ [])
+  alone_by : missing ≡ false → p.count ≡ 0 → {x : Bool} → leb left 0 ≡ x → (first : ℕ)
+      → answered_of first cycles past it ≡ answered_by (told x c.at) (record { cycle = first + before + 0; signal = s; letter = 0 } ∷ [])
   unfolding offsets_of first_outside earlier fails_from
   alone_by e z {x} q first =
       by_offsets e first
-      ∙ ap (λ (xs : List Offset). answered_by (first_outside left (offsets_of (ahead report c) xs)) (fails_from (first + b.cycles) s (offsets_of (ahead report c) xs))) (none_listed z)
-      ∙ ap (λ (y : Bool). answered_by (earlier (told y c.at) none) (record { cycle = first + b.cycles + 0; signal = s; letter = 0 } ∷ [])) q ∙ by x
+      ∙ ap (λ (xs : List Offset). answered_by (first_outside left (offsets_of (ahead report c) xs)) (fails_from (first + before) s (offsets_of (ahead report c) xs))) (none_listed z)
+      ∙ ap (λ (y : Bool). answered_by (earlier (told y c.at) none) (record { cycle = first + before + 0; signal = s; letter = 0 } ∷ [])) q ∙ by x
     where
-      by : (y : Bool) → answered_by (earlier (told y c.at) none) (record { cycle = first + b.cycles + 0; signal = s; letter = 0 } ∷ [])
-          ≡ answered_by (told y c.at) (record { cycle = first + b.cycles + 0; signal = s; letter = 0 } ∷ [])
+      by : (y : Bool) → answered_by (earlier (told y c.at) none) (record { cycle = first + before + 0; signal = s; letter = 0 } ∷ [])
+          ≡ answered_by (told y c.at) (record { cycle = first + before + 0; signal = s; letter = 0 } ∷ [])
       by true = refl
       by false = refl
 
-  pub judges_out : (not b.known || (eqb p.count 0 && eqb left 0)) ≡ true
+  pub judges_out : (missing || (eqb p.count 0 && eqb left 0)) ≡ true
       → JudgesRecord report c ss cycles past (record { cursor = p.cursor; outside = Some c.at; count = 0 })
   judges_out e = record {
     it = it;
     goes = record_goes ss g os.goes;
-    refuses = λ place z first. (let q : c.at ≡ place = cc in by first b.known refl (eqb p.count 0) refl (eqb left 0) refl e ∙ ap (refused not_in_pattern) q);
+    refuses = λ place z first. (let q : c.at ≡ place = cc in by first missing refl (eqb p.count 0) refl (eqb left 0) refl e ∙ ap (refused not_in_pattern) q);
     answers = λ z. (let y : ◌≡◌ {A = ℕ} 0 1 = cc in absurd (omega arith));
   }
     where
-      by : (first : ℕ) (x : Bool) → b.known ≡ x → (y : Bool) → eqb p.count 0 ≡ y → (z : Bool) → eqb left 0 ≡ z → (not x || (y && z)) ≡ true
+      by : (first : ℕ) (x : Bool) → missing ≡ x → (y : Bool) → eqb p.count 0 ≡ y → (z : Bool) → eqb left 0 ≡ z → (x || (y && z)) ≡ true
           → answered_of first cycles past it ≡ refused not_in_pattern c.at
-      by first false q y r z t e = answered_unknown first cycles past it (known q)
-      by first true q true r true t e = alone_by q (eqb-true p.count 0 r) (ap (λ (n : ℕ). leb n 0) (eqb-true left 0 t)) first
-      by first true q true r false t e = never e
-      by first true q false r z t e = never e
+      by first true q y o z t e = answered_unknown first cycles past it (unknown q)
+      by first false q true o true t e = alone_by q (eqb-true p.count 0 o) (ap (λ (n : ℕ). leb n 0) (eqb-true left 0 t)) first
+      by first false q true o false t e = never e
+      by first false q false o z t e = never e
 
-  pub judges_in : (not b.known || (eqb p.count 0 && eqb left 0)) ≡ false → {n : ℕ} → (p.count ≡ 0 → n ≡ 1) × ((p.count ≡ 0 → ⊥) → n ≡ p.count)
+  pub judges_in : (missing || (eqb p.count 0 && eqb left 0)) ≡ false → {n : ℕ} → (p.count ≡ 0 → n ≡ 1) × ((p.count ≡ 0 → ⊥) → n ≡ p.count)
       → JudgesRecord report c ss cycles past (record { cursor = p.cursor; outside = p.outside; count = n })
   unfolding first_outside
-  judges_in e {n} m = by (eqb p.count 0) refl (eqb left 0) refl (neither (not b.known) (eqb p.count 0 && eqb left 0) e).1
+  judges_in e {n} many = by (eqb p.count 0) refl (eqb left 0) refl (neither missing (eqb p.count 0 && eqb left 0) e).1
     where
-      on : b.known ≡ true
-      on = not-false b.known (neither (not b.known) (eqb p.count 0 && eqb left 0) e).0
+      on : missing ≡ false
+      on = (neither missing (eqb p.count 0 && eqb left 0) e).0
 
       by : (y : Bool) → eqb p.count 0 ≡ y → (z : Bool) → eqb left 0 ≡ z → (y && z) ≡ false
           → JudgesRecord report c ss cycles past (record { cursor = p.cursor; outside = p.outside; count = n })
@@ -167,22 +181,22 @@ module _ {report : List ℕ} {c a : Cursor} (ss : Signals) (cycles : ℕ) (past 
             it = it;
             goes = record_goes ss g os.goes;
             refuses = λ place w. (let no : some place ≡ none = ap value_of (sym w) ∙ none_out in let y : ◌≡◌ {A = ℕ} 0 1 = cc in absurd (omega arith));
-            answers = λ w first. (_, alone_by on z more first, sym (m.0 z));
+            answers = λ w first. (_, alone_by on z more first, sym (many.0 z));
           }
       by false q z t f =
           let some_there : p.count ≡ 0 → ⊥ = eqb-false p.count 0 q in
-          let are : (first : ℕ) → answered_of first cycles past it ≡ answered_by (value_of p.outside) (fails_from (first + b.cycles) s os.list) =
+          let are : (first : ℕ) → answered_of first cycles past it ≡ answered_by (value_of p.outside) (fails_from (first + before) s os.list) =
           λ first. by_offsets on first
-          ∙ ap (λ (xs : List Offset). answered_by (first_outside left xs) (fails_from (first + b.cycles) s xs)) (some_listed some_there)
-          ∙ ap (λ (o : Option ℕ). answered_by o (fails_from (first + b.cycles) s os.list)) (sym os.first) in
+          ∙ ap (λ (xs : List Offset). answered_by (first_outside left xs) (fails_from (first + before) s xs)) (some_listed some_there)
+          ∙ ap (λ (o : Option ℕ). answered_by o (fails_from (first + before) s os.list)) (sym os.first) in
           record {
             it = it;
             goes = record_goes ss g os.goes;
-            refuses = λ place w first. are first ∙ ap (λ (o : Maybe ℕ). answered_by (value_of o) (fails_from (first + b.cycles) s os.list)) w;
+            refuses = λ place w first. are first ∙ ap (λ (o : Maybe ℕ). answered_by (value_of o) (fails_from (first + before) s os.list)) w;
             answers = λ w first. (
               _,
-              are first ∙ ap (λ (o : Maybe ℕ). answered_by (value_of o) (fails_from (first + b.cycles) s os.list)) w,
-              fails_long (first + b.cycles) s os.list ∙ sym os.many ∙ sym (m.1 some_there),
+              are first ∙ ap (λ (o : Maybe ℕ). answered_by (value_of o) (fails_from (first + before) s os.list)) w,
+              fails_long (first + before) s os.list ∙ sym os.many ∙ sym (many.1 some_there),
             );
           }
 

@@ -4,6 +4,8 @@ use native.Mathlib.Omega.{arith}
 use mathlib.Core.Path.{◌≡◌, refl, sym, ap, ◌∙◌, subst}
 use mathlib.Core.Bool.{Bool, true, false, not, ◌&&◌, ◌||◌}
 use mathlib.Core.Option.{Option, none, some}
+use Rattle.std.specs.Prelude.{Option as Maybe, Some, None}
+use Rattle.std.specs.Option.{unwrap_or}
 use mathlib.Core.List.{List, [], ◌∷◌, ◌++◌, append_assoc, append-nil}
 use lib.Dec.{leb, ltb}
 use lib.ListN.{length, set, length-append}
@@ -15,11 +17,9 @@ use Rattle.meaning.specs.Bounds.{cycles_most}
 use Rattle.meaning.specs.Reader.{due, ahead_of, while}
 use Rattle.meaning.specs.Meaning.{given}
 use Rattle.words.specs.Cursor.{span, ahead, stream, Stands, alive, Goes}
-use Rattle.words.specs.Values.{told}
+use Rattle.words.specs.Values.{told, value_of}
 use Rattle.words.specs.declared.Cursor.{Cursor}
 use Rattle.words.proofs.Loops.{Leads, turned, over, ends}
-use Rattle.references.specs.Filled.{past_of}
-use Rattle.references.specs.declared.Before.{Before}
 use Rattle.reports.specs.Report.{Signals, Offset, offset, one_more, head, Record, one_record, Fail, offsets_of, answered_of, answered_all}
 use Rattle.reports.specs.Read.{earlier, first_outside}
 use Rattle.reports.proofs.Answers.{both}
@@ -189,8 +189,8 @@ module _ (start signal : ℕ) (t : Tok) {at m : ℕ} {c₁ s₁ l₁ c₂ s₂ l
       adds_same (ap (λ (k : ℕ). record { cycle = k; signal = signal; letter = 0 } ∷ []) z ∙ e) (adds_both (f tt) (subst (λ (k : ℕ). PutsOne k (record { cycle = start; signal = signal; letter = 0 }) c₂ s₂ l₂ c₃ s₃ l₃ n) (sym h) p))
   one_by (o ∷ os) f h p w e = record { all = λ b gs n s r. absurd (omega (arith, h, ((f w).all b gs n s (roomy_less r (omega (arith, ap length e)))).0)) }
 
-module _ {report : List ℕ} {c a : Cursor} (ss : Signals) (first : ℕ) (past : List ℕ → Option ℕ) {signal start at : ℕ} (b : Before)
-    (g : Goes report c (head ss) a (ahead report c, signal)) (k : past_of b ≡ past (span report c.at c.end)) (from_is : first + b.cycles ≤ cycles_most → start ≡ first + b.cycles)
+module _ {report : List ℕ} {c a : Cursor} (ss : Signals) (first : ℕ) (past : List ℕ → Option ℕ) {signal start at : ℕ} (r : Maybe ℕ)
+    (g : Goes report c (head ss) a (ahead report c, signal)) (k : value_of r ≡ past (span report c.at c.end)) (from_is : first + unwrap_or r 0 ≤ cycles_most → start ≡ first + unwrap_or r 0)
     {c₁ s₁ l₁ c₂ s₂ l₂ : List ℕ} {w : Wrote} (os : WritesOffsets report a start signal at c₁ s₁ l₁ c₂ s₂ l₂ w) where
   abbrev it : Record
   it = record { reference = ahead report c; signal = signal; offsets = os.list }
@@ -202,9 +202,9 @@ module _ {report : List ℕ} {c a : Cursor} (ss : Signals) (first : ℕ) (past :
 
   means : (count : ℕ) (fs : List Fail) → first + count ≤ cycles_most → answered_of first count past it ≡ given fs → Means count fs
   unfolding offsets_of
-  means count fs fits e = by b.known refl
+  means count fs fits e = by r refl
     where
-      on : {n : ℕ} → past (span report c.at c.end) ≡ some n → n ≡ b.cycles → Means count fs
+      on : {n : ℕ} → past (span report c.at c.end) ≡ some n → n ≡ unwrap_or r 0 → Means count fs
       on {n} q i =
           let x = answered_none (first_outside (count - n) (offsets_of (ahead report c) os.list)) (sym (answered_known first count past it q) ∙ e) in
           let few : n < count = rest os.list x.0 in
@@ -221,10 +221,10 @@ module _ {report : List ℕ} {c a : Cursor} (ss : Signals) (first : ℕ) (past :
               go [] f = some_left (count - n) _ [] f
               go (o ∷ ys) f = some_left (count - n) o ys f
 
-      by : (x : Bool) → b.known ≡ x → Means count fs
-      by true q = on (sym k ∙ ap (λ (x : Bool). told x b.cycles) q) refl
-      by false q =
-          let z = sym (answered_unknown first count past it (sym k ∙ ap (λ (x : Bool). told x b.cycles) q)) ∙ e in
+      by : (o : Maybe ℕ) → r ≡ o → Means count fs
+      by (Some n) q = on (sym k ∙ ap value_of q) (ap (λ (o : Maybe ℕ). unwrap_or o 0) (sym q))
+      by None q =
+          let z = sym (answered_unknown first count past it (sym k ∙ ap value_of q)) ∙ e in
           let y : ◌≡◌ {A = ℕ} 0 1 = cc in
           absurd (omega arith)
 

@@ -1,7 +1,7 @@
 // The service for fail reports: a text and a report to the run's cycle, the signal's number and the letter of each offset.
 #![tactic(auto)]
 
-ghost use Rattle.std.specs.Prelude.{◌≡◌, true, false, List, ◌∷◌, [], ℕ, ◌+◌, ◌-◌, ◌≤◌, length};
+ghost use Rattle.std.specs.Prelude.{◌≡◌, true, false, List, ◌∷◌, [], ℕ, ◌+◌, ◌-◌, ◌≤◌, length, IfSome};
 ghost use Rattle.meaning.specs.Bounds.{cycles_most};
 ghost use Rattle.meaning.specs.Body.{Body};
 ghost use Rattle.meaning.specs.Statements.{Decls};
@@ -25,7 +25,6 @@ ghost use Rattle.fails.specs.Service.{rows_of, spared_told, Reports, Answering};
 
 use heads::{Declared, Known};
 use measures::DEPTH;
-use references::Before;
 use tokens::Refusal;
 use words::{Cursor, NO_ROOM};
 
@@ -140,13 +139,13 @@ fn times_listed<'a>(
 // ---- 24
 
 // The cycles that are left behind a reference; none behind an unknown one.
-fn left_behind(cycles: usize, b: Before) -> u64
-    ensures { b.known ≡ true → result ≡ cycles - b.cycles }
+fn left_behind(cycles: usize, before: Option<usize>) -> u64
+    ensures { IfSome before (λ n. result ≡ cycles - n) }
 {
-    if b.known & (b.cycles <= cycles) {
-        return (cycles - b.cycles) as u64;
+    match before {
+        Some(n) => cycles.saturating_sub(n) as u64,
+        None => 0,
     }
-    0
 }
 
 // A record without an offset is one answer.
@@ -176,7 +175,7 @@ fn judge_record<'a>(
 {
     let at = c.at;
     let h = reports::head(report, c, text, places, signals);
-    let b = references::past(
+    let before = references::past(
         text,
         name,
         words::bytes_of(report, at, c.end),
@@ -186,11 +185,11 @@ fn judge_record<'a>(
         count,
         table,
     );
-    let left = left_behind(cycles, b);
+    let left = left_behind(cycles, before);
     let a = h.cursor;
     let p = reports::count_offsets(report, a, left);
     let cursor = p.cursor;
-    if !b.known | ((p.count == 0) & (left == 0)) {
+    if before.is_none() | ((p.count == 0) & (left == 0)) {
         return Judged {
             cursor,
             outside: Some(at),
@@ -345,7 +344,7 @@ fn write_record<'a>(
     ensures { WritesRecord report.now c (names text.now places.now known) first (past_by name.now (noted text.now labels.now count table.now)) at cycles.old signals.old letters.old cycles.new signals.new letters.new result }
 {
     let h = reports::head(report, c, text, places, known);
-    let b = references::past(
+    let before = references::past(
         text,
         name,
         words::bytes_of(report, c.at, c.end),
@@ -355,7 +354,7 @@ fn write_record<'a>(
         count,
         table,
     );
-    let start = cycle_at(first as u64, b.cycles as u64);
+    let start = cycle_at(first as u64, before.unwrap_or(0) as u64);
     let a = h.cursor;
     let signal = h.signal;
     let w = write_offsets(report, a, start, signal, at, cycles, signals, letters);

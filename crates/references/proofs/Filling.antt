@@ -5,6 +5,7 @@ use native.Mathlib.Numerals.{add-one}
 use mathlib.Core.Path.{◌≡◌, refl, sym, ap, ◌∙◌}
 use mathlib.Core.Bool.{Bool, true, false, ◌&&◌}
 use mathlib.Core.Option.{Option, none, some, or_else}
+use Rattle.std.specs.Prelude.{Option as Maybe, Some, None, SomeIff}
 use mathlib.Core.List.{List, [], ◌∷◌, ◌++◌}
 use lib.Dec.{ltb}
 use lib.Seq.{get_or-set_same, get_or-set_other}
@@ -17,7 +18,7 @@ use Rattle.meaning.specs.Names.{find}
 use Rattle.meaning.proofs.Options.{or_none, or_or}
 use Rattle.meaning.proofs.Others.{same_eq}
 use Rattle.words.specs.Cursor.{span, ahead, stream, alive, Goes}
-use Rattle.words.specs.Values.{told}
+use Rattle.words.specs.Values.{told, value_of}
 use Rattle.words.specs.declared.Cursor.{Cursor}
 use Rattle.words.proofs.Words.{same_self}
 use Rattle.words.proofs.Flow.{stream_on, stream_stop, went}
@@ -168,9 +169,12 @@ module _ (text labels table : List ℕ) (count n : ℕ) (c r : Cursor) (on : ali
 -- ---- a reference
 
 -- a number that is not 0
-pub counted_some : (n : ℕ) → (n ≡ 0 → ⊥) → some (n - 1) ≡ counted n
-counted_some zero h = absurd (h refl)
-counted_some (suc n) h = let e : suc n - 1 ≡ n = omega arith in ap some e
+-- one less, if there is one
+pub counted_less : (r : Maybe ℕ) (n : ℕ) → SomeIff r (1 ≤ n) (n - 1) → value_of r ≡ counted n
+counted_less None zero h = refl
+counted_less None (suc n) h = absurd (h (omega arith))
+counted_less (Some x) zero h = absurd (omega (arith, h.0))
+counted_less (Some x) (suc n) h = let e : suc n - 1 ≡ n = omega arith in ap some (h.1 ∙ e)
 
 module _ (text labels : List ℕ) (count : ℕ) (table name w : List ℕ) where
   abbrev Answers : Option ℕ → Type 0

@@ -10,14 +10,12 @@ use Rattle.meaning.specs.Run.{cycles}
 use Rattle.meaning.proofs.Turns.{Plain}
 use Rattle.held.specs.Held.{Holds}
 use Rattle.words.specs.Cursor.{alive, stream}
-use Rattle.words.specs.Values.{told}
 use Rattle.labels.specs.Table.{words_of, number_of}
 use Rattle.heads.specs.declared.Known.{Known}
 use Rattle.heads.specs.declared.Declared.{Declared}
 use Rattle.heads.specs.Known.{Describes}
 use Rattle.references.specs.References.{referred}
 use Rattle.references.specs.declared.Passed.{Passed}
-use Rattle.references.specs.declared.Before.{Before}
 
 -- ---- the table
 
@@ -34,9 +32,6 @@ noted text labels count table w = elim (number_of (words_of text labels count) w
 pub record Filled (text labels : List ℕ) (count : ℕ) (table : List ℕ) (xs : List (Tok × ℕ)) (table' : List ℕ) : Type 0 where
   pub long : length table' ≡ length table
   pub each : (w : List ℕ) (k : ℕ) → number_of (words_of text labels count) w ≡ some k → counted (get_or table' k 0) ≡ or_else (counted (get_or table k 0)) (find xs w)
-
-abbrev pub past_of : Before → Option ℕ
-past_of r = told r.known r.cycles
 
 -- ---- the statements of a pattern
 

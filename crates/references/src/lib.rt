@@ -3,16 +3,17 @@
 
 ghost use Rattle.std.specs.Prelude.{◌≡◌, true, false, ◌+◌, ◌*◌, ◌-◌, ◌≤◌, length};
 ghost use Rattle.words.specs.Cursor.{alive, stream};
+ghost use Rattle.words.specs.Values.{value_of};
 ghost use Rattle.meaning.specs.Bounds.{signals_most, cycles_most};
 ghost use Rattle.labels.specs.Table.{Held};
 ghost use Rattle.references.specs.References.{name_at, past_by};
-ghost use Rattle.references.specs.Filled.{noted, Filled, past_of, tables_of, Stood, Promised, Stepped};
+ghost use Rattle.references.specs.Filled.{noted, Filled, tables_of, Stood, Promised, Stepped};
 
 use heads::Declared;
 use measures::DEPTH;
 use words::Cursor;
 
-// The cursor behind what was read, and how many cycles come before it; was it the `}`?
+// The cursor behind what was read, and how many cycles come before it; was it the `}`? (Both hold behind the `}` too, so that an Option would be no plainer.)
 #[derive(Clone, Copy)]
 pub struct Passed {
     pub cursor: Cursor,
@@ -20,14 +21,7 @@ pub struct Passed {
     pub ends: bool,
 }
 
-// How many cycles come before a reference, if it is known.
-#[derive(Clone, Copy)]
-pub struct Before {
-    pub known: bool,
-    pub cycles: usize,
-}
-
-// How many cycles come before the reference w in the pattern of this name, of which the table was filled.
+// How many cycles come before the reference w in the pattern of this name, of which the table was filled, if it is known there.
 pub fn past(
     text: &[u8],
     name: &[u8],
@@ -37,34 +31,18 @@ pub fn past(
     nexts: &[u16],
     count: usize,
     table: &[usize],
-) -> Before
+) -> Option<usize>
     requires { Held text.now labels.now chains.now nexts.now count × (count ≤ length table.now) }
-    ensures { (past_of result ≡ past_by name.now (noted text.now labels.now count table.now) w.now) × (result.known ≡ false → result.cycles ≡ 0) }
+    ensures { value_of result ≡ past_by name.now (noted text.now labels.now count table.now) w.now }
 {
     if words::equal(name, w) {
-        return Before {
-            known: true,
-            cycles: 0,
-        };
+        return Some(0);
     }
     let k = labels::find(text, w, labels, chains, nexts, count);
     if count <= k {
-        return Before {
-            known: false,
-            cycles: 0,
-        };
+        return None;
     }
-    let n = table[k];
-    if n == 0 {
-        return Before {
-            known: false,
-            cycles: 0,
-        };
-    }
-    Before {
-        known: true,
-        cycles: n - 1,
-    }
+    table[k].checked_sub(1)
 }
 
 // `X NAME;` at the cursor, behind so many cycles: its place in the table, if nothing stands there yet.
