@@ -18,8 +18,9 @@ use Rattle.saving.specs.Saving.{Span, of_block, hurt, overwritten, helped, verdi
 use Rattle.saving.specs.Steps.{Steps, still}
 use Rattle.saving.specs.Found.{span_of}
 use Rattle.saving.specs.Spans.{noted, noted_all, Notes}
-use Rattle.saving.specs.Mends.{Turns, Mends}
+use Rattle.saving.specs.Mends.{Turns, last_of, Mends}
 use Rattle.saving.specs.declared.Hurt.{Hurt}
+use Rattle.saving.specs.declared.Mended.{Mended}
 use Rattle.saving.proofs.Spaces.{inked, inked_most}
 use Rattle.saving.proofs.Repeating.{accepts_verdict, refused_verdict, turn_fewer, saving_beyond, steps_more, steps_length, steps_fewer, steps_saved, steps_beyond}
 use Rattle.saving.proofs.Noting.{noted_more, all_length, numbers_length, all_front}
@@ -64,7 +65,7 @@ module _ {text numbers : List ℕ} where
     pub mending_room : length numbers' ≡ length numbers
     mending_room = ap length m.noted ∙ all_length m.spans numbers
 
-    pub mending_on : {next : List ℕ} {h : Hurt} {k : ℕ} {more : List ℕ} → Turns behind next (Ok (Some h)) → Notes count (span_of h) numbers' k more → Mending text next numbers more k
+    pub mending_on : {next : List ℕ} {h : Hurt} {k : ℕ} {more : List ℕ} → Turns behind next (Ok (Some h)) → Notes count (some (span_of h)) numbers' k more → Mending text next numbers more k
     mending_on {next} {h} {k} {more} a b = record {
       spans = m.spans ++ span_of h ∷ [];
       steps = subst (Steps text (m.spans ++ span_of h ∷ [])) (sym a.1) (steps_more m.steps a.0);
@@ -76,31 +77,31 @@ module _ {text numbers : List ℕ} where
     pub mending_less : {next : List ℕ} {h : Hurt} → Turns behind next (Ok (Some h)) → inked next < inked behind
     mending_less {next} {h} a = rw a.1 (turn_fewer behind (span_of h) a.0)
 
-    pub mending_done : {next : List ℕ} → Turns behind next (Ok None) → Mends text next numbers numbers' (Ok count)
-    mending_done {next} a = record { spans = m.spans; steps = subst (Steps text m.spans) (sym a.1) m.steps; noted = m.noted; ended = (ap verdict a.1 ∙ a.0, m.counted) }
+    pub mending_done : {next : List ℕ} {u : Unit} → Turns behind next (Ok None) → Mends text next numbers numbers' (record { count = count; end = Ok u })
+    mending_done {next} a = record { spans = m.spans; steps = subst (Steps text m.spans) (sym a.1) m.steps; counted = m.counted; noted = m.noted; ended = ap verdict a.1 ∙ a.0 }
 
-    pub mending_beyond : {next : List ℕ} {x : Refusal} → Turns behind next (Err x) → Mends text next numbers numbers' (Err x)
-    mending_beyond {next} a = record { spans = m.spans; steps = subst (Steps text m.spans) (sym a.1) m.steps; noted = m.noted; ended = ap verdict a.1 ∙ a.0 }
+    pub mending_beyond : {next : List ℕ} {x : Refusal} → Turns behind next (Err x) → Mends text next numbers numbers' (record { count = count; end = Err x })
+    mending_beyond {next} a = record { spans = m.spans; steps = subst (Steps text m.spans) (sym a.1) m.steps; counted = m.counted; noted = m.noted; ended = ap verdict a.1 ∙ a.0 }
 
 -- ---- all of them
 
-module _ {text behind numbers numbers' : List ℕ} where
-  pub mends_refused : {x : Refusal} → Mends text behind numbers numbers' (Err x) → saving text ≡ refused x.no x.place
-  mends_refused m = steps_beyond m.steps m.ended
+module _ {text behind numbers numbers' : List ℕ} {r : Mended} (m : Mends text behind numbers numbers' r) where
+  pub mends_refused : {x : Refusal} → r.end ≡ Err x → saving text ≡ refused x.no x.place
+  mends_refused e = steps_beyond m.steps (m.ended ∙ ap last_of e)
 
-  pub mends_saved : {n : ℕ} (m : Mends text behind numbers numbers' (Ok n)) → saving text ≡ given (record { text = behind; spans = m.spans })
-  mends_saved m = steps_saved m.steps m.ended.0
+  pub mends_saved : {u : Unit} → r.end ≡ Ok u → saving text ≡ given (record { text = behind; spans = m.spans })
+  mends_saved e = steps_saved m.steps (m.ended ∙ ap last_of e)
 
 -- whoever mends a text that can be saved saves it
-pub mends_given : {text behind numbers numbers' : List ℕ} {r : Result ℕ Refusal} → Mends text behind numbers numbers' r → (x : Saved) → saving text ≡ given x
+pub mends_given : {text behind numbers numbers' : List ℕ} {r : Mended} → Mends text behind numbers numbers' r → (x : Saved) → saving text ≡ given x
     → (behind ≡ x.text) × (numbers' ≡ noted_all x.spans numbers)
-mends_given {text} {behind} {numbers} {numbers'} {r} m x e = by r m
+mends_given {text} {behind} {numbers} {numbers'} {r} m x e = by r.end refl
   where
-    by : (r : Result ℕ Refusal) → Mends text behind numbers numbers' r → (behind ≡ x.text) × (numbers' ≡ noted_all x.spans numbers)
-    by (Ok n) m =
-        let y : record { text = behind; spans = m.spans } ≡ x = (let k = sym (mends_saved m) ∙ e in cc) in
+    by : (end : Result Unit Refusal) → r.end ≡ end → (behind ≡ x.text) × (numbers' ≡ noted_all x.spans numbers)
+    by (Ok n) q =
+        let y : record { text = behind; spans = m.spans } ≡ x = (let k = sym (mends_saved m q) ∙ e in cc) in
         (ap (λ (s : Saved). s.text) y, m.noted ∙ ap (λ (s : Saved). noted_all s.spans numbers) y)
-    by (Err u) m = let k = sym (mends_refused m) ∙ e in let z : ◌≡◌ {A = ℕ} 0 1 = cc in absurd (omega arith)
+    by (Err u) q = let k = sym (mends_refused m q) ∙ e in let z : ◌≡◌ {A = ℕ} 0 1 = cc in absurd (omega arith)
 
 -- the numbers of spans that a log had room for are theirs in any list with room
 pub log_front : (spans : List Span) (log numbers : List ℕ) {n : ℕ} → n ≡ length spans * 2 → n ≤ length log → n ≤ length numbers → take n (noted_all spans log) ++ drop n numbers ≡ noted_all spans numbers

@@ -2,6 +2,7 @@
 use Prim.Native.Nat.{ℕ, zero, suc, ◌+◌, ◌*◌, ◌≤◌, ◌<◌}
 use native.Mathlib.Omega.{arith}
 use mathlib.Core.Path.{◌≡◌, refl, sym, ap}
+use mathlib.Core.Option.{none, some}
 use mathlib.Core.List.{List, [], ◌∷◌, ◌++◌}
 use lib.ListN.{length, drop, set}
 use Rattle.saving.specs.Saving.{Span, numbers_of}
@@ -66,9 +67,12 @@ all_front (s ∷ spans) (a ∷ b ∷ l) h = ap (λ (x : List ℕ). s.first ∷ s
 
 -- ---- what the code notes
 
+pub notes_nothing : (k : ℕ) (l : List ℕ) → Notes k none l k l
+notes_nothing k l = record { counted = refl; numbers = refl }
+
 module _ (k : ℕ) (s : Span) (l : List ℕ) where
-  pub notes_stored : k * 2 + 1 < length l → Notes k s l (k + 1) (set (set l (k * 2) s.first) (k * 2 + 1) s.behind)
+  pub notes_stored : k * 2 + 1 < length l → Notes k (some s) l (k + 1) (set (set l (k * 2) s.first) (k * 2 + 1) s.behind)
   notes_stored r = record { counted = omega arith; numbers = noted_stores k s l r }
 
-  pub notes_full : length l ≤ k * 2 + 1 → Notes k s l (k + 1) l
+  pub notes_full : length l ≤ k * 2 + 1 → Notes k (some s) l (k + 1) l
   notes_full r = record { counted = omega arith; numbers = sym (noted_full k s l r) }

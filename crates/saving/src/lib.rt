@@ -7,7 +7,7 @@ ghost use Rattle.tokens.specs.Refusals.{text_most};
 ghost use Rattle.tokens.specs.Tokens.{toks};
 ghost use Rattle.words.specs.Cursor.{stream, ahead};
 ghost use Rattle.saving.specs.Saving.{closing, beginning, turn, blocks, block_at, semicolon, entry, hurt, spaced};
-ghost use Rattle.saving.specs.Found.{span_of, hurt_of, begun_in, Scans};
+ghost use Rattle.saving.specs.Found.{hurt_of, begun_in, Scans};
 ghost use Rattle.saving.specs.Spans.{Notes};
 
 use tokens::Refusal;
@@ -20,6 +20,13 @@ const SPACE: u8 = 32;
 pub struct Hurt {
     pub first: usize,
     pub behind: usize,
+}
+
+// Turn after turn: how many spans were overwritten, and the refusal of a text that is beyond help.
+#[derive(Clone, Copy)]
+pub struct Mended {
+    pub count: usize,
+    pub end: Result<(), Refusal>,
 }
 
 // How many braces are open, and where a Pattern block has begun, if one has (`begun`); or (`ended`) one that began there has just ended.
@@ -194,11 +201,14 @@ pub fn overwrite(text: &mut [u8], first: usize, behind: usize)
 
 // ---- the list of spans
 
-// A span behind `count` of them, where the numbers have room for it; how many there are then.
-pub fn note(numbers: &mut [u64], count: usize, h: Hurt) -> usize
+// A span, if there is one, behind `count` of them, where the numbers have room for it; how many there are then.
+pub fn note(numbers: &mut [u64], count: usize, hurt: Option<Hurt>) -> usize
     requires { count ≤ text_most }
-    ensures { Notes count (span_of h) numbers.old result numbers.new }
+    ensures { Notes count (hurt_of hurt) numbers.old result numbers.new }
 {
+    let Some(h) = hurt else {
+        return count;
+    };
     if numbers.len() / 2 <= count {
         return count + 1;
     }

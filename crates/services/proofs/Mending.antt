@@ -9,17 +9,18 @@ use lib.Dec.{ltb}
 use lib.ListN.{length, take, drop, length-take, drop_of_length-le}
 use lib.Seq.{take_at}
 use borrow.Author.Tests.{ltb-true, ltb-false, not-false}
-use Rattle.std.specs.Prelude.{Result, Ok, Err}
+use Rattle.std.specs.Prelude.{Ok, Err}
 use Rattle.tokens.specs.declared.Refusal.{Refusal}
 use Rattle.tokens.specs.Refusals.{text_most, too_long}
 use Rattle.tokens.proofs.Bools.{neither}
 use Rattle.meaning.specs.Refusals.{no_room}
 use Rattle.meaning.specs.Meaning.{Answer, given, refused, answering}
 use Rattle.pages.specs.Pages.{Puts}
-use Rattle.saving.specs.Saving.{Saved as SavedText, saving, Restored, save}
+use Rattle.saving.specs.Saving.{verdict, Saved as SavedText, saving, Restored, save}
 use Rattle.saving.specs.Steps.{Steps}
 use Rattle.saving.specs.Spans.{noted_all}
-use Rattle.saving.specs.Mends.{Ends, Mends}
+use Rattle.saving.specs.Mends.{Mends}
+use Rattle.saving.specs.declared.Mended.{Mended}
 use Rattle.saving.proofs.Repeating.{steps_length}
 use Rattle.saving.proofs.Saved.{saved_from}
 use Rattle.saving.proofs.Noting.{all_length}
@@ -36,12 +37,13 @@ copied_part {text} {before} {copied} p =
     let z : length text - 0 ≡ length text = omega arith in
     ap (λ (n : ℕ). take n copied) z ∙ ap (take (length text)) p.page ∙ take_at text (drop (0 + length text) before) (length text) refl
 
-pub copy_mended : {text part behind : List ℕ} (rest : List ℕ) {log log' : List ℕ} {r : Result ℕ Refusal} → part ≡ text → Mends part behind log log' r → Mends text (take (length text) (behind ++ rest)) log log' r
+pub copy_mended : {text part behind : List ℕ} (rest : List ℕ) {log log' : List ℕ} {r : Mended} → part ≡ text → Mends part behind log log' r → Mends text (take (length text) (behind ++ rest)) log log' r
 copy_mended {text} {part} {behind} rest {log} {log'} {r} e m = subst (λ (t : List ℕ). Mends t (take (length text) (behind ++ rest)) log log' r) e (record {
   spans = m.spans;
   steps = subst (Steps part m.spans) front m.steps;
+  counted = m.counted;
   noted = m.noted;
-  ended = subst (λ (b : List ℕ). Ends b m.spans r) front m.ended;
+  ended = ap verdict (sym front) ∙ m.ended;
 })
   where
     front : behind ≡ take (length text) (behind ++ rest)
@@ -91,34 +93,34 @@ module _ (text spans : List ℕ) (spare : Bool) where
   pub save_too_long : text_most < length text → Saves (spared spare (save text spans)) text text spans spans (Err (record { no = too_long; place = 0 }))
   save_too_long h = saves_refused (spared_refused spare (save_refused text spans (too_long_saving text h)))
 
-  pub save_beyond : (copy : List ℕ) {log log' : List ℕ} {x : Refusal} → Mends text (take (length text) copy) log log' (Err x) → Saves (spared spare (save text spans)) text text spans spans (Err x)
-  save_beyond copy h = saves_refused (spared_refused spare (save_refused text spans (mends_refused h)))
+  pub save_beyond : (copy : List ℕ) {log log' : List ℕ} {r : Mended} {x : Refusal} → Mends text (take (length text) copy) log log' r → r.end ≡ Err x → Saves (spared spare (save text spans)) text text spans spans (Err x)
+  save_beyond copy h k = saves_refused (spared_refused spare (save_refused text spans (mends_refused h k)))
 
-  module _ (copy : List ℕ) {log log' : List ℕ} {n : ℕ} (h : Mends text (take (length text) copy) log log' (Ok n)) where
+  module _ (copy : List ℕ) {log log' : List ℕ} {r : Mended} {u : Unit} (h : Mends text (take (length text) copy) log log' r) (k : r.end ≡ Ok u) where
     abbrev it : SavedText
     it = record { text = take (length text) copy; spans = h.spans }
 
     saves_it : saving text ≡ given it
-    saves_it = mends_saved h
+    saves_it = mends_saved h k
 
-    pub save_roomless : (not spare || ltb (length spans / 2) n) ≡ true → Saves (spared spare (save text spans)) text text spans spans (Err (record { no = no_room; place = 0 }))
-    save_roomless e = saves_refused (by spare (ltb (length spans / 2) n) refl e)
+    pub save_roomless : (not spare || ltb (length spans / 2) r.count) ≡ true → Saves (spared spare (save text spans)) text text spans spans (Err (record { no = no_room; place = 0 }))
+    save_roomless e = saves_refused (by spare (ltb (length spans / 2) r.count) refl e)
       where
-        by : (s : Bool) (l : Bool) → ltb (length spans / 2) n ≡ l → (not s || l) ≡ true → spared s (save text spans) ≡ refused no_room 0
-        by s true q e = spared_refused s (save_full text spans saves_it (omega (arith, ltb-true (length spans / 2) n q, h.ended.1)))
-        by false false q e = spared_given (save_given text spans saves_it (omega (arith, ltb-false (length spans / 2) n q, h.ended.1)))
+        by : (s : Bool) (l : Bool) → ltb (length spans / 2) r.count ≡ l → (not s || l) ≡ true → spared s (save text spans) ≡ refused no_room 0
+        by s true q e = spared_refused s (save_full text spans saves_it (omega (arith, ltb-true (length spans / 2) r.count q, h.counted)))
+        by false false q e = spared_given (save_given text spans saves_it (omega (arith, ltb-false (length spans / 2) r.count q, h.counted)))
         by true false q e = let z : ◌≡◌ {A = ℕ} 0 1 = cc in absurd (omega arith)
 
-    module _ (e : (not spare || ltb (length spans / 2) n) ≡ false) where
-      enough : n ≤ length spans / 2
-      enough = ltb-false (length spans / 2) n (neither (not spare) (ltb (length spans / 2) n) e).1
+    module _ (e : (not spare || ltb (length spans / 2) r.count) ≡ false) where
+      enough : r.count ≤ length spans / 2
+      enough = ltb-false (length spans / 2) r.count (neither (not spare) (ltb (length spans / 2) r.count) e).1
 
-      pub some_copy : length text ≤ text_most → SomeCopy text spans copy log' n
-      some_copy s = record { saved = it; saves = saves_it; short = s; copied = refl; blank = log; logged = h.noted; counted = h.ended.1; roomy = enough }
+      pub some_copy : length text ≤ text_most → SomeCopy text spans copy log' r.count
+      some_copy s = record { saved = it; saves = saves_it; short = s; copied = refl; blank = log; logged = h.noted; counted = h.counted; roomy = enough }
 
       pub save_told : {text' spans' : List ℕ} → ((x : SavedText) → saving text ≡ given x → (text' ≡ x.text) × (spans' ≡ noted_all x.spans spans))
-          → Saves (spared spare (save text spans)) text text' spans spans' (Ok n)
+          → Saves (spared spare (save text spans)) text text' spans spans' (Ok r.count)
       save_told {text'} {spans'} f =
           let w = f it saves_it in
-          saves_given (ap (λ (b : Bool). spared b (save text spans)) (not-false spare (neither (not spare) (ltb (length spans / 2) n) e).0) ∙ spared_all (save text spans)
-          ∙ save_given text spans saves_it (omega (arith, enough, h.ended.1)) ∙ rw (← h.ended.1, ← w.0, ← w.1))
+          saves_given (ap (λ (b : Bool). spared b (save text spans)) (not-false spare (neither (not spare) (ltb (length spans / 2) r.count) e).0) ∙ spared_all (save text spans)
+          ∙ save_given text spans saves_it (omega (arith, enough, h.counted)) ∙ rw (← h.counted, ← w.0, ← w.1))

@@ -24,7 +24,7 @@ ghost use Rattle.services.specs.Indexes.{Rebuilds, belonging_of, holding_of, Ind
 ghost use Rattle.services.specs.Saves.{SomeCopy, Saves};
 
 use charts::NO_SUCH;
-use saving::Hurt;
+use saving::{Hurt, Mended};
 use texts::{Counts, Verdict};
 use timing::Watch;
 use tokens::{Refusal, TEXT_MOST, TOO_LONG};
@@ -356,16 +356,28 @@ fn mend_once(text: &mut [u8]) -> Result<Option<Hurt>, Refusal>
     Ok(Some(hurt))
 }
 
-// Turn after turn; the spans to the front of the numbers, as far as there is room; how many they are.
-fn mend(text: &mut [u8], spans: &mut [u64]) -> Result<usize, Refusal>
+// Turn after turn; the spans to the front of the numbers, as far as there is room; how many they are, and the last refusal.
+fn mend(text: &mut [u8], spans: &mut [u64]) -> Mended
     requires { length text.old ≤ text_most }
     ensures { Mends text.old text.new spans.old spans.new result }
 {
     let mut count = 0;
-    while let Some(hurt) = mend_once(text)? {
-        count = saving::note(spans, count, hurt);
+    loop {
+        match mend_once(text) {
+            Ok(Some(hurt)) => {
+                count = saving::note(spans, count, Some(hurt));
+            }
+            Ok(None) => {
+                return Mended { count, end: Ok(()) };
+            }
+            Err(refusal) => {
+                return Mended {
+                    count,
+                    end: Err(refusal),
+                };
+            }
+        }
     }
-    Ok(count)
 }
 
 // Room for a text; made here alone, so that a caller's proof sees its length and no zeros.
@@ -376,7 +388,7 @@ fn room() -> [u8; TEXT_MOST]
 }
 
 // A copy of a text, mended; its spans to a log, as far as that has room.
-fn mend_copy(text: &[u8], copy: &mut [u8], log: &mut [u64]) -> Result<usize, Refusal>
+fn mend_copy(text: &[u8], copy: &mut [u8], log: &mut [u64]) -> Mended
     requires { (length text.now ≤ text_most) × (text_most ≤ length copy.old) }
     ensures { Mends text.now (take (length text.now) copy.new) log.old log.new result }
 {
@@ -391,7 +403,7 @@ fn hand_back(text: &mut [u8], spans: &mut [u64], copy: &[u8], log: &[u64], count
     ensures { (x : SavedText) → saving text.old ≡ given x → (text.new ≡ x.text) × (spans.new ≡ noted_all x.spans spans.old) }
 {
     if log.len() / 2 < count {
-        let _ = mend(text, spans);
+        mend(text, spans);
         return;
     }
     let n = text.len();
@@ -411,7 +423,11 @@ pub fn save_text(text: &mut [u8], spare: bool, spans: &mut [u64]) -> Result<usiz
     }
     let mut copy = room();
     let mut log = [0u64; LOG];
-    let count = mend_copy(text, &mut copy, &mut log)?;
+    let mended = mend_copy(text, &mut copy, &mut log);
+    if let Err(refusal) = mended.end {
+        return Err(refusal);
+    }
+    let count = mended.count;
     if !spare | (spans.len() / 2 < count) {
         return Err(Refusal {
             no: NO_ROOM,

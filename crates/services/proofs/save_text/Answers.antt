@@ -1,19 +1,18 @@
 -- `save_text` meets its contract: refused as the last turn was; 19; or the saved text and its spans.
-use Rattle.tokens.proofs.Results.{handed_on}
 use Rattle.services.proofs.Mending.{save_too_long, save_beyond, save_roomless, some_copy, save_told}
 use Rattle.services.proofs.save_text.Goals as goal
 
 pub returns-then-text-gt-TEXT_MOST : goal.returns-then-text-gt-TEXT_MOST
 returns-then-text-gt-TEXT_MOST c = save_too_long c.args.text.now c.args.spans.now c.args.spare c.if-text-gt-TEXT_MOST.true
 
-pub returns-in_err-count : goal.returns-in_err-count
-returns-in_err-count c = rw (handed_on c.from_residual.result _ c.from_residual.ensures.1) (save_beyond c.args.text.now c.args.spans.now c.args.spare c.mend_copy.new.copy c.in_err-count.ensures)
+pub returns-in-Err : goal.returns-in-Err
+returns-in-Err c = save_beyond c.args.text.now c.args.spans.now c.args.spare c.mend_copy-mended.new.copy c.mend_copy-mended.ensures c.in-Err.is
 
 pub returns-then-spare-spans : goal.returns-then-spare-spans
-returns-then-spare-spans c = save_roomless c.args.text.now c.args.spans.now c.args.spare c.mend_copy.new.copy c.in_ok-count.ensures c.if-spare-spans.true
+returns-then-spare-spans c = save_roomless c.args.text.now c.args.spans.now c.args.spare c.mend_copy-mended.new.copy c.mend_copy-mended.ensures c.in_default.is c.if-spare-spans.true
 
 pub hand_back-requires : goal.hand_back-requires
-hand_back-requires c = some_copy c.args.text.now c.args.spans.now c.args.spare c.mend_copy.new.copy c.in_ok-count.ensures c.if-spare-spans.false c.if-text-gt-TEXT_MOST.false
+hand_back-requires c = some_copy c.args.text.now c.args.spans.now c.args.spare c.mend_copy-mended.new.copy c.mend_copy-mended.ensures c.in_default.is c.if-spare-spans.false c.if-text-gt-TEXT_MOST.false
 
 pub returns : goal.returns
-returns c = save_told c.args.text.now c.args.spans.now c.args.spare c.mend_copy.new.copy c.in_ok-count.ensures c.if-spare-spans.false c.hand_back.ensures
+returns c = save_told c.args.text.now c.args.spans.now c.args.spare c.mend_copy-mended.new.copy c.mend_copy-mended.ensures c.in_default.is c.if-spare-spans.false c.hand_back.ensures
