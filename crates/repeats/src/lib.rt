@@ -9,7 +9,8 @@ pub fn copy(buffer: &mut [u8], from: usize, to: usize, count: usize)
     requires { (from + count ≤ to) × (to + count ≤ length buffer.old) }
     ensures { Copies buffer.old from to count buffer.new }
 {
-    buffer.copy_within(from..from + count, to);
+    let (front, behind) = buffer.split_at_mut(to);
+    behind[..count].copy_from_slice(&front[from..from + count]);
 }
 
 // The last `step` bytes before a place, again and again behind it. All that is there already is copied at once, so that the length of a run doubles.
