@@ -4,11 +4,11 @@ use Prim.Native.String.{String}
 use mathlib.Core.Path.{◌≡◌, refl, sym, ap, ◌∙◌}
 use native.Mathlib.Omega.{arith}
 use native.Mathlib.Nat.{add-zero}
-use mathlib.Core.Bool.{Bool, true, false, not, ◌&&◌, ◌||◌, and-true, and-false, or-false}
+use native.Mathlib.Numerals.{add-one}
+use mathlib.Core.Bool.{Bool, true, false, not, ◌&&◌, ◌||◌, and-true, and-false, and_assoc, or-false}
 use mathlib.Core.List.{List, [], ◌∷◌}
 use borrow.Author.Tests.{eq-eqb, ne_eqb, eqb-false, ltb-true, ltb-false, le-leb, lt-leb, leb-true}
 use lib.Dec.{leb, ltb, eqb}
-use lib.Pointwise.{pointwise}
 use lib.Seq.{take_all, get_or-drop, get_or-take}
 use lib.ListN.{length, get_or, take, drop, length-take, length-drop, drop_of_length-le, replicate}
 use Rattle.std.specs.List.{list_all}
@@ -56,13 +56,31 @@ same_long [] (b ∷ v) h = refl
 same_long (a ∷ w) [] h = refl
 same_long (a ∷ w) (b ∷ v) h = ap (λ (x : Bool). eqb a b && x) (same_long w v (λ e. h (omega arith))) ∙ and-false (eqb a b)
 
--- equal as the library compares them
-pub same_pointwise : (w v : List ℕ) → pointwise eqb w v ≡ same w v
+-- equal fronts: those with one byte more are equal if that byte is, too
+same_front : (w v : List ℕ) (i : ℕ) → i < length w → i < length v
+    → same (take (suc i) w) (take (suc i) v) ≡ (same (take i w) (take i v) && eqb (get_or w i 0) (get_or v i 0))
 unfolding same
-same_pointwise [] [] = refl
-same_pointwise [] (b ∷ v) = refl
-same_pointwise (a ∷ w) [] = refl
-same_pointwise (a ∷ w) (b ∷ v) = ap (λ (x : Bool). eqb a b && x) (same_pointwise w v)
+same_front [] v i h k = absurd (omega arith)
+same_front (a ∷ w) [] i h k = absurd (omega arith)
+same_front (a ∷ w) (b ∷ v) zero h k = and-true (eqb a b)
+same_front (a ∷ w) (b ∷ v) (suc i) h k =
+    ap (λ (x : Bool). eqb a b && x) (same_front w v i (omega arith) (omega arith)) ∙ sym (and_assoc (eqb a b) _ _)
+
+module _ (w v : List ℕ) (i j : ℕ) (e : i ≡ j + 1) (h : j < length w) (k : j < length v) where
+  pub same_less : get_or w j 0 ≡ get_or v j 0 → same (take i w) (take i v) ≡ same (take j w) (take j v)
+  same_less q = rw (e, add-one) (same_front w v j h k ∙ rw (eq-eqb _ _ q) (and-true (same (take j w) (take j v))))
+
+  pub same_differ_there : (get_or w j 0 ≡ get_or v j 0 → ⊥) → same (take i w) (take i v) ≡ false
+  same_differ_there q = rw (e, add-one) (same_front w v j h k ∙ rw (ne_eqb _ _ q) (and-false (same (take j w) (take j v))))
+
+pub same_none : (w v : List ℕ) (i : ℕ) → i ≤ 0 → same (take i w) (take i v) ≡ true
+unfolding same
+same_none w v zero h = refl
+same_none w v (suc i) h = absurd (omega arith)
+
+-- all of them
+pub same_all : (w v : List ℕ) (n : ℕ) → length w ≤ n → length v ≤ n → same w v ≡ same (take n w) (take n v)
+same_all w v n h k = rw (take_all n w h, take_all n v k)
 
 pub same_self : (w : List ℕ) → same w w ≡ true
 unfolding same

@@ -21,4 +21,4 @@ returns-then-text-end c =
     last_differs c.args.text.now c.args.w.now _ _ c.requires.1 (omega (arith, c.requires.1.some, c.if-end-n.false)) inside c.if-text-end.true
 
 pub returns : goal.returns
-returns c = c.equal.ensures ∙ ap (λ (u : List ℕ). same u c.args.w.now) c.bytes_of.ensures
+returns c = c.equal_by_eights.ensures ∙ ap (λ (u : List ℕ). same u c.args.w.now) c.bytes_of.ensures
