@@ -1,4 +1,4 @@
--- Bytes behind those that were written: with room, without, and where the pen was full before.
+-- Bytes behind those that were written, where there is room for them; the front of a row; times.
 use Prim.Native.Nat.{ℕ, ◌+◌, ◌-◌, ◌/◌, ◌%◌, ◌≤◌, ◌<◌}
 use native.Mathlib.Omega.{arith}
 use mathlib.Core.Path.{◌≡◌, refl, sym, ap, ap₂, ◌∙◌, subst}

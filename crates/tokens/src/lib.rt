@@ -37,7 +37,7 @@ pub struct Refusal {
 pub type Step = Result<Option<Token>, Refusal>;
 
 // Where reading is led: on to a place outside comments, or to an answer.
-type Lead = ControlFlow<Step, usize>;
+pub type Lead = ControlFlow<Step, usize>;
 
 // Is it a byte of a word? Small letters are the most frequent, and are told by two comparisons.
 pub fn is_wordy(b: u8) -> bool
