@@ -311,8 +311,7 @@ fn trace(memo: &mut [u16], o: usize, table: usize, from: usize, signals: usize)
     ensures { Writes memo.old memo.new o (o + picture_size) × Traces memo.new o signals table (marks_from memo.old from) }
 {
     memo[o] = short(table);
-    let (marks, row) = memo.split_at_mut(o + 1);
-    row[..signals].copy_from_slice(&marks[from..from + signals]);
+    memo.copy_within(from..from + signals, o + 1);
 }
 
 // The table and the pins.

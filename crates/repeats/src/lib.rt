@@ -9,8 +9,7 @@ pub fn copy(buffer: &mut [u8], from: usize, to: usize, count: usize)
     requires { (from + count ≤ to) × (to + count ≤ length buffer.old) }
     ensures { Copies buffer.old from to count buffer.new }
 {
-    let (front, behind) = buffer.split_at_mut(to);
-    behind[..count].copy_from_slice(&front[from..from + count]);
+    buffer.copy_within(from..from + count, to);
 }
 
 // The last `step` bytes before a place, again and again behind it. All that is there already is copied at once, so that the length of a run doubles.
