@@ -22,6 +22,24 @@ above q row h d = omega (arith, h, d)
 
 -- ---- pins
 
+pub copied_next : {n : ℕ} {values : List ℕ} {at : ℕ} {pins pins' : List ℕ} → Copied n values at pins pins' → at + n < length pins
+    → Copied (n + 1) values at pins (set pins' (at + n) (get_or values n 0))
+copied_next {n} {values} {at} {pins} {pins'} k h = record {
+  long = length-set pins' (at + n) (get_or values n 0) ∙ k.long;
+  here = λ s l. by s l (ℕ_discrete s n);
+  lower = λ i l. get_or-set_other pins' (at + n) i _ 0 (λ e. omega arith) ∙ k.lower i l;
+  upper = λ i l. get_or-set_other pins' (at + n) i _ 0 (λ e. omega arith) ∙ k.upper i (omega arith);
+}
+  where
+    by : (s : ℕ) → s < n + 1 → Dec (s ≡ n) → get_or (set pins' (at + n) (get_or values n 0)) (at + s) 0 ≡ get_or values s 0
+    by s l (yes e) =
+        ap (λ (i : ℕ). get_or (set pins' (at + n) (get_or values n 0)) (at + i) 0) e ∙ get_or-set_same pins' (at + n) (get_or values n 0) 0 (omega (arith, k.long))
+        ∙ ap (λ (i : ℕ). get_or values i 0) (sym e)
+    by s l (no e) = get_or-set_other pins' (at + n) (at + s) _ 0 (λ q. e (omega (arith, q))) ∙ k.here s (above n s (omega arith) (λ q. e (sym q)))
+
+pub copied_all : {n m : ℕ} {values : List ℕ} {at : ℕ} {pins pins' : List ℕ} → m ≤ n → Copied n values at pins pins' → n ≤ m → Copied m values at pins pins'
+copied_all h k l = record { long = k.long; here = λ s b. k.here s (omega arith); lower = k.lower; upper = λ i b. k.upper i (omega arith) }
+
 -- those that a test found to be the same
 pub same_taken : (at : ℕ) {k n : ℕ} (pins values : List ℕ) → k ≡ n → take k (drop at pins) ≡ take n values → (i : ℕ) → i < n → get_or pins (at + i) 0 ≡ get_or values i 0
 same_taken at {k} {n} pins values q e i h =

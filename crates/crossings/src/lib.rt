@@ -77,7 +77,10 @@ fn copy_pins(values: &[u8], signals: usize, shown: &mut [u8], at: usize)
     requires { (signals ≤ length values.now) × (at + signals ≤ length shown.old) }
     ensures { Copied signals values.now at shown.old shown.new }
 {
-    shown[at..at + signals].copy_from_slice(&values[..signals]);
+    // One by one: the library's copy becomes memmove here, which the archive for C does not want (include/stil.h).
+    for s in 0..signals {
+        shown[at + s] = values[s];
+    }
 }
 
 fn put_marks(marks: &mut [usize], row: usize, table: usize, place: usize)

@@ -56,9 +56,10 @@ fn fitting(len: usize, n: usize, k: usize) -> usize
 fn copy(buffer: &mut [u8], n: usize, w: &[u8]) -> usize
     ensures { Adds buffer.old n w.now buffer.new result }
 {
-    if n < buffer.len() {
-        let bytes = fitting(buffer.len(), n, w.len());
-        buffer[n..n + bytes].copy_from_slice(&w[..bytes]);
+    let bytes = fitting(buffer.len(), n, w.len());
+    // One by one: the library's copy becomes memmove here, which the archive for C does not want (include/stil.h).
+    for i in 0..bytes {
+        buffer[n + i] = w[i];
     }
     counted(n, w.len())
 }

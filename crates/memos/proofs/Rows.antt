@@ -1,5 +1,5 @@
 -- Rows that tell of uses: what is written in one row, no other row has.
-use Prim.Native.Nat.{ℕ, ◌+◌, ◌-◌, ◌*◌, ◌/◌, ◌%◌, ◌<◌, ◌≤◌}
+use Prim.Native.Nat.{ℕ, ◌+◌, ◌*◌, ◌/◌, ◌%◌, ◌<◌, ◌≤◌}
 use native.Mathlib.Omega.{arith}
 use native.Mathlib.Nat.{mod-lt, div-mul-le_self}
 use mathlib.Core.Path.{◌≡◌, refl, sym, ap, ◌∙◌, subst}
@@ -176,26 +176,17 @@ module _ (m : List ℕ) (o s x : ℕ) (room : o + picture_size ≤ length m) (fe
       by i h true q = ap (λ (k : ℕ). k % 256) (drawn i h true q) ∙ rw (eqb-true i s q) e
       by i h false q = let d = eqb-false i s q in ap (λ (k : ℕ). k % 256) (drawn i h false q) ∙ p.pins_are i (omega arith)
 
--- marks are copied behind a table; those that are read stand before both
-pub traced : {m ys : List ℕ} {o t x : ℕ} (from n k : ℕ) → k ≡ n → x ≡ t → o + picture_size ≤ length m → n < picture_size → from + n ≤ o → length ys ≡ length (set m o x)
-    → ((i d : ℕ) → o + 1 ≤ i → i < o + 1 + k → get_or ys i d ≡ get_or (set m o x) (from + (i - (o + 1))) d) → ((i d : ℕ) → i < o + 1 → get_or ys i d ≡ get_or (set m o x) i d)
-    → ((i d : ℕ) → o + 1 + k ≤ i → get_or ys i d ≡ get_or (set m o x) i d) → Writes m ys o (o + picture_size) × Traces ys o n t (marks_from m from)
-traced {m} {ys} {o} {t} {x} from n k e put room few before long copied below above = (
-  record { long = long ∙ length-set m o x; others = λ i h. by i (outside h) },
-  record {
-    table_is = below o 0 (omega arith) ∙ get_or-set_same m o x 0 (omega arith) ∙ put;
-    marks_are = λ s h. ap (λ (v : ℕ). v % marks_most) (here s h);
-  },
-)
-  where
-    by : (i : ℕ) → (i < o) ⊎ (o + picture_size ≤ i) → get_or ys i 0 ≡ get_or m i 0
-    by i (inl q) = below i 0 (omega arith) ∙ get_or-set_other m o i x 0 λ z. omega arith
-    by i (inr q) = above i 0 (omega arith) ∙ get_or-set_other m o i x 0 λ z. omega arith
-
-    here : (s : ℕ) → s < n → get_or ys (o + 1 + s) 0 ≡ get_or m (from + s) 0
-    here s h =
-        let w : o + 1 + s - (o + 1) ≡ s = omega arith in
-        copied (o + 1 + s) 0 (omega arith) (omega arith) ∙ ap (λ (j : ℕ). get_or (set m o x) (from + j) 0) w ∙ get_or-set_other m o (from + s) x 0 λ z. omega arith
+  -- the next signal's marks
+  pub traced_next : {m₀ : List ℕ} {t : ℕ} {v : ℕ → ℕ} → Writes m₀ m o (o + picture_size) → Traces m o s t v → x % marks_most ≡ v s
+      → Writes m₀ (set m (o + 1 + s) x) o (o + picture_size) × Traces (set m (o + 1 + s) x) o (s + 1) t v
+  traced_next {v = v} w p e = (
+    writes_next w (o + 1 + s) x (omega arith) (omega arith),
+    record { table_is = drawn_table ∙ p.table_is; marks_are = λ i h. by i h (eqb i s) refl },
+  )
+    where
+      by : (i : ℕ) → i < s + 1 → (z : Bool) → eqb i s ≡ z → get_or (set m (o + 1 + s) x) (o + 1 + i) 0 % marks_most ≡ v i
+      by i h true q = ap (λ (k : ℕ). k % marks_most) (drawn i h true q) ∙ rw (eqb-true i s q) e
+      by i h false q = let d = eqb-false i s q in ap (λ (k : ℕ). k % marks_most) (drawn i h false q) ∙ p.marks_are i (omega arith)
 
 -- the marks that are drawn are those that stood there before the row was begun
 pub traces_from : {m m1 m2 m3 : List ℕ} {o n t o1 e1 o2 e2 : ℕ} (from : ℕ) → n ≤ signals_most → Writes m m1 o1 e1 → from + signals_most ≤ o1 → Writes m1 m2 o2 e2 → from + signals_most ≤ o2

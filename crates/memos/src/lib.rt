@@ -311,7 +311,10 @@ fn trace(memo: &mut [u16], o: usize, table: usize, from: usize, signals: usize)
     ensures { Writes memo.old memo.new o (o + picture_size) × Traces memo.new o signals table (marks_from memo.old from) }
 {
     memo[o] = short(table);
-    memo.copy_within(from..from + signals, o + 1);
+    // One by one: the library's copy becomes memmove here, which the archive for C does not want (include/stil.h).
+    for s in 0..signals {
+        memo[o + 1 + s] = memo[from + s];
+    }
 }
 
 // The table and the pins.

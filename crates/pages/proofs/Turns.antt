@@ -1,13 +1,29 @@
--- One turn of the loop: a digit more in the row that is filled from its end.
+-- One turn of each loop: a byte more in the page, a digit more in the row that is filled from its end.
 use Prim.Native.Nat.{ℕ, zero, suc, ◌+◌, ◌-◌, ◌/◌, ◌%◌, ◌^◌, ◌≤◌, ◌<◌}
 use native.Mathlib.Nat.{pow-succ'}
 use native.Mathlib.Omega.{arith}
-use mathlib.Core.Path.{◌≡◌, sym, ◌∙◌}
-use mathlib.Core.List.{List, ◌∷◌}
+use native.Mathlib.Numerals.{add-one}
+use mathlib.Core.Path.{◌≡◌, refl, sym, ◌∙◌}
+use mathlib.Core.List.{List, ◌∷◌, append_assoc}
 use borrow.Author.Tests.{lt-ltb, le-ltb}
-use lib.ListN.{length, take, drop, set, length-set, length-drop, drop_of_length-le}
-use lib.Seq.{take_all, drop-set-lt, drop-cons, get_or-set_same}
-use Rattle.pages.specs.Pages.{digits, decimal, digits_most}
+use lib.ListN.{length, get_or, take, drop, set, length-set, length-drop, drop_of_length-le}
+use lib.Seq.{take_all, take-length, drop-set-lt, drop-cons, get_or-set_same, paste, paste-suc}
+use Rattle.pages.specs.Pages.{digits, decimal, digits_most, Puts}
+
+-- ---- bytes
+
+-- the first i of them stand there
+pub record Copied (before : List ℕ) (at : ℕ) (xs : List ℕ) (i : ℕ) (page : List ℕ) : Type 0 where
+  pub is : page ≡ paste before at xs i
+  pub kept : length page ≡ length before
+
+module _ {before : List ℕ} {at : ℕ} {xs : List ℕ} where
+  module _ {i : ℕ} {page : List ℕ} (c : Copied before at xs i page) where
+    pub copied_more : at + i < length before → i < length xs → Copied before at xs (i + 1) (set page (at + i) (get_or xs i 0))
+    copied_more h k = record { is = rw (c.is, add-one) (paste-suc before at xs i 0 h k); kept = simp length-set c.kept }
+
+    pub copied_all : i ≡ length xs → Puts before at xs (at + length xs) page
+    copied_all h = record { page = c.is ∙ rw (h, take-length) (append_assoc (take at before) xs (drop (at + length xs) before)); behind = refl }
 
 -- ---- digits
 

@@ -1,106 +1,58 @@
--- The row of a level: the pins go there and come back. Values are seen in two parts, those before the row and those from it on.
-use Prim.Native.Nat.{ℕ, ◌+◌, ◌-◌, ◌*◌, ◌≤◌, ◌<◌}
+-- The row of a level: the pins go there and come back, one signal at a time.
+use Prim.Native.Nat.{ℕ, ◌+◌, ◌*◌, ◌≤◌, ◌<◌}
 use native.Mathlib.Omega.{arith}
-use mathlib.Core.Path.{◌≡◌, sym, ap, ◌∙◌}
-use mathlib.Core.List.{List, ◌++◌, append_assoc}
-use lib.ListN.{length, get_or, take, drop, replicate, length-append, length-take, length-drop, length-replicate, get_or-append, get_or-replicate, take-append-drop}
-use lib.Seq.{get_or-take, get_or-drop, get_or-append_right, drop-append-le}
+use mathlib.Core.Path.{◌≡◌, ◌∙◌}
+use mathlib.Core.List.{List}
+use lib.ListN.{length, get_or, set, length-set}
+use lib.Seq.{get_or-set_same, get_or-set_other}
 use Rattle.meaning.specs.Bounds.{signals_most}
 use Rattle.pins.specs.Shown.{Leaves, Returns}
+use Rattle.pins.proofs.Turns.{below_next, Done}
 
--- signals in front of a list, in place of those that stood there
-module _ (z w : List ℕ) (long : length z ≡ signals_most) where
-  abbrev fronted : List ℕ
-  fronted = z ++ drop signals_most w
+-- ---- they go: the first s are in the row, and unassigned
 
-  front_is : (s : ℕ) → s < signals_most → get_or fronted s 0 ≡ get_or z s 0
-  front_is s h = get_or-append z (drop signals_most w) 0 s (omega arith)
+pub record Leaving (at s : ℕ) (before values : List ℕ) : Type 0 where
+  pub long : length values ≡ length before
+  pub cleared : (k : ℕ) → k < s → get_or values k 0 ≡ 0
+  pub kept : (k : ℕ) → k < s → get_or values (at + k) 0 ≡ get_or before k 0
+  pub ahead : (i : ℕ) → s ≤ i → i < at → get_or values i 0 ≡ get_or before i 0
+  pub behind : (i : ℕ) → at + s ≤ i → get_or values i 0 ≡ get_or before i 0
 
-  rest_is : (i : ℕ) → signals_most ≤ i → get_or fronted i 0 ≡ get_or w i 0
-  rest_is i h =
-      let e : signals_most + (i - length z) ≡ i = omega arith in
-      get_or-append_right z (drop signals_most w) i 0 (omega arith) ∙ get_or-drop signals_most w (i - length z) 0 ∙ ap (λ (n : ℕ). get_or w n 0) e
+pub leaving_next : {at s : ℕ} {before values : List ℕ} → Leaving at s before values → s < at → at + s < length values
+    → Leaving at (s + 1) before (set (set values (at + s) (get_or values s 0)) s 0)
+leaving_next {at} {s} {before} {values} x below inside =
+    let row = set values (at + s) (get_or values s 0) in
+    let long = length-set values (at + s) (get_or values s 0) in
+    let other : (i : ℕ) → (i ≡ at + s → ⊥) → (i ≡ s → ⊥) → get_or (set row s 0) i 0 ≡ get_or values i 0 =
+    λ i p q. get_or-set_other row s i 0 0 q ∙ get_or-set_other values (at + s) i (get_or values s 0) 0 p in
+    record {
+      long = length-set row s 0 ∙ long ∙ x.long;
+      cleared = below_next {P = λ k. get_or (set row s 0) k 0 ≡ 0} s (λ k h. other k (λ z. omega arith) (λ z. omega arith) ∙ x.cleared k h)
+          (get_or-set_same row s 0 0 (omega arith));
+      kept = below_next {P = λ k. get_or (set row s 0) (at + k) 0 ≡ get_or before k 0} s
+          (λ k h. other (at + k) (λ z. omega arith) (λ z. omega arith) ∙ x.kept k h)
+          (get_or-set_other row s (at + s) 0 0 (λ z. omega arith) ∙ get_or-set_same values (at + s) (get_or values s 0) 0 inside
+          ∙ x.ahead s (omega arith) below);
+      ahead = λ i h l. other i (λ z. omega arith) (λ z. omega arith) ∙ x.ahead i (omega arith) l;
+      behind = λ i h. other i (λ z. omega arith) (λ z. omega arith) ∙ x.behind i (omega arith);
+    }
 
-  fronted_length : signals_most ≤ length w → length fronted ≡ length w
-  fronted_length h = omega (arith, length-append z (drop signals_most w), length-drop signals_most w)
+pub leaving_all : {level s : ℕ} {before values : List ℕ} → s ≡ signals_most → Leaving ((level + 1) * signals_most) s before values → Leaves level before values
+leaving_all e x =
+    record {
+      long = x.long;
+      cleared = λ k h. x.cleared k (omega arith);
+      kept = λ k h. x.kept k (omega arith);
+      lower = λ i h l. x.ahead i (omega arith) l;
+      upper = λ i h. x.behind i (omega arith);
+    }
 
-module _ (values front back : List ℕ) (level : ℕ) (f : front ≡ take ((level + 1) * signals_most) values) (b : back ≡ drop ((level + 1) * signals_most) values)
-    (room : (level + 2) * signals_most ≤ length values) where
-  abbrev at : ℕ
-  at = (level + 1) * signals_most
+-- ---- they come back
 
-  front_length : length front ≡ at
-  front_length = omega (arith, ap length f, length-take at values)
+-- signal k shows what the row has
+abbrev pub Back : List ℕ → ℕ → ℕ → ℕ → Type 0
+Back before at k v = v ≡ get_or before (at + k) 0
 
-  back_length : length back + at ≡ length values
-  back_length = omega (arith, ap length b, length-drop at values)
-
-  front_at : (i : ℕ) → i < at → get_or front i 0 ≡ get_or values i 0
-  front_at i h = ap (λ (l : List ℕ). get_or l i 0) f ∙ get_or-take at values i 0 h
-
-  back_at : (i : ℕ) → get_or back i 0 ≡ get_or values (at + i) 0
-  back_at i = ap (λ (l : List ℕ). get_or l i 0) b ∙ get_or-drop at values i 0
-
-  -- they go
-  module _ (row pins : List ℕ) (r : row ≡ take signals_most front) (p : pins ≡ replicate signals_most 0) where
-    abbrev copied : List ℕ
-    copied = front ++ (row ++ drop signals_most back)
-
-    row_length : length row ≡ signals_most
-    row_length = omega (arith, ap length r, length-take signals_most front, front_length)
-
-    pins_length : length pins ≡ signals_most
-    pins_length = ap length p ∙ length-replicate {A = ℕ} signals_most 0
-
-    low : (i : ℕ) → i < at → get_or copied i 0 ≡ get_or values i 0
-    low i h = get_or-append front (row ++ drop signals_most back) 0 i (omega (arith, front_length)) ∙ front_at i h
-
-    high : (i : ℕ) → get_or copied (at + i) 0 ≡ get_or (row ++ drop signals_most back) i 0
-    high i =
-        let e : at + i - length front ≡ i = omega (arith, front_length) in
-        get_or-append_right front (row ++ drop signals_most back) (at + i) 0 (omega (arith, front_length))
-        ∙ ap (λ (n : ℕ). get_or (row ++ drop signals_most back) n 0) e
-
-    all_left : Leaves level values (fronted pins copied pins_length)
-    all_left =
-        record {
-          long =
-              fronted_length pins copied pins_length (omega (arith, sizes)) ∙ sizes;
-          cleared = λ s h. front_is pins copied pins_length s h ∙ ap (λ (l : List ℕ). get_or l s 0) p ∙ get_or-replicate {A = ℕ} signals_most s 0 0 h;
-          kept = λ s h.
-              rest_is pins copied pins_length (at + s) (omega arith) ∙ high s ∙ front_is row back row_length s h ∙ ap (λ (l : List ℕ). get_or l s 0) r
-              ∙ get_or-take signals_most front s 0 h ∙ front_at s (omega arith);
-          lower = λ i h l. rest_is pins copied pins_length i h ∙ low i l;
-          upper = λ i h.
-              let e : at + (i - at) ≡ i = omega arith in
-              rest_is pins copied pins_length i (omega arith) ∙ ap (λ (n : ℕ). get_or copied n 0) (sym e) ∙ high (i - at)
-              ∙ rest_is row back row_length (i - at) (omega arith) ∙ back_at (i - at) ∙ ap (λ (n : ℕ). get_or values n 0) e;
-        }
-      where
-        sizes : length copied ≡ length values
-        sizes =
-            omega (
-              arith,
-              length-append front (row ++ drop signals_most back),
-              fronted_length row back row_length (omega (arith, back_length)),
-              front_length,
-              back_length,
-            )
-
-    pub left : Leaves level values ((pins ++ drop signals_most front) ++ (row ++ drop signals_most back))
-    left =
-        rw (append_assoc pins (drop signals_most front) (row ++ drop signals_most back), ← drop-append-le signals_most front (row ++ drop signals_most back) (omega (arith, front_length)))
-        all_left
-
-  -- they come back
-  pub back_all : (pins : List ℕ) → pins ≡ take signals_most back → Returns level values ((pins ++ drop signals_most front) ++ back)
-  back_all pins p =
-      let whole : front ++ back ≡ values = rw (f, b) (take-append-drop at values) in
-      let few : signals_most ≤ length front = omega (arith, front_length) in
-      let long : length pins ≡ signals_most = omega (arith, ap length p, length-take signals_most back, back_length) in
-      rw (append_assoc pins (drop signals_most front) back, ← drop-append-le signals_most front back few, whole)
-      (record {
-        long = fronted_length pins values long (omega arith);
-        back = λ s h. front_is pins values long s h ∙ ap (λ (l : List ℕ). get_or l s 0) p ∙ get_or-take signals_most back s 0 h ∙ back_at s;
-        rows = λ i h. rest_is pins values long i h;
-      })
+pub back_all : {level s : ℕ} {before values : List ℕ} → s ≡ signals_most → Done (Back before ((level + 1) * signals_most)) s before values
+    → Returns level before values
+back_all e x = record { long = x.long; back = λ k h. x.each k (omega arith); rows = λ i h. x.rest i (omega arith) }

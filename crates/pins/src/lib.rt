@@ -296,9 +296,11 @@ pub fn leave(values: &mut [u8], level: usize)
     ensures { Leaves level values.old values.new }
 {
     let at = (level + 1) * sets::MOST;
-    let (pins, rows) = values.split_at_mut(at);
-    rows[..sets::MOST].copy_from_slice(&pins[..sets::MOST]);
-    pins[..sets::MOST].fill(0);
+    // One by one: the library's copy becomes memmove here, which the archive for C does not want (include/stil.h).
+    for s in 0..sets::MOST {
+        values[at + s] = values[s];
+        values[s] = 0;
+    }
 }
 
 // They come back.
@@ -307,6 +309,8 @@ pub fn come_back(values: &mut [u8], level: usize)
     ensures { Returns level values.old values.new }
 {
     let at = (level + 1) * sets::MOST;
-    let (pins, rows) = values.split_at_mut(at);
-    pins[..sets::MOST].copy_from_slice(&rows[..sets::MOST]);
+    // One by one: the library's copy becomes memmove here, which the archive for C does not want (include/stil.h).
+    for s in 0..sets::MOST {
+        values[s] = values[at + s];
+    }
 }

@@ -1,13 +1,45 @@
--- A run of bytes that repeats the last `step` before a place, each copy as long as all that is there.
+-- Bytes copied to a place behind them, one at a time; and a run of them that repeats the last `step` before a place, each copy as long as all that is there.
 use Prim.Native.Nat.{ℕ, ◌+◌, ◌-◌, ◌≤◌, ◌<◌}
+use native.Mathlib.Nat.{eq-or-lt_of_le}
 use native.Mathlib.Omega.{arith}
-use mathlib.Core.Path.{◌≡◌, refl, sym, ◌∙◌}
+use mathlib.Core.Path.{◌≡◌, refl, sym, ap, ◌∙◌}
+use mathlib.Core.Logic.{◌⊎◌, inl, inr}
 use mathlib.Core.Bool.{Bool, true, false}
 use mathlib.Core.List.{List}
 use lib.Dec.{ltb}
-use lib.ListN.{get_or}
+use lib.ListN.{length, get_or, set, length-set}
+use lib.Seq.{get_or-set_same, get_or-set_other}
 use borrow.Author.Tests.{ltb-true, ltb-false}
 use Rattle.repeats.specs.Copied.{Copies, Extends}
+
+-- ---- a copy
+
+module _ {before list : List ℕ} {from to n : ℕ} (x : Copies before from to n list) where
+  -- what is read is as it was
+  pub copies_more : from + n < to → to + n < length before → Copies before from to (n + 1) (set list (to + n) (get_or list (from + n) 0))
+  copies_more apart room =
+      record {
+        copied = λ i j e h k. by i j e h (eq-or-lt_of_le {n = i} {m = to + n} (omega arith));
+        ahead = λ i h. other i (λ z. omega arith) ∙ x.ahead i h;
+        behind = λ i h. other i (λ z. omega arith) ∙ x.behind i (omega arith);
+        long = length-set list (to + n) v ∙ x.long;
+      }
+    where
+      v : ℕ
+      v = get_or list (from + n) 0
+
+      other : (i : ℕ) → (i ≡ to + n → ⊥) → get_or (set list (to + n) v) i 0 ≡ get_or list i 0
+      other i h = get_or-set_other list (to + n) i v 0 h
+
+      by : (i j : ℕ) → i + from ≡ j + to → to ≤ i → (i ≡ to + n) ⊎ (i < to + n) → get_or (set list (to + n) v) i 0 ≡ get_or before j 0
+      by i j e h (inl k) =
+          let p : from + n ≡ j = omega arith in
+          ap (λ (i : ℕ). get_or (set list (to + n) v) i 0) k ∙ get_or-set_same list (to + n) v 0 (omega (arith, x.long)) ∙ x.ahead (from + n) apart
+          ∙ ap (λ (j : ℕ). get_or before j 0) p
+      by i j e h (inr k) = other i (λ z. omega arith) ∙ x.copied i j e h k
+
+  pub copies_all : (m : ℕ) → n ≡ m → Copies before from to m list
+  copies_all m e = rw (← e) x
 
 -- ---- a run that repeats
 

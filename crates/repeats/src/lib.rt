@@ -9,7 +9,10 @@ pub fn copy(buffer: &mut [u8], from: usize, to: usize, count: usize)
     requires { (from + count ≤ to) × (to + count ≤ length buffer.old) }
     ensures { Copies buffer.old from to count buffer.new }
 {
-    buffer.copy_within(from..from + count, to);
+    // One by one: the library's copy becomes memmove here, which the archive for C does not want (include/stil.h).
+    for i in 0..count {
+        buffer[to + i] = buffer[from + i];
+    }
 }
 
 // The last `step` bytes before a place, again and again behind it. All that is there already is copied at once, so that the length of a run doubles.
